@@ -1,0 +1,5 @@
+pub mod Told
+pub mod Counts
+pub mod Net
+pub mod Memory
+pub mod Held

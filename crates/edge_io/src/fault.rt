@@ -1,0 +1,3 @@
+/// An end failed. Its own count of faults rose in the call that answers this, and nothing else is said of the cause.
+#[derive(Clone, Copy, Debug, PartialEq, Eq)]
+pub struct Failed;

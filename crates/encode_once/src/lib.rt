@@ -1,0 +1,75 @@
+//! The JSON of a row, made once and lent to everybody: the object's two texts are shared, and only the
+//! digits of the revision are written.
+#![tactic(auto)]
+
+ghost use Rattle.std.specs.Prelude.{◌≡◌, ◌++◌, IfOk, decimal};
+ghost use Rattle.kube_meta.specs.Objects.{object_json};
+
+use itoa::Buffer;
+use kube_meta::{Memory, Row};
+use std::alloc::Global;
+use std::marker::Model;
+use std::sync::Arc;
+
+/// A row with the text of its revision, so that its JSON can be sent part by part without being
+/// copied. Seen in contracts as the row.
+#[derive(Debug, Drop)]
+pub struct Shown {
+    row: Row,
+    digits: Vec<u8>,
+}
+
+impl Model for Shown {
+    ghost use Rattle.std.specs.Prelude.{◌≡◌, decimal};
+    ghost use Rattle.kube_meta.specs.Rows.{RowData};
+
+    ghost Value = { RowData };
+
+    ghost view = { λ s. s.row };
+
+    ghost invariant = { λ s. s.digits.items ≡ decimal s.row.rev };
+}
+
+impl Shown {
+    /// The row, to be shared.
+    pub fn new(alloc: Global, row: Row) -> Result<Arc<Shown>, Memory>
+        ensures { IfOk result (λ shown. shown.value ≡ row) }
+    {
+        let mut buffer = Buffer::new();
+        let digits = Vec::from_slice(alloc, buffer.format(row.rev).as_bytes())?;
+        Ok(Arc::new(alloc, Shown { row, digits })?)
+    }
+
+    /// The row that is shown.
+    pub fn row(&self) -> &Row
+        ensures { result.now ≡ self.now }
+    {
+        &self.row
+    }
+
+    /// The object's JSON up to its revision.
+    pub fn front(&self) -> &[u8]
+        ensures { result.now ≡ self.now.obj.front }
+    {
+        self.row.obj.front.as_str().as_bytes()
+    }
+
+    /// The decimal digits of the revision.
+    pub fn digits(&self) -> &[u8]
+        ensures { result.now ≡ decimal self.now.rev }
+    {
+        &self.digits
+    }
+
+    /// The object's JSON after its revision. `front`, `digits` and `back`, one after the other, are
+    /// the JSON of the object at the row's revision.
+    pub fn back(&self) -> &[u8]
+        ensures parts { result.now ≡ self.now.obj.back }
+        ensures whole { self.now.obj.front ++ decimal self.now.rev ++ result.now ≡ object_json self.now.obj self.now.rev }
+    {
+        self.row.obj.back.as_str().as_bytes()
+    }
+}
+
+#[cfg(test)]
+mod tests;

@@ -1,0 +1,24 @@
+use Rattle.std.proofs.Common.{◌∙◌}
+use Rattle.http_send.proofs.replies.begin_reply.Goals as goal
+
+pub returns-clause-sent : goal.returns-clause-sent
+returns-clause-sent g c =
+    rw (
+      ← c.as_bytes.ensures.value ∙ c.format.ensures.text,
+      ← c.as_bytes-2.ensures.value ∙ c.phrase_of.ensures,
+      ← c.as_bytes-3.ensures.value ∙ c.format-2.ensures.text,
+      ← c.piece_where.ensures,
+      ← c.piece_where-2.ensures,
+    )
+    c.parts.ensures.sent
+
+pub returns-clause-broken : goal.returns-clause-broken
+returns-clause-broken g c =
+    rw (
+      ← c.as_bytes.ensures.value ∙ c.format.ensures.text,
+      ← c.as_bytes-2.ensures.value ∙ c.phrase_of.ensures,
+      ← c.as_bytes-3.ensures.value ∙ c.format-2.ensures.text,
+      ← c.piece_where.ensures,
+      ← c.piece_where-2.ensures,
+    )
+    c.parts.ensures.broken

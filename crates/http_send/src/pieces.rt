@@ -1,0 +1,42 @@
+ghost use Rattle.std.specs.Prelude.{◌≡◌, ◌≤◌, OnOk, OnErr, length};
+ghost use Rattle.std.specs.List.{flat_map};
+ghost use Rattle.edge_io.specs.Told.{appended, AppendedSome};
+ghost use Rattle.edge_io.specs.Counts.{Rose};
+
+use edge_io::Sink;
+
+/// Why a text wasn't written whole. What was written is then a beginning of it.
+#[derive(Clone, Copy, Debug, PartialEq, Eq)]
+pub enum SendNo {
+    /// The sink failed, and its count of faults rose.
+    WriteFault,
+}
+
+/// Writes exactly these bytes: a piece of a body or of a chunk. Pieces are written one after the other and never joined.
+pub fn part<K: Sink>(sink: &mut K, bytes: &[u8]) -> Result<(), SendNo>
+    ensures sent { OnOk result (K.written sink.new ≡ appended (K.written sink.old) bytes.now) }
+    ensures broken { OnErr result (AppendedSome (K.written sink.old) (K.written sink.new) bytes.now) }
+    ensures counted { OnErr result (Rose (K.faults sink.old) (K.faults sink.new)) }
+    ensures never_falls { K.faults sink.old ≤ K.faults sink.new }
+{
+    match sink.write_all(bytes) {
+        Ok(()) => Ok(()),
+        Err(_) => Err(SendNo::WriteFault),
+    }
+}
+
+// Writes these pieces, one after the other.
+pub(crate) fn parts<K: Sink>(sink: &mut K, pieces: &[&[u8]]) -> Result<(), SendNo>
+    ensures sent { OnOk result (K.written sink.new ≡ appended (K.written sink.old) (flat_map (λ piece. piece.now) pieces.now)) }
+    ensures broken { OnErr result (AppendedSome (K.written sink.old) (K.written sink.new) (flat_map (λ piece. piece.now) pieces.now)) }
+    ensures counted { OnErr result (Rose (K.faults sink.old) (K.faults sink.new)) }
+    ensures never_falls { K.faults sink.old ≤ K.faults sink.new }
+{
+    for piece in pieces {
+        match part(sink, piece) {
+            Ok(()) => {}
+            Err(no) => return Err(no),
+        }
+    }
+    Ok(())
+}

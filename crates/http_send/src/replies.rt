@@ -1,0 +1,102 @@
+ghost use Rattle.std.specs.Prelude.{◌≡◌, ◌≤◌, OnOk, OnErr};
+ghost use Rattle.edge_io.specs.Told.{appended, AppendedSome};
+ghost use Rattle.edge_io.specs.Counts.{Rose};
+ghost use Rattle.http_send.specs.Replies.{reply_head_text, stream_head_text, chunk_head_text, stream_end_text, crlf, text_where, phrase};
+
+use crate::hexadecimal::hexadecimal_text;
+use crate::pieces::{SendNo, part, parts};
+use edge_io::Sink;
+use http::StatusCode;
+use itoa::Buffer;
+
+// The standard reason phrase of a status code, empty where it has none.
+fn phrase_of(code: u16) -> &'static str
+    ensures { result.now ≡ phrase code }
+{
+    match StatusCode::from_u16(code) {
+        Ok(status) => status.canonical_reason().unwrap_or(""),
+        Err(_) => "",
+    }
+}
+
+// These bytes where the flag is set, and none otherwise.
+fn piece_where(flag: bool, piece: &'static [u8]) -> &'static [u8]
+    ensures { result.now ≡ text_where flag piece.now }
+{
+    if flag { piece } else { b"" }
+}
+
+/// Writes the head of a reply, up to and with its empty line, for a body of `length` bytes of JSON. `retry` says that the
+/// client may ask again after a second, and `close` that the connection ends with this reply.
+pub fn begin_reply<K: Sink>(
+    sink: &mut K,
+    code: u16,
+    retry: bool,
+    close: bool,
+    length: u64,
+) -> Result<(), SendNo>
+    ensures sent { OnOk result (K.written sink.new ≡ appended (K.written sink.old) (reply_head_text code retry close length)) }
+    ensures broken { OnErr result (AppendedSome (K.written sink.old) (K.written sink.new) (reply_head_text code retry close length)) }
+    ensures counted { OnErr result (Rose (K.faults sink.old) (K.faults sink.new)) }
+    ensures never_falls { K.faults sink.old ≤ K.faults sink.new }
+{
+    let mut code_digits = Buffer::new();
+    let mut length_digits = Buffer::new();
+    let pieces: [&[u8]; 9] = [
+        b"HTTP/1.1 ",
+        code_digits.format(code).as_bytes(),
+        b" ",
+        phrase_of(code).as_bytes(),
+        b"\r\nContent-Type: application/json\r\nContent-Length: ",
+        length_digits.format(length).as_bytes(),
+        piece_where(retry, b"\r\nRetry-After: 1"),
+        piece_where(close, b"\r\nConnection: close"),
+        b"\r\n\r\n",
+    ];
+    parts(sink, &pieces)
+}
+
+/// Writes the head of a reply whose body comes in chunks.
+pub fn begin_stream<K: Sink>(sink: &mut K) -> Result<(), SendNo>
+    ensures sent { OnOk result (K.written sink.new ≡ appended (K.written sink.old) stream_head_text) }
+    ensures broken { OnErr result (AppendedSome (K.written sink.old) (K.written sink.new) stream_head_text) }
+    ensures counted { OnErr result (Rose (K.faults sink.old) (K.faults sink.new)) }
+    ensures never_falls { K.faults sink.old ≤ K.faults sink.new }
+{
+    part(
+        sink,
+        b"HTTP/1.1 200 OK\r\nContent-Type: application/json\r\nTransfer-Encoding: chunked\r\nConnection: close\r\n\r\n",
+    )
+}
+
+/// Writes the size of a chunk of `length` bytes.
+pub fn begin_chunk<K: Sink>(sink: &mut K, length: u64) -> Result<(), SendNo>
+    ensures sent { OnOk result (K.written sink.new ≡ appended (K.written sink.old) (chunk_head_text length)) }
+    ensures broken { OnErr result (AppendedSome (K.written sink.old) (K.written sink.new) (chunk_head_text length)) }
+    ensures counted { OnErr result (Rose (K.faults sink.old) (K.faults sink.new)) }
+    ensures never_falls { K.faults sink.old ≤ K.faults sink.new }
+{
+    let mut digits = [0; 64];
+    let pieces: [&[u8]; 2] = [hexadecimal_text(length, &mut digits), b"\r\n"];
+    parts(sink, &pieces)
+}
+
+/// Ends a chunk.
+pub fn end_chunk<K: Sink>(sink: &mut K) -> Result<(), SendNo>
+    ensures sent { OnOk result (K.written sink.new ≡ appended (K.written sink.old) crlf) }
+    ensures broken { OnErr result (AppendedSome (K.written sink.old) (K.written sink.new) crlf) }
+    ensures counted { OnErr result (Rose (K.faults sink.old) (K.faults sink.new)) }
+    ensures never_falls { K.faults sink.old ≤ K.faults sink.new }
+{
+    part(sink, b"\r\n")
+}
+
+/// Ends the chunks of a stream.
+pub fn end_stream<K: Sink>(sink: &mut K) -> Result<(), SendNo>
+    ensures sent { OnOk result (K.written sink.new ≡ appended (K.written sink.old) stream_end_text) }
+    ensures broken { OnErr result (AppendedSome (K.written sink.old) (K.written sink.new) stream_end_text) }
+    ensures counted { OnErr result (Rose (K.faults sink.old) (K.faults sink.new)) }
+    ensures never_falls { K.faults sink.old ≤ K.faults sink.new }
+{
+    part(sink, b"0\r\n\r\n")
+}

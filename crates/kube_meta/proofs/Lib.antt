@@ -1,0 +1,4 @@
+pub mod KeyLemmas
+pub mod LabelLemmas
+pub mod NameLemmas
+pub mod RevisionLemmas

@@ -1,0 +1,63 @@
+-- On the grammars of names.
+use Rattle.std.proofs.Common.{◌≡◌, ℕ, ◌+◌, ◌<◌, ◌-◌, suc, length-drop, Bool, true, false, not, cond, List, [], ◌∷◌, ◌++◌, length, ltb, ◌||◌, ◌&&◌, refl, Some, None, take, drop, position, inl, inr, sym, ◌∙◌, subst, arith}
+use Rattle.std.proofs.lemmas.Bool.{false_from_ne_true, and_parts, eqb-true, false≢true, cases_Bool, cond-true, cond-false, ltb-true}
+use Rattle.std.proofs.lemmas.Bool.Decides.{nat_tests}
+use Rattle.std.proofs.Math.Seq.{take-length}
+use Rattle.std.specs.List.{list_all, list_any, position_or_len}
+use Rattle.kube_meta.specs.Names.{is_slash, is_dns_byte, is_label_key, is_label_name, is_dns_subdomain}
+
+-- a byte of a DNS name is no slash
+not_slash : (b : ℕ) → is_dns_byte b ≡ true → is_slash b ≡ false
+not_slash b passes = false_from_ne_true (is_slash b) (λ slash.
+    let here : b ≡ 47 = eqb-true b 47 slash in
+    false≢true (subst (λ c. is_dns_byte c ≡ true) here passes))
+
+-- after a DNS name the first slash is the one that follows
+pub place_of_slash : (ns after : List ℕ) → list_all is_dns_byte ns ≡ true → position_or_len is_slash (ns ++ 47 ∷ after) ≡ length ns
+place_of_slash [] after passes = refl
+place_of_slash (b ∷ ns) after passes =
+    let parts = and_parts _ _ passes in
+    rw (not_slash b parts.0, place_of_slash ns after parts.1) (omega arith)
+
+-- a test passes somewhere just where the first such place is within the list
+pub list_any-position : {X : Type 0} (p : X → Bool) (xs : List X) → list_any p xs ≡ ltb (position_or_len p xs) (length xs)
+list_any-position p [] = refl
+list_any-position p (x ∷ xs) = by (p x) (list_any p xs) (position_or_len p xs) (length xs) (list_any-position p xs)
+  where
+    by : (b any : Bool) (m n : ℕ) → any ≡ ltb m n → (b || any) ≡ ltb (cond (not b) (1 + m) 0) (suc n)
+    by true any m n e = grind (arith, nat_tests)
+    by false any m n e = grind (arith, nat_tests)
+
+some_same : {a b : ℕ} → Some a ≡ Some b → a ≡ b
+some_same e = cc
+
+-- a label key with a slash, and one with none
+pub label_key_parted : (text : List ℕ) (slash : ℕ) → position is_slash text ≡ Some slash → is_label_key text ≡ (is_dns_subdomain (take slash text) && is_label_name (drop (slash + 1) text))
+label_key_parted text slash found = elim (cases_Bool (ltb (position_or_len is_slash text) (length text))) [
+  | inl within ↦
+      let here : position_or_len is_slash text ≡ slash = some_same (sym (cond-true _ _ _ within) ∙ found) in
+      let any : list_any is_slash text ≡ true = list_any-position is_slash text ∙ within in
+      rw (any, here) refl
+  | inr past ↦ let none : None ≡ Some slash = sym (cond-false _ _ _ past) ∙ found in absurd (cc)
+]
+
+pub label_key_whole : (text : List ℕ) → position is_slash text ≡ None → is_label_key text ≡ is_label_name text
+label_key_whole text absent = elim (cases_Bool (ltb (position_or_len is_slash text) (length text))) [
+  | inl within ↦ let some : Some (position_or_len is_slash text) ≡ None = sym (cond-true _ _ _ within) ∙ absent in absurd (cc)
+  | inr past ↦
+      let any : list_any is_slash text ≡ false = list_any-position is_slash text ∙ past in
+      rw any refl
+]
+
+-- a first place is within the list
+pub position_within : (text : List ℕ) (slash : ℕ) → position is_slash text ≡ Some slash → slash < length text
+position_within text slash found = elim (cases_Bool (ltb (position_or_len is_slash text) (length text))) [
+  | inl within ↦
+      let here : position_or_len is_slash text ≡ slash = some_same (sym (cond-true _ _ _ within) ∙ found) in
+      rw (← here) (ltb-true _ _ within)
+  | inr past ↦ let none : None ≡ Some slash = sym (cond-false _ _ _ past) ∙ found in absurd (cc)
+]
+
+-- a slice to the end
+pub rest_whole : (n : ℕ) (text : List ℕ) → take (length text - n) (drop n text) ≡ drop n text
+rest_whole n text = rw (← length-drop n text) (take-length (drop n text))

@@ -1,0 +1,26 @@
+-- The key of an object: its namespace and name, joined by `/`. A namespace has no `/`, so the first one parts them again.
+use Rattle.std.specs.Prelude.{◌≡◌, ℕ, List, ◌∷◌, ◌++◌}
+use Rattle.std.specs.List.{before_first, after_first}
+use Rattle.kube_meta.specs.Names.{is_slash, IsNamespace, IsObjectName}
+
+-- `namespace/name`
+abbrev pub joined : List ℕ → List ℕ → List ℕ
+joined ns name = ns ++ 47 ∷ name
+
+abbrev pub namespace_of : List ℕ → List ℕ
+namespace_of key = before_first is_slash key
+
+abbrev pub name_of : List ℕ → List ℕ
+name_of key = after_first is_slash key
+
+-- the text of a key: what `Key` keeps of each of its values
+pub record IsKey (key : List ℕ) : Type 0 where
+  pub namespace : IsNamespace (namespace_of key)
+  pub name : IsObjectName (name_of key)
+  pub parted : key ≡ joined (namespace_of key) (name_of key)
+
+-- joined texts of namespaces and names are equal only where both parts are
+abbrev pub JoinedTellsApart : Type 0
+JoinedTellsApart =
+    (ns name other_ns other_name : List ℕ) → IsNamespace ns → IsNamespace other_ns →
+    joined ns name ≡ joined other_ns other_name → (ns ≡ other_ns) × (name ≡ other_name)

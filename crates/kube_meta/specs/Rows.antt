@@ -1,0 +1,21 @@
+-- A row as plain data: an object, and the revision at which it was written. Rows of a state stand in the order of their keys.
+use Rattle.std.specs.Prelude.{ℕ, List, map, Option, find, bytes_eq}
+use Rattle.std.specs.Cmp.Lexicographic.{slice_cmp}
+use Rattle.std.specs.List.Sorted.{IsStrictlySortedBy}
+use Rattle.std.specs.Ordering.{nat_cmp}
+use Rattle.kube_meta.specs.declared.objects.Obj.{Obj}
+
+pub record RowData : Type 0 where
+  pub obj : Obj
+  pub rev : ℕ
+
+abbrev pub key_of : RowData → List ℕ
+key_of row = row.obj.key
+
+-- the keys rise byte by byte, so no key comes twice
+abbrev pub AreRising : List RowData → Type 0
+AreRising rows = IsStrictlySortedBy (slice_cmp nat_cmp) (map key_of rows)
+
+-- the first row with the key, if there is one
+abbrev pub row_with : List RowData → List ℕ → Option RowData
+row_with rows key = find (λ row. bytes_eq key (key_of row)) rows

@@ -1,0 +1,25 @@
+//! The objects of a Kubernetes API server as data: names and their grammars, keys, labels, listed
+//! fields, resources, objects with their JSON text, rows, and the text of a resource version.
+#![tactic(auto)]
+
+mod field_values;
+mod keys;
+mod label_pairs;
+mod names;
+mod objects;
+mod resources;
+mod revisions;
+mod texts;
+
+pub use field_values::Fields;
+pub use keys::{Key, KeyNo, joined_texts_tell_keys_apart};
+pub use label_pairs::Labels;
+pub use names::{is_label_key, is_label_value, is_namespace, is_object_name};
+pub use objects::{Obj, Row};
+pub use resources::Resource;
+pub use revisions::{MAX_REVISION, Rev, RevNo, revisions_are_read_back};
+pub use std::alloc::AllocError as Memory;
+pub use texts::Text;
+
+#[cfg(test)]
+mod tests;

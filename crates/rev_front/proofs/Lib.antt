@@ -1,0 +1,4 @@
+pub mod Beginnings
+pub mod Passing
+pub mod Moves
+pub mod Handles

@@ -1,0 +1,7 @@
+/// What a log can hold. No code keeps the entries of a log: contracts alone see them.
+pub trait Entry: Drop {
+    ghost use Rattle.std.specs.Prelude.{ℕ};
+
+    // The entries that may stand in a log at a revision.
+    ghost fits: { ℕ → Self → Type 0 };
+}

@@ -1,0 +1,176 @@
+ghost use Rattle.std.specs.Prelude.{◌≡◌, ◌+◌, ◌<◌, ◌≤◌, ◌^◌, [], ◌∷◌, ◌++◌, IfOk, IsOk, MatchResult};
+ghost use Rattle.rev_front.specs.Passes.{Covers, IsWhole, pass_from, revision as reached};
+ghost use Rattle.rev_front.specs.Rule.{Stands};
+
+use crate::entry::Entry;
+use crate::front::Front;
+use crate::name::LogName;
+use crate::sight::{Board, Place};
+use crate::steps::{Commit, Copies, Learn, RecallPen, SetFloor, SetGen};
+use std::alloc::{AllocError, Global};
+use std::marker::{Model, PhantomData};
+use std::sync::Arc;
+
+/// The sole writer of a log. Contracts see the whole log and its numbers.
+#[derive(Drop)]
+pub struct Pen<E: Entry, N: LogName> {
+    pub(crate) board: Arc<Board<E>, Global>,
+    pub(crate) seat: Place<E>,
+    pub(crate) revision: u64,
+    pub(crate) generation: u64,
+    pub(crate) floor: u64,
+    pub(crate) of: PhantomData<N>,
+}
+
+impl<E: Entry, N: LogName> Model for Pen<E, N> {
+    ghost use Rattle.std.specs.Arc.{arc_value};
+    ghost use Rattle.rev_front.specs.Passes.{Whole};
+
+    ghost Value = { Whole E };
+
+    ghost use Rattle.rev_front.specs.Rule.{whole_of};
+    ghost use Rattle.rev_front.specs.Kept.{Sits, Writes};
+
+    ghost view = { λ p. whole_of N.log.first p.seat.me.0 };
+
+    ghost invariant = { λ p. Sits N.log (arc_value p.board).shared.table_id (arc_value p.board).shared.key p.seat.table_id p.seat.me.1 × Writes E.fits N.log.first p.seat.id p.seat.me.0 p.revision p.generation p.floor };
+}
+
+/// The three words of a log that was closed.
+#[derive(Clone, Copy, Debug)]
+pub struct Words {
+    pub revision: u64,
+    pub generation: u64,
+    pub floor: u64,
+}
+
+impl<E: Entry, N: LogName> Pen<E, N> {
+    /// Adds an entry, which fits the new revision, and answers that revision, the entry's `resourceVersion`.
+    pub fn commit(&mut self, entry: &E) -> u64
+        requires room { reached self.old < 2 ^ 62 }
+        requires fits { E.fits (reached self.old + 1) entry.now }
+        ensures answer { result ≡ reached self.old + 1 }
+        ensures log { self.new ≡ record self.old { log = self.old.log ++ entry.now ∷ [] } }
+    {
+        let next = self.revision + 1;
+        let shared = &self.board.shared;
+        shared.compare_exchange_with::<Commit>(&mut self.seat, 0, self.revision, next, entry);
+        self.revision = next;
+        next
+    }
+
+    /// Raises the generation by one, which cuts all feeds of older ones, and answers it.
+    pub fn cut(&mut self) -> u64
+        requires { self.old.gen < 2 ^ 62 }
+        ensures answer { result ≡ self.old.gen + 1 }
+        ensures log { self.new ≡ record self.old { gen = result } }
+    {
+        let next = self.generation + 1;
+        let shared = &self.board.shared;
+        shared.store::<SetGen>(&mut self.seat, 1, next);
+        self.generation = next;
+        next
+    }
+
+    /// Raises the compaction floor to a revision that the log has reached. States below the floor are no longer served, as after a compaction of etcd.
+    pub fn compact(&mut self, at: u64)
+        requires above { self.old.floor ≤ at }
+        requires reached { at ≤ reached self.old }
+        ensures { self.new ≡ record self.old { floor = at } }
+    {
+        let shared = &self.board.shared;
+        shared.store::<SetFloor>(&mut self.seat, 2, at);
+        self.floor = at;
+    }
+
+    /// A pass that has seen the whole log. The only refusal is want of memory.
+    pub fn front(&mut self) -> Result<Front<E, N>, AllocError>
+        ensures same { self.new ≡ self.old }
+        ensures pass { IfOk result (λ p. p ≡ pass_from self.old p.seat) }
+    {
+        let board = Arc::try_clone(&self.board)?;
+        let shared = &self.board.shared;
+        let seat = shared.split_seat::<Copies>(&mut self.seat);
+        Ok(Front {
+            board,
+            seat,
+            end: self.revision,
+            last: 0,
+            told: self.revision,
+            floor: self.floor,
+            of: PhantomData,
+        })
+    }
+
+    /// Takes in a pass, which is given up. What it knows is then known to be of this log, and not to be ahead of it.
+    ///
+    /// It needs no memory, so it does not refuse.
+    pub fn learn(&mut self, pass: Front<E, N>) -> Result<(), Front<E, N>>
+        ensures same { self.new ≡ self.old }
+        ensures learnt { MatchResult result (λ _. Covers self.new pass) (λ back. back ≡ pass) }
+        ensures done { IsOk result }
+    {
+        let Front { seat, .. } = pass;
+        let shared = &self.board.shared;
+        shared.join_seat::<Learn>(&mut self.seat, seat);
+        shared.load::<RecallPen>(&mut self.seat, 0);
+        Ok(())
+    }
+
+    /// The revision that the log has reached.
+    pub fn revision(&self) -> u64
+        ensures answer { result ≡ reached self.now }
+        ensures lawful { IsWhole E.fits self.now }
+        ensures name { self.now.first ≡ N.log.first }
+    {
+        self.revision
+    }
+
+    /// The generation of feeds.
+    pub fn generation(&self) -> u64
+        ensures { result ≡ self.now.gen }
+    {
+        self.generation
+    }
+
+    /// The compaction floor: the revision below which states are no longer served.
+    pub fn floor(&self) -> u64
+        ensures { result ≡ self.now.floor }
+    {
+        self.floor
+    }
+
+    /// Ends the log where no pass is left, and answers the three words as they stand. The pen comes back where a pass is left.
+    pub fn close(self) -> Result<Words, Pen<E, N>>
+        ensures { MatchResult result (λ w. Stands E.fits self (w.revision ∷ w.generation ∷ w.floor ∷ [])) (λ back. back ≡ self) }
+    {
+        let Pen {
+            board,
+            seat,
+            revision,
+            generation,
+            floor,
+            of,
+        } = self;
+        match Arc::try_unwrap(board) {
+            Ok(table) => {
+                let closed = table.close_with(seat);
+                let words = Words {
+                    revision: closed.word(0),
+                    generation: closed.word(1),
+                    floor: closed.word(2),
+                };
+                closed.free();
+                Ok(words)
+            }
+            Err(board) => Err(Pen {
+                board,
+                seat,
+                revision,
+                generation,
+                floor,
+                of,
+            }),
+        }
+    }
+}

@@ -1,0 +1,4 @@
+pub mod ChangeLemmas
+pub mod GrowthLemmas
+pub mod MapLemmas
+pub mod StateLemmas

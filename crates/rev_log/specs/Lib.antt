@@ -1,0 +1,4 @@
+pub mod Changes
+pub mod Logs
+pub mod States
+pub mod Rows
