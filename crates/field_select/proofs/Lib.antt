@@ -1,0 +1,5 @@
+pub mod Runs
+pub mod Loops
+pub mod Laws
+pub mod MeaningLaws
+pub mod WantedLaws

@@ -1,0 +1,17 @@
+use Rattle.std.proofs.Common.{◌≡◌, ◌+◌, ◌++◌, length, false, string_bytes}
+use Rattle.std.specs.Prelude.{option_to_list}
+use Rattle.serde_json.specs.Written.{members_have_float, members_text}
+use Rattle.json_obj.specs.Members.{Grows, left_of}
+use Rattle.json_obj.proofs.members.Unwritten.close.Given as goal
+
+-- the text with the members that are left is what it was at the start
+abbrev pub invariant-members : goal.invariant-members
+invariant-members l = record {
+  grows : Grows (string_bytes l.initial.out) (string_bytes l.out);
+  plain : members_have_float (left_of l.initial.self) ≡ false → members_have_float (left_of l.self) ≡ false;
+  same : members_have_float (left_of l.initial.self) ≡ false → string_bytes l.initial.out ++ members_text l.initial.self.later (left_of l.initial.self)
+      ≡ string_bytes l.out ++ members_text l.self.later (left_of l.self);
+}
+
+abbrev pub decreases-members : goal.decreases-members
+decreases-members l = length (option_to_list l.self.head) + length l.self.rest

@@ -1,0 +1,4 @@
+pub mod Members
+pub mod Objects
+pub mod Replies
+pub mod Plain

@@ -1,0 +1,53 @@
+-- The JSON of lists, bookmarks and failures, as the Kubernetes API shows them.
+use Rattle.std.specs.Prelude.{ℕ, List, [], ◌∷◌, Bool, true, false, Option, Some, None, codes, decimal}
+use Rattle.std.specs.List.{concat}
+use Rattle.json.specs.Print.{quoted}
+use Rattle.json_obj.specs.declared.replies.More.{More}
+use Rattle.json_obj.specs.declared.replies.Refusal.{Refusal}
+
+-- ---- lists: `{"apiVersion":"v1","items":[` .. `],"kind":"PodList","metadata":{..}}`
+
+-- what stands before the items
+abbrev pub list_front : List ℕ → List ℕ
+list_front version = concat (codes "{\"apiVersion\":" ∷ quoted version ∷ codes ",\"items\":[" ∷ [])
+
+-- how many items are left, where that is told
+abbrev pub left_text : Option ℕ → List ℕ
+left_text None = []
+left_text (Some n) = concat (codes "\"remainingItemCount\":" ∷ decimal n ∷ codes "," ∷ [])
+
+-- where the next page begins, if there is one
+abbrev pub more_text : Option More → List ℕ
+more_text None = []
+more_text (Some more) = concat (codes "\"continue\":" ∷ quoted more.token ∷ codes "," ∷ left_text more.left ∷ [])
+
+-- what stands after the items
+abbrev pub list_back : List ℕ → ℕ → Option More → List ℕ
+list_back kind revision more =
+    concat (codes "],\"kind\":" ∷ quoted kind ∷ codes ",\"metadata\":{" ∷ more_text more
+    ∷ codes "\"resourceVersion\":\"" ∷ decimal revision ∷ codes "\"}}" ∷ [])
+
+-- ---- bookmarks
+
+-- the bookmark that ends the initial events of a watch says so (KEP-3157)
+abbrev pub annotations_text : Bool → List ℕ
+annotations_text false = []
+annotations_text true = codes "\"annotations\":{\"k8s.io/initial-events-end\":\"true\"},"
+
+abbrev pub bookmark_text : List ℕ → List ℕ → ℕ → Bool → List ℕ
+bookmark_text version kind revision closing =
+    concat (codes "{\"apiVersion\":" ∷ quoted version ∷ codes ",\"kind\":" ∷ quoted kind ∷ codes ",\"metadata\":{"
+    ∷ annotations_text closing ∷ codes "\"resourceVersion\":\"" ∷ decimal revision ∷ codes "\"}}" ∷ [])
+
+-- ---- failures: `kind` is `Status`
+
+-- a revision that is not reached yet is to be asked for again in a second
+abbrev pub details_text : Bool → List ℕ
+details_text false = []
+details_text true = codes "\"details\":{\"causes\":[{\"message\":\"Too large resource version\",\"reason\":\"ResourceVersionTooLarge\"}],\"retryAfterSeconds\":1},"
+
+abbrev pub status_text : Refusal → List ℕ
+status_text refusal =
+    concat (codes "{\"apiVersion\":\"v1\",\"code\":" ∷ decimal refusal.code ∷ codes "," ∷ details_text refusal.too_large
+    ∷ codes "\"kind\":\"Status\",\"message\":" ∷ quoted refusal.message ∷ codes ",\"metadata\":{},\"reason\":" ∷ quoted refusal.reason
+    ∷ codes ",\"status\":\"Failure\"}" ∷ [])

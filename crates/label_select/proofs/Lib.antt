@@ -1,0 +1,9 @@
+pub mod Runs
+pub mod Bytes
+pub mod Steps
+pub mod TokenLaws
+pub mod KindTests
+pub mod Loops
+pub mod Laws
+pub mod RequirementLaws
+pub mod MeaningLaws

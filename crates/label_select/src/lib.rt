@@ -1,0 +1,19 @@
+//! Label selectors, as the Kubernetes API concepts define them, read from text.
+#![tactic(auto)]
+
+mod cursor;
+mod lexer;
+mod reading;
+mod refusal;
+mod requirements;
+mod selector;
+
+pub use lexer::{Token, TokenKind, Tokens};
+pub use refusal::LabelNo;
+pub use requirements::{Requirement, Values};
+pub use selector::LabelSel;
+
+#[cfg(test)]
+mod plain;
+#[cfg(test)]
+mod tests;

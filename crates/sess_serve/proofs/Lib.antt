@@ -1,0 +1,11 @@
+pub mod Answers
+pub mod Bodies
+pub mod Exact
+pub mod Kept
+pub mod Names
+pub mod Reading
+pub mod Replies
+pub mod Session
+pub mod Turns
+pub mod Unique
+pub mod Windows
