@@ -1,0 +1,6 @@
+pub mod WindowLemmas
+pub mod ScanLemmas
+pub mod PieceLemmas
+pub mod HeadLemmas
+pub mod BodyLemmas
+pub mod LawLemmas

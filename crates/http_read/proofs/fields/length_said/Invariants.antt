@@ -1,0 +1,11 @@
+use Rattle.std.proofs.Common.{◌≡◌, map, take, codes}
+use Rattle.std.specs.Option.{option_to_list}
+use Rattle.httparse.specs.Spans.{header_bytes}
+use Rattle.http_read.specs.Heads.{values_of}
+use Rattle.http_read.proofs.fields.length_said.Given as goal
+
+-- the lengths so far
+abbrev pub invariant-loop-field : goal.invariant-loop-field
+invariant-loop-field l =
+    values_of (codes "content-length") (map (header_bytes l.bytes) (take l.field-index l.fields))
+    ≡ map (λ value. value.now) (option_to_list l.found)

@@ -1,0 +1,63 @@
+use Rattle.std.proofs.Common.{ap, sym, subst, ◌≡◌, ◌∙◌, ◌++◌, [], drop, length, arith}
+use Rattle.std.specs.Prelude.{Ok, Err}
+use Rattle.std.proofs.lemmas.List.{with_items_is}
+use Rattle.edge_io.proofs.ToldLemmas.{prepended-nil}
+use Rattle.httparse.specs.Spans.{IsRequestAt}
+use Rattle.http_read.specs.Requests.{front}
+use Rattle.http_read.specs.Steps.{FillsBody}
+use Rattle.http_read.proofs.BodyLemmas.{has-head, head-within, refuses-body, breaks-off, reads-one}
+use Rattle.http_read.proofs.reader.read_found.Goals as goal
+
+pub returns-in-Err-clause-reads : goal.returns-in-Err-clause-reads
+returns-in-Err-clause-reads g c =
+    let kept = c.args.kept.now in
+    let f = c.requires in
+    let at = subst (λ b. IsRequestAt (front b) c.args.spans.now c.args.found f.head) (sym c.bytes.ensures) f.at in
+    let faults = g.S.Source.faults c.args.source.now in (
+      [],
+      sym (prepended-nil _),
+      refuses-body (kept ++ []) f.head (drop c.args.found.len kept ++ []) c.in-Err.why kept (g.S.Source.left c.args.source.now) faults faults
+          (has-head kept [] c.args.spans.now c.args.found f) (sym (c.in-Err.ensures f.head at)),
+    )
+
+pub consume-requires : goal.consume-requires
+consume-requires g c = head-within c.args.kept.now _ c.args.found c.requires
+
+pub returns-in-Ok-read_body-clause-reads : goal.returns-in-Ok-read_body-clause-reads
+returns-in-Ok-read_body-clause-reads g c =
+    let kept = c.args.kept.now in
+    let f = c.requires in
+    let at = subst (λ b. IsRequestAt (front b) c.args.spans.now c.args.found f.head) (sym c.bytes.ensures) f.at in
+    let at-2 = subst (λ b. IsRequestAt (front b) c.args.spans.now c.args.found f.head) (sym c.bytes-2.ensures) f.at in
+    let came = c.in-Ok-read_body.ensures.reads in
+    let body : c.from_vec.result ≡ c.read_body.new.body =
+    c.from_vec.ensures ∙ with_items_is c.in-Ok-zeros.body c.read_body.new.body (c.read_body.auto.body ∙ c.as_mut_slice.ensures.len) in
+    let long : c.in-Ok.length ≡ length c.from_vec.result =
+    omega (arith, c.in-Ok-zeros.ensures, c.read_body.auto.body, c.as_mut_slice.ensures.len, ap length body, c.in-Ok-zeros.body.ok.0) in (
+      came.0,
+      came.1,
+      reads-one (kept ++ came.0) f.head (drop c.args.found.len kept ++ came.0) c.from_vec.result c.read_body.new.kept c.in-Ok-request_in.req
+          (has-head kept came.0 c.args.spans.now c.args.found f)
+          (ap (λ l. l ++ came.0) (sym c.consume.ensures) ∙ came.2 ∙ ap (λ l. l ++ c.read_body.new.kept) (sym body))
+          (sym (c.in-Ok.ensures f.head at) ∙ ap Ok long)
+          (c.in-Ok-request_in.ensures f.head at-2),
+    )
+
+pub returns-in-Err-read_body-clause-reads : goal.returns-in-Err-read_body-clause-reads
+returns-in-Err-read_body-clause-reads g c =
+    let kept = c.args.kept.now in
+    let f = c.requires in
+    let at = subst (λ b. IsRequestAt (front b) c.args.spans.now c.args.found f.head) (sym c.bytes.ensures) f.at in
+    let came = c.in-Err-read_body.ensures.reads in
+    let left = g.S.Source.left c.read_body.new.source in
+    let old_faults = g.S.Source.faults c.args.source.now in
+    let new_faults = g.S.Source.faults c.read_body.new.source in
+    let long : c.in-Ok.length ≡ length c.read_body.new.body =
+    omega (arith, c.in-Ok-zeros.ensures, c.read_body.auto.body, c.as_mut_slice.ensures.len, c.in-Ok-zeros.body.ok.0) in (
+      came.0,
+      came.1,
+      breaks-off (kept ++ came.0) f.head (drop c.args.found.len kept ++ came.0) c.read_body.new.body c.read_body.new.kept left old_faults new_faults c.in-Err-read_body.why
+          (has-head kept came.0 c.args.spans.now c.args.found f)
+          (sym (c.in-Ok.ensures f.head at) ∙ ap Ok long)
+          (subst (λ l. FillsBody (l ++ came.0) c.read_body.new.body c.read_body.new.kept left old_faults new_faults (Err c.in-Err-read_body.why)) c.consume.ensures came.2),
+    )

@@ -1,0 +1,47 @@
+-- What a reader answers.
+use Rattle.std.specs.Prelude.{◌≡◌, ℕ, List, [], ◌++◌, Option, None, Some, Result, Ok, Err}
+use Rattle.edge_io.specs.Told.{IsExhausted, prepended}
+use Rattle.edge_io.specs.Counts.{Rose}
+use Rattle.http_read.specs.Readers.{ReaderState}
+use Rattle.http_read.specs.Requests.{ReadsOne, IsRefused, IsCutShort}
+use Rattle.http_read.specs.declared.request.Req.{Req}
+use Rattle.http_read.specs.declared.refusal.ReqNo.{ReqNo}
+use Rattle.http_read.specs.declared.refusal.ReqNo.TheVariants.{Malformed, HeadTooLong, TooManyHeaders, BodyTooLong, NeedsLength, CutShort, ReadFault, Memory}
+
+-- what the reading of a request answers that has these bytes before it, where `kept` is what it leaves of them
+abbrev pub Reads : List ℕ → Result (Option Req) ReqNo → List ℕ → Option (List ℕ) → ℕ → ℕ → Type 0
+Reads bytes (Ok (Some req)) kept left old_faults new_faults = ReadsOne bytes req kept
+Reads bytes (Ok None) kept left old_faults new_faults = (bytes ≡ []) × IsExhausted left × (kept ≡ [])
+Reads bytes (Err ReadFault) kept left old_faults new_faults = Rose old_faults new_faults
+Reads bytes (Err Memory) kept left old_faults new_faults = kept ≡ bytes
+Reads bytes (Err CutShort) kept left old_faults new_faults = IsCutShort bytes × IsExhausted left
+Reads bytes (Err Malformed) kept left old_faults new_faults = IsRefused bytes Malformed
+Reads bytes (Err HeadTooLong) kept left old_faults new_faults = IsRefused bytes HeadTooLong
+Reads bytes (Err TooManyHeaders) kept left old_faults new_faults = IsRefused bytes TooManyHeaders
+Reads bytes (Err BodyTooLong) kept left old_faults new_faults = IsRefused bytes BodyTooLong
+Reads bytes (Err NeedsLength) kept left old_faults new_faults = IsRefused bytes NeedsLength
+
+-- the refusal that a reader keeps after an answer: none but after a refusal, and want of memory is none
+abbrev pub kept_refusal : Result (Option Req) ReqNo → Option ReqNo
+kept_refusal (Ok answer) = None
+kept_refusal (Err Memory) = None
+kept_refusal (Err ReadFault) = Some ReadFault
+kept_refusal (Err CutShort) = Some CutShort
+kept_refusal (Err Malformed) = Some Malformed
+kept_refusal (Err HeadTooLong) = Some HeadTooLong
+kept_refusal (Err TooManyHeaders) = Some TooManyHeaders
+kept_refusal (Err BodyTooLong) = Some BodyTooLong
+kept_refusal (Err NeedsLength) = Some NeedsLength
+
+-- what a call that reads may answer: it takes some bytes from the source, and what the reader had kept stands before them
+pub record AnswersNext
+    (old new : ReaderState) (old_left new_left : Option (List ℕ)) (old_faults new_faults : ℕ)
+    (answer : Result (Option Req) ReqNo) : Type 0 where
+  pub taken : List ℕ
+  pub left : old_left ≡ prepended taken new_left
+  pub answers : Reads (old.kept ++ taken) answer new.kept new_left old_faults new_faults
+  pub refusal : new.refusal ≡ kept_refusal answer
+
+-- what a call answers: the refusal that the reader keeps, with nothing done, or what it reads
+abbrev pub Repeats : ReaderState → ReaderState → Option (List ℕ) → Option (List ℕ) → Result (Option Req) ReqNo → ReqNo → Type 0
+Repeats old new old_left new_left answer why = (answer ≡ Err why) × (new ≡ old) × (new_left ≡ old_left)

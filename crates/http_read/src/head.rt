@@ -1,0 +1,175 @@
+ghost use Rattle.std.specs.Prelude.{◌≡◌, ◌≤◌, ◌++◌, ℕ, List, length, map, take, IfOk, IfSome, codes, Option, All, IsUtf8, []};
+ghost use Rattle.std.specs.Str.Lossy.{utf8_lossy};
+ghost use Rattle.std.specs.Option.{option_map};
+ghost use Rattle.edge_io.specs.Told.{prepended};
+ghost use Rattle.httparse.specs.Spans.{span_bytes, IsHeaderWithin, header_bytes};
+ghost use Rattle.http_read.specs.Heads as head;
+ghost use Rattle.http_read.specs.Queries.{path_of, query_of, query_pairs};
+ghost use Rattle.http_read.specs.Requests.{front, request_with};
+ghost use Rattle.http_read.specs.Steps.{FindsHead, LooksAtHead, ReadsHead, fields_at, request_at};
+
+use crate::body::Body;
+use crate::fields::{asks_websocket, connection_has, value_of};
+use crate::kept::Kept;
+use crate::params::Params;
+use crate::pieces::cut;
+use crate::refusal::ReqNo;
+use crate::request::{Req, Upgrade};
+use crate::segments::Segments;
+use edge_io::Source;
+use httparse::spans::{HeaderSpan, RequestSpans, parse_request};
+use httparse::{Error, Status};
+use kube_meta::{Memory, Text};
+use std::alloc::Global;
+
+/// The most bytes of a head.
+pub(crate) const MOST_HEAD: usize = 16_384;
+
+/// The most fields of a head.
+pub(crate) const MOST_FIELDS: usize = 64;
+
+// The part of the bytes in which a head has to end.
+pub(crate) fn front_of(bytes: &[u8]) -> &[u8]
+    ensures { result.now ≡ front bytes.now }
+{
+    &bytes[..bytes.len().min(MOST_HEAD)]
+}
+
+// Looks for a whole head in front of the bytes. `None` means that more bytes may complete it.
+fn look(bytes: &[u8], spans: &mut [HeaderSpan]) -> Result<Option<RequestSpans>, ReqNo>
+    requires { length spans.old ≡ 64 }
+    ensures { LooksAtHead bytes.now spans.new result }
+{
+    match parse_request(front_of(bytes), spans) {
+        Ok(Status::Complete(found)) => Ok(Some(found)),
+        Ok(Status::Partial) if bytes.len() < MOST_HEAD => Ok(None),
+        Ok(Status::Partial) => Err(ReqNo::HeadTooLong),
+        Err(Error::TooManyHeaders) => Err(ReqNo::TooManyHeaders),
+        Err(_) => Err(ReqNo::Malformed),
+    }
+}
+
+/// Reads on until there is a whole head in front of the bytes. `None` means that the input ended and there is no byte.
+pub(crate) fn read_head<S: Source>(
+    kept: &mut Kept,
+    source: &mut S,
+    spans: &mut [HeaderSpan],
+) -> Result<Option<RequestSpans>, ReqNo>
+    requires { length spans.old ≡ 64 }
+    ensures reads { (taken : List ℕ) × (S.left source.old ≡ prepended taken (S.left source.new)) × (kept.new ≡ kept.old ++ taken)
+        × ReadsHead kept.new spans.new (S.left source.new) (S.faults source.old) (S.faults source.new) result }
+    ensures never_falls { S.faults source.old ≤ S.faults source.new }
+{
+    loop {
+        match look(kept.bytes(), spans) {
+            Ok(Some(found)) => return Ok(Some(found)),
+            Ok(None) => {}
+            Err(why) => return Err(why),
+        }
+        match kept.fill(source) {
+            Ok(0) if kept.is_empty() => return Ok(None),
+            Ok(0) => return Err(ReqNo::CutShort),
+            Ok(_) => {}
+            Err(_) => return Err(ReqNo::ReadFault),
+        }
+    }
+}
+
+// A value as text.
+fn text(alloc: Global, value: &[u8]) -> Result<Text, Memory>
+    ensures { IfOk result (λ text. text ≡ utf8_lossy value.now) }
+{
+    Ok(Text::from_string(String::from_utf8_lossy(alloc, value)?))
+}
+
+// The value of the first field of this name, as text.
+fn text_of(
+    alloc: Global,
+    bytes: &[u8],
+    fields: &[HeaderSpan],
+    name: &[u8],
+) -> Result<Option<Text>, Memory>
+    requires { All (IsHeaderWithin (length bytes.now)) fields.now }
+    ensures { IfOk result (λ text. text ≡ head.text_of (head.value_of name.now (map (header_bytes bytes.now) fields.now))) }
+{
+    match value_of(bytes, fields, name) {
+        Some(value) => Ok(Some(text(alloc, value)?)),
+        None => Ok(None),
+    }
+}
+
+// The same, empty where there is none.
+fn text_or_empty(
+    alloc: Global,
+    bytes: &[u8],
+    fields: &[HeaderSpan],
+    name: &[u8],
+) -> Result<Text, Memory>
+    requires { All (IsHeaderWithin (length bytes.now)) fields.now }
+    ensures { IfOk result (λ text. text ≡ head.text_or_empty (head.value_of name.now (map (header_bytes bytes.now) fields.now))) }
+{
+    match text_of(alloc, bytes, fields, name)? {
+        Some(text) => Ok(text),
+        None => Ok(Text::from_string(String::new(alloc))),
+    }
+}
+
+// The upgrade that is asked for.
+fn upgrade_of(
+    alloc: Global,
+    method: &[u8],
+    bytes: &[u8],
+    fields: &[HeaderSpan],
+) -> Result<Option<Upgrade>, Memory>
+    requires { All (IsHeaderWithin (length bytes.now)) fields.now }
+    ensures { IfOk result (λ upgrade. upgrade ≡ head.upgrade_of method.now (map (header_bytes bytes.now) fields.now)) }
+{
+    if !asks_websocket(method, bytes, fields) {
+        return Ok(None);
+    }
+    let key = text_or_empty(alloc, bytes, fields, b"sec-websocket-key")?;
+    let version = text_or_empty(alloc, bytes, fields, b"sec-websocket-version")?;
+    Ok(Some(Upgrade { key, version }))
+}
+
+// The path and the query of a target.
+fn target_parts(alloc: Global, target: &[u8]) -> Result<(Segments, Params), Memory>
+    ensures { IfOk result (λ parts. (parts.0 ≡ path_of target.now) × (parts.1 ≡ query_pairs (query_of target.now))) }
+{
+    let (path, query) = match cut(target, b'?') {
+        Some(pieces) => pieces,
+        None => (target, b"".as_slice()),
+    };
+    Ok((
+        Segments::read(alloc, path)?,
+        Params::of_bytes(alloc, query)?,
+    ))
+}
+
+/// The request of a method, a target and fields, with no body.
+pub(crate) fn make_request(
+    alloc: Global,
+    method: &[u8],
+    target: &[u8],
+    bytes: &[u8],
+    fields: &[HeaderSpan],
+) -> Result<Req, Memory>
+    requires text { IsUtf8 method.now }
+    requires within { All (IsHeaderWithin (length bytes.now)) fields.now }
+    ensures { IfOk result (λ req. req ≡ request_with method.now target.now (map (header_bytes bytes.now) fields.now) []) }
+{
+    let method_text = text(alloc, method)?;
+    let accept = text_of(alloc, bytes, fields, b"accept")?;
+    let upgrade = upgrade_of(alloc, method, bytes, fields)?;
+    let close = connection_has(bytes, fields, b"close");
+    let (path, params) = target_parts(alloc, target)?;
+    Ok(Req {
+        method: method_text,
+        path,
+        params,
+        body: Body::from_vec(Vec::new(alloc)),
+        close,
+        accept,
+        upgrade,
+    })
+}

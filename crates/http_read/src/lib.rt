@@ -1,0 +1,26 @@
+//! Requests in: HTTP/1.1 requests (RFC 9112) out of any [`Source`](edge_io::Source), one after the other, each whole or
+//! refused with the reason. The grammar of heads is that of `httparse`.
+#![tactic(auto)]
+
+mod body;
+mod fields;
+mod head;
+mod kept;
+mod laws;
+mod params;
+mod pieces;
+mod reader;
+mod refusal;
+mod request;
+mod segments;
+
+pub use body::Body;
+pub use laws::requests_are_read_in_one_way;
+pub use params::Params;
+pub use reader::Reader;
+pub use refusal::ReqNo;
+pub use request::{Req, Upgrade};
+pub use segments::Segments;
+
+#[cfg(test)]
+mod tests;

@@ -1,0 +1,63 @@
+ghost use Rattle.std.specs.Prelude.{◌≡◌, ◌+◌, ◌<◌, ◌≤◌, ◌==◌, [], ◌∷◌, length, IfSome, IfNone, IsTrue};
+ghost use Rattle.std.specs.List.{before_first, after_first};
+ghost use Rattle.httparse.specs.Grammar.{trim_ows, is_ows, skip_ows};
+ghost use Rattle.http_read.specs.Pieces.{last_blanks_off};
+ghost use Rattle.form_urlencoded.specs.Form as form;
+
+/// The pieces of a text before and after the first separator, if there is one.
+pub(crate) fn cut(text: &[u8], separator: u8) -> Option<(&[u8], &[u8])>
+    ensures before { IfSome result (λ pieces. pieces.0.now ≡ before_first (λ b. b == separator) text.now) }
+    ensures after { IfSome result (λ pieces. pieces.1.now ≡ after_first (λ b. b == separator) text.now) }
+    ensures shorter { IfSome result (λ pieces. length pieces.1.now < length text.now) }
+    ensures pieces { IfSome result (λ pieces. form.split separator text.now ≡ pieces.0.now ∷ form.split separator pieces.1.now) }
+    ensures whole { IfNone result (text.now ≡ before_first (λ b. b == separator) text.now) }
+    ensures nothing { IfNone result (after_first (λ b. b == separator) text.now ≡ []) }
+    ensures alone { IfNone result (form.split separator text.now ≡ text.now ∷ []) }
+{
+    match text.iter().position(|&b| b == separator) {
+        Some(at) => Some((&text[..at], &text[at + 1..])),
+        None => None,
+    }
+}
+
+// Whether a byte is a blank.
+fn is_blank(byte: u8) -> bool
+    ensures { result ≡ is_ows byte }
+{
+    byte == b' ' || byte == b'\t'
+}
+
+// The bytes without the blanks in front.
+fn without_front(text: &[u8]) -> &[u8]
+    ensures { result.now ≡ skip_ows text.now }
+{
+    let mut at = 0;
+    while at < text.len() {
+        if !is_blank(text[at]) {
+            break;
+        }
+        at += 1;
+    }
+    &text[at..]
+}
+
+// The bytes without the blanks at the end.
+fn without_back(text: &[u8]) -> &[u8]
+    ensures { result.now ≡ last_blanks_off text.now }
+{
+    let mut end = text.len();
+    while end > 0 {
+        if !is_blank(text[end - 1]) {
+            break;
+        }
+        end -= 1;
+    }
+    &text[..end]
+}
+
+/// The bytes without the blanks at both ends.
+pub(crate) fn trimmed(text: &[u8]) -> &[u8]
+    ensures { result.now ≡ trim_ows text.now }
+{
+    without_back(without_front(text))
+}

@@ -1,0 +1,189 @@
+ghost use Rattle.std.specs.Prelude.{◌≡◌, ◌≤◌, ◌++◌, ℕ, List, [], None, IfOk, IfSome, IsNone, length};
+ghost use Rattle.edge_io.specs.Told.{prepended};
+ghost use Rattle.http_read.specs.Answers.{AnswersNext, Repeats, Reads};
+ghost use Rattle.http_read.specs.Steps.{FillsBody, FindsHead};
+ghost use Rattle.httparse.specs.Grammar.{RequestHead};
+ghost use Rattle.httparse.specs.Spans.{IsRequestAt};
+ghost use Rattle.http_read.specs.Requests.{front, head_answer, request_of};
+
+use crate::body::Body;
+use crate::fields::body_length;
+use crate::head::{MOST_FIELDS, front_of, make_request, read_head};
+use crate::kept::Kept;
+use crate::refusal::ReqNo;
+use crate::request::Req;
+use edge_io::Source;
+use httparse::spans::{EMPTY_HEADER_SPAN, HeaderSpan, RequestSpans};
+use kube_meta::Memory;
+use std::alloc::Global;
+use std::marker::Model;
+
+// Fills `body` from a source.
+fn read_rest<S: Source>(source: &mut S, body: &mut [u8]) -> Result<(), ReqNo>
+    ensures reads { (taken : List ℕ) × (S.left source.old ≡ prepended taken (S.left source.new))
+        × FillsBody taken body.new [] (S.left source.new) (S.faults source.old) (S.faults source.new) result }
+    ensures never_falls { S.faults source.old ≤ S.faults source.new }
+{
+    let mut at = 0;
+    while at < body.len() {
+        match source.read(&mut body[at..]) {
+            Ok(0) => return Err(ReqNo::CutShort),
+            Ok(n) => at += n,
+            Err(_) => return Err(ReqNo::ReadFault),
+        }
+    }
+    Ok(())
+}
+
+// Fills `body` from the bytes that are kept, and then from a source.
+fn read_body<S: Source>(kept: &mut Kept, source: &mut S, body: &mut [u8]) -> Result<(), ReqNo>
+    ensures reads { (taken : List ℕ) × (S.left source.old ≡ prepended taken (S.left source.new))
+        × FillsBody (kept.old ++ taken) body.new kept.new (S.left source.new) (S.faults source.old) (S.faults source.new) result }
+    ensures never_falls { S.faults source.old ≤ S.faults source.new }
+{
+    let n = kept.bytes().len().min(body.len());
+    body[..n].copy_from_slice(&kept.bytes()[..n]);
+    kept.consume(n);
+    read_rest(source, &mut body[n..])
+}
+
+// That many zeros.
+fn zeros(alloc: Global, n: usize) -> Result<Vec<u8>, Memory>
+    ensures { IfOk result (λ zeros. length zeros.items ≡ n) }
+{
+    let mut zeros = Vec::new(alloc);
+    zeros.resize(n, 0)?;
+    Ok(zeros)
+}
+
+/// Reads requests from a source, one after the other. Contracts see the bytes that it took beyond its last request, and the
+/// refusal that it keeps.
+#[derive(Debug, Drop)]
+pub struct Reader {
+    kept: Kept,
+    refusal: Option<ReqNo>,
+}
+
+impl Model for Reader {
+    ghost use Rattle.http_read.specs.Readers.{ReaderState};
+
+    ghost Value = { ReaderState };
+
+    ghost view = { λ reader. record { kept = reader.kept; refusal = reader.refusal } };
+}
+
+// Reads the body of a request whose head was found in the bytes that are kept. Memory is asked for before a byte is let go.
+fn read_found<S: Source>(
+    kept: &mut Kept,
+    source: &mut S,
+    spans: &[HeaderSpan],
+    found: RequestSpans,
+) -> Result<Option<Req>, ReqNo>
+    requires { FindsHead kept.old spans.now found }
+    ensures reads { (taken : List ℕ) × (S.left source.old ≡ prepended taken (S.left source.new))
+        × Reads (kept.old ++ taken) result kept.new (S.left source.new) (S.faults source.old) (S.faults source.new) }
+    ensures never_falls { S.faults source.old ≤ S.faults source.new }
+{
+    let alloc = kept.allocator();
+    let length = match announced(kept.bytes(), spans, found) {
+        Ok(length) => length,
+        Err(why) => return Err(why),
+    };
+    let mut req = match request_in(alloc, kept.bytes(), spans, found) {
+        Ok(req) => req,
+        Err(_) => return Err(ReqNo::Memory),
+    };
+    let mut body = match zeros(alloc, length) {
+        Ok(body) => body,
+        Err(_) => return Err(ReqNo::Memory),
+    };
+    kept.consume(found.len);
+    match read_body(kept, source, body.as_mut_slice()) {
+        Ok(()) => {
+            req.body = Body::from_vec(body);
+            Ok(Some(req))
+        }
+        Err(why) => Err(why),
+    }
+}
+
+// What the head that was found says of the length of its body.
+fn announced(bytes: &[u8], spans: &[HeaderSpan], found: RequestSpans) -> Result<usize, ReqNo>
+    requires { FindsHead bytes.now spans.now found }
+    ensures { (h : RequestHead) → IsRequestAt (front bytes.now) spans.now found h → result ≡ head_answer h }
+{
+    let front = front_of(bytes);
+    let fields = &spans[..found.headers];
+    let length = body_length(found.version, found.method.of(front), front, fields)?;
+    Ok(length as usize)
+}
+
+// The request of the head that was found, with no body.
+fn request_in(
+    alloc: Global,
+    bytes: &[u8],
+    spans: &[HeaderSpan],
+    found: RequestSpans,
+) -> Result<Req, Memory>
+    requires { FindsHead bytes.now spans.now found }
+    ensures { IfOk result (λ req. (h : RequestHead) → IsRequestAt (front bytes.now) spans.now found h → req ≡ request_of h []) }
+{
+    let front = front_of(bytes);
+    let fields = &spans[..found.headers];
+    make_request(
+        alloc,
+        found.method.of(front),
+        found.path.of(front),
+        front,
+        fields,
+    )
+}
+
+// Reads the next request, behind the bytes that are kept.
+fn read_next<S: Source>(kept: &mut Kept, source: &mut S) -> Result<Option<Req>, ReqNo>
+    ensures reads { (taken : List ℕ) × (S.left source.old ≡ prepended taken (S.left source.new))
+        × Reads (kept.old ++ taken) result kept.new (S.left source.new) (S.faults source.old) (S.faults source.new) }
+    ensures never_falls { S.faults source.old ≤ S.faults source.new }
+{
+    let mut spans = [EMPTY_HEADER_SPAN; MOST_FIELDS];
+    match read_head(kept, source, &mut spans) {
+        Ok(Some(found)) => read_found(kept, source, &spans, found),
+        Ok(None) => Ok(None),
+        Err(why) => Err(why),
+    }
+}
+
+impl Reader {
+    /// A reader that took nothing yet.
+    pub fn new(alloc: Global) -> Result<Reader, Memory>
+        ensures { IfOk result (λ reader. reader ≡ record { kept = []; refusal = None }) }
+    {
+        Ok(Reader {
+            kept: Kept::new(alloc)?,
+            refusal: None,
+        })
+    }
+
+    /// Reads the next request. `None` means that the input ended and no byte of a further request was there.
+    ///
+    /// After a refusal the reader has failed, and each later call answers that refusal again. After [`ReqNo::Memory`] what
+    /// was taken is kept, and a later call goes on.
+    pub fn next_request<S: Source>(&mut self, source: &mut S) -> Result<Option<Req>, ReqNo>
+        ensures repeats { IfSome self.old.refusal (Repeats self.old self.new (S.left source.old) (S.left source.new) result) }
+        ensures reads { IsNone self.old.refusal → AnswersNext self.old self.new (S.left source.old) (S.left source.new)
+            (S.faults source.old) (S.faults source.new) result }
+        ensures never_falls { S.faults source.old ≤ S.faults source.new }
+    {
+        if let Some(why) = self.refusal {
+            return Err(why);
+        }
+        match read_next(&mut self.kept, source) {
+            Ok(answer) => Ok(answer),
+            Err(ReqNo::Memory) => Err(ReqNo::Memory),
+            Err(why) => {
+                self.refusal = Some(why);
+                Err(why)
+            }
+        }
+    }
+}

@@ -1,0 +1,32 @@
+use crate::body::Body;
+use crate::params::Params;
+use crate::segments::Segments;
+use kube_meta::Text;
+
+/// What a head that asks for a WebSocket says (RFC 6455, section 4.1). A field that is absent is an empty text.
+#[derive(Debug, Drop)]
+pub struct Upgrade {
+    /// The first Sec-WebSocket-Key.
+    pub key: Text,
+    /// The first Sec-WebSocket-Version.
+    pub version: Text,
+}
+
+/// A whole request.
+#[derive(Debug, Drop)]
+pub struct Req {
+    /// The method, as it was sent.
+    pub method: Text,
+    /// The segments of the target's path after the first `/`, decoded.
+    pub path: Segments,
+    /// The pairs of the target's query.
+    pub params: Params,
+    /// The body, empty where the head gives no length.
+    pub body: Body,
+    /// Whether the client wants the connection to end with the reply: Connection has `close`.
+    pub close: bool,
+    /// The first Accept field.
+    pub accept: Option<Text>,
+    /// The upgrade to a WebSocket that is asked for.
+    pub upgrade: Option<Upgrade>,
+}
