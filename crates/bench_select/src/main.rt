@@ -49,9 +49,20 @@ fn main(rt: HostRuntime) -> io::Result<()> {
     }
 }
 
+/// Four objects' labels, which differ in their zone.
+fn sets(alloc: Global) -> Result<Vec<Labels>, LabelNo> {
+    let mut sets = Vec::new(alloc);
+    for zone in ["north-1", "north-2", "north-3", "north-4"] {
+        let mut labels = labels(alloc)?;
+        let _ = labels.put(Text::new(alloc, "zone")?, Text::new(alloc, zone)?)?;
+        sets.push(labels)?;
+    }
+    Ok(sets)
+}
+
 fn timed_run<R: Runtime>(rt: &R, alloc: Global) -> io::Result<()> {
-    match labels(alloc) {
-        Ok(labels) => timing::report(rt, alloc, &labels),
+    match sets(alloc) {
+        Ok(sets) => timing::report(rt, alloc, &sets),
         Err(_) => println!(rt; "bench_select: no memory"),
     }
 }

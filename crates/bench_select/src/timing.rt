@@ -62,20 +62,25 @@ fn plain_reads(alloc: Global) -> u32 {
     read
 }
 
-fn matches(selector: &LabelSel, labels: &Labels) -> u32 {
+/// The labels of the round: the sets take turns, so that no round's answer is that of the one before.
+fn labels_of(sets: &[Labels], round: u32) -> Option<&Labels> {
+    sets.get((round % 4) as usize)
+}
+
+fn matches(selector: &LabelSel, sets: &[Labels]) -> u32 {
     let mut selected = 0u32;
-    for _ in 0..MATCHES {
-        if selector.matches(labels) {
+    for round in 0..MATCHES {
+        if labels_of(sets, round).is_some_and(|labels| selector.matches(labels)) {
             selected = selected.wrapping_add(1);
         }
     }
     selected
 }
 
-fn plain_matches(labels: &Labels) -> u32 {
+fn plain_matches(sets: &[Labels]) -> u32 {
     let mut selected = 0u32;
-    for _ in 0..MATCHES {
-        if plain::matches(labels) {
+    for round in 0..MATCHES {
+        if labels_of(sets, round).is_some_and(|labels| plain::matches(labels)) {
             selected = selected.wrapping_add(1);
         }
     }
@@ -83,7 +88,7 @@ fn plain_matches(labels: &Labels) -> u32 {
 }
 
 /// Times both pairs, run by run in turns, and prints the best of each.
-pub fn report<R: Runtime>(rt: &R, alloc: Global, labels: &Labels) -> io::Result<()> {
+pub fn report<R: Runtime>(rt: &R, alloc: Global, sets: &[Labels]) -> io::Result<()> {
     let Ok(selector) = LabelSel::read(alloc, TEXT) else {
         return println!(rt; "bench_select: no memory");
     };
@@ -102,10 +107,10 @@ pub fn report<R: Runtime>(rt: &R, alloc: Global, labels: &Labels) -> io::Result<
         sum = sum.wrapping_add(plain_reads(alloc));
         copied = best(rt, from, copied)?;
         let from = Instant::now(rt)?;
-        sum = sum.wrapping_add(matches(&selector, labels));
+        sum = sum.wrapping_add(matches(&selector, sets));
         selected = best(rt, from, selected)?;
         let from = Instant::now(rt)?;
-        sum = sum.wrapping_add(plain_matches(labels));
+        sum = sum.wrapping_add(plain_matches(sets));
         scanned = best(rt, from, scanned)?;
     }
     print_pair(rt, "read", read, copied, READS)?;

@@ -1,0 +1,53 @@
+-- What the parameters of a list ask for: the first fault, or else the page.
+use Rattle.std.specs.Prelude.{◌≡◌, ℕ, List, Option, None, Some, Result, Ok, Err, codes}
+use Rattle.select_all.specs.declared.selection.Meaning.TheVariants.{Exact}
+use Rattle.select_all.specs.declared.selection.Selection.{Selection}
+use Rattle.list_rules.specs.declared.ask.ListAsk.{ListAsk}
+use Rattle.list_rules.specs.declared.refusal.AskNo.{AskNo}
+use Rattle.list_rules.specs.declared.refusal.AskNo.TheVariants.{BadContinue, Memory}
+use Rattle.list_rules.specs.declared.refusal.TokenNo.{TokenNo}
+use Rattle.list_rules.specs.declared.options.Options.{Options}
+use Rattle.list_rules.specs.Options.{Pairs, given, text_of, options_of, first_fault, means, limit_of}
+use Rattle.list_rules.specs.Tokens.{token_read}
+
+-- with no token: the first page, at a revision of that meaning
+abbrev pub first_page : Selection → Options → List ℕ → List ℕ → ListAsk
+first_page s o label field = record {
+  selection = s;
+  meaning = means o.matching o.revision (limit_of o.limit);
+  limit = limit_of o.limit;
+  after = None;
+  label_text = label;
+  field_text = field;
+}
+
+-- with one: the page after the token's key, at the token's revision alone
+abbrev pub later_page : Selection → Options → List ℕ → List ℕ → Result (ℕ × List ℕ) TokenNo → Result ListAsk AskNo
+later_page s o label field (Err fault) = Err (BadContinue fault)
+later_page s o label field (Ok place) = Ok (record {
+  selection = s;
+  meaning = Exact place.0;
+  limit = limit_of o.limit;
+  after = Some place.1;
+  label_text = label;
+  field_text = field;
+})
+
+abbrev pub page_by : Selection → Options → List ℕ → List ℕ → Option (List ℕ) → Result ListAsk AskNo
+page_by s o label field None = Ok (first_page s o label field)
+page_by s o label field (Some token) = later_page s o label field (token_read token s label field)
+
+abbrev pub unless_fault : Option AskNo → Result ListAsk AskNo → Result ListAsk AskNo
+unless_fault (Some fault) answer = Err fault
+unless_fault None answer = answer
+
+abbrev pub ask_of : Selection → Pairs → Result ListAsk AskNo
+ask_of s pairs =
+    unless_fault (first_fault (options_of pairs))
+    (page_by s (options_of pairs) (text_of (codes "labelSelector") pairs) (text_of (codes "fieldSelector") pairs) (given (codes "continue") pairs))
+
+-- What was made is what the parameters ask for; what was refused is the first fault, unless memory ran out.
+abbrev pub Asks : Result ListAsk AskNo → Result ListAsk AskNo → Type 0
+Asks (Ok ask) asked = asked ≡ Ok ask
+Asks (Err Memory) asked = Unit {0}
+Asks (Err fault) asked = asked ≡ Err fault

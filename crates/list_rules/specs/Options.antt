@@ -1,0 +1,147 @@
+-- The option table of lists and gets: `resourceVersion`, `resourceVersionMatch`, `limit`, `continue` and `sendInitialEvents`, as the Kubernetes API concepts name them ("Resource versions", "Retrieving large results sets in chunks").
+use Rattle.std.specs.Prelude.{◌≡◌, ℕ, Bool, true, false, not, ◌&&◌, ◌==◌, List, [], ◌∷◌, Option, None, Some, Result, Ok, Err, unwrap_or, codes, bytes_eq, IsTrue, if◌then◌else◌}
+use Rattle.kube_meta.specs.declared.revisions.RevNo.{RevNo}
+use Rattle.kube_meta.specs.Revisions.{revision_of}
+use Rattle.select_all.specs.declared.selection.Meaning.{Meaning}
+use Rattle.select_all.specs.declared.selection.Meaning.TheVariants.{MostRecent, Any, NotOlder, Exact}
+use Rattle.http_read.specs.Queries.{first_value, unless_empty}
+use Rattle.list_rules.specs.declared.options.Number.{Number}
+use Rattle.list_rules.specs.declared.options.Number.TheVariants.{Unset, Refused, Is}
+use Rattle.list_rules.specs.declared.options.Match.{Match}
+use Rattle.list_rules.specs.declared.options.Match.TheVariants.{Absent, Exactly, NotOlderThan, Other}
+use Rattle.list_rules.specs.declared.options.Options.{Options}
+use Rattle.list_rules.specs.declared.refusal.AskNo.{AskNo}
+use Rattle.list_rules.specs.declared.refusal.AskNo.TheVariants.{BadRevision, BadMatch, MatchNeedsRevision, ExactZero, MatchWithContinue, RevisionWithContinue, InitialEventsOnList, BadLimit}
+
+-- the pairs of a query
+abbrev pub Pairs : Type 0
+Pairs = List (List ℕ × List ℕ)
+
+-- what a parameter says; an empty value counts as unset
+abbrev pub given : List ℕ → Pairs → Option (List ℕ)
+given name pairs = unless_empty (first_value name pairs)
+
+-- its text, empty where it is unset
+abbrev pub text_of : List ℕ → Pairs → List ℕ
+text_of name pairs = unwrap_or (given name pairs) []
+
+abbrev pub is_set : Option (List ℕ) → Bool
+is_set None = false
+is_set (Some text) = true
+
+-- ---- the options as they are given
+
+-- a number is written as a revision is
+abbrev pub number_read : Result ℕ RevNo → Number
+number_read (Ok n) = Is n
+number_read (Err fault) = Refused
+
+abbrev pub number_of : Option (List ℕ) → Number
+number_of None = Unset
+number_of (Some text) = number_read (revision_of text)
+
+abbrev pub match_of : Option (List ℕ) → Match
+match_of None = Absent
+match_of (Some text) =
+    if bytes_eq text (codes "Exact") then Exactly else
+    (if bytes_eq text (codes "NotOlderThan") then NotOlderThan else Other)
+
+-- `sendInitialEvents` is set also where it is empty
+abbrev pub options_of : Pairs → Options
+options_of pairs = record {
+  revision = number_of (given (codes "resourceVersion") pairs);
+  matching = match_of (given (codes "resourceVersionMatch") pairs);
+  limit = number_of (given (codes "limit") pairs);
+  continued = is_set (given (codes "continue") pairs);
+  initial_events = is_set (first_value (codes "sendInitialEvents") pairs);
+}
+
+-- ---- what may be said of one
+
+abbrev pub is_unset : Number → Bool
+is_unset Unset = true
+is_unset Refused = false
+is_unset (Is n) = false
+
+abbrev pub is_refused : Number → Bool
+is_refused Unset = false
+is_refused Refused = true
+is_refused (Is n) = false
+
+abbrev pub is_zero : Number → Bool
+is_zero Unset = false
+is_zero Refused = false
+is_zero (Is n) = n == 0
+
+abbrev pub is_absent : Match → Bool
+is_absent Absent = true
+is_absent Exactly = false
+is_absent NotOlderThan = false
+is_absent Other = false
+
+abbrev pub is_exactly : Match → Bool
+is_exactly Absent = false
+is_exactly Exactly = true
+is_exactly NotOlderThan = false
+is_exactly Other = false
+
+abbrev pub is_other : Match → Bool
+is_other Absent = false
+is_other Exactly = false
+is_other NotOlderThan = false
+is_other Other = true
+
+-- ---- the faults, each with exactly where it holds
+
+abbrev pub first_of : List (Bool × AskNo) → Option AskNo
+first_of [] = None
+first_of (row ∷ rows) = if row.0 then Some row.1 else first_of rows
+
+-- the first that holds is answered
+abbrev pub first_fault : Options → Option AskNo
+first_fault o = first_of (
+    (is_refused o.revision, BadRevision)
+    ∷ (is_other o.matching, BadMatch)
+    ∷ (not (is_absent o.matching) && (not o.continued && is_unset o.revision), MatchNeedsRevision)
+    ∷ (is_exactly o.matching && (not o.continued && is_zero o.revision), ExactZero)
+    ∷ (not (is_absent o.matching) && o.continued, MatchWithContinue)
+    ∷ (o.continued && (not (is_unset o.revision) && not (is_zero o.revision)), RevisionWithContinue)
+    ∷ (o.initial_events, InitialEventsOnList)
+    ∷ (is_refused o.limit, BadLimit)
+    ∷ [])
+
+-- ---- the meaning, where there is no fault
+
+-- 0 is no limit
+abbrev pub limit_of : Number → ℕ
+limit_of Unset = 0
+limit_of Refused = 0
+limit_of (Is n) = n
+
+-- a revision that is asked for with no match: 0 is any; with a limit it is that one, and without one it may be newer
+abbrev pub of_revision : ℕ → ℕ → Meaning
+of_revision r limit = if r == 0 then Any else (if limit == 0 then NotOlder r else Exact r)
+
+-- match, revision and limit, where there is no `continue`; a row that a fault takes is `MostRecent`
+abbrev pub means : Match → Number → ℕ → Meaning
+means Absent Unset limit = MostRecent
+means Absent (Is r) limit = of_revision r limit
+means Exactly (Is r) limit = Exact r
+means NotOlderThan (Is r) limit = of_revision r 0
+means given_match number limit = MostRecent
+
+-- of a get: the revision alone speaks
+abbrev pub of_get : Number → Result Meaning AskNo
+of_get Unset = Ok MostRecent
+of_get Refused = Err BadRevision
+of_get (Is r) = Ok (of_revision r 0)
+
+abbrev pub is_never_exact : Meaning → Bool
+is_never_exact MostRecent = true
+is_never_exact Any = true
+is_never_exact (NotOlder r) = true
+is_never_exact (Exact r) = false
+
+-- no revision is the only one that will do
+abbrev pub IsNeverExact : Meaning → Type 0
+IsNeverExact meaning = IsTrue (is_never_exact meaning)

@@ -1,0 +1,112 @@
+-- Continue tokens: the base64url text without padding (RFC 4648, section 5) of seven texts, with a line feed after each of the first six.
+use Rattle.std.specs.Prelude.{◌≡◌, ℕ, Bool, true, false, not, ◌&&◌, ◌||◌, ◌==◌, List, [], ◌∷◌, ◌++◌, map, Option, None, Some, Result, Ok, Err, unwrap_or, option_map, option_and_then, codes, bytes_eq, decimal, if◌then◌else◌}
+use Rattle.std.specs.List.{before_first, after_first, list_any}
+use Rattle.std.specs.Result.{result_ok}
+use Rattle.base64.specs.GeneralPurpose.{encode_of, decode_of}
+use Rattle.base64.specs.Engines.{url_safe_no_pad}
+use Rattle.kube_meta.specs.declared.revisions.RevNo.{RevNo}
+use Rattle.kube_meta.specs.Keys.{namespace_of, name_of}
+use Rattle.kube_meta.specs.Names.{is_slash, is_namespace, is_object_name}
+use Rattle.kube_meta.specs.Resources.{plural_of}
+use Rattle.kube_meta.specs.Revisions.{revision_of}
+use Rattle.select_all.specs.declared.selection.Selection.{Selection}
+use Rattle.list_rules.specs.declared.refusal.TokenNo.{TokenNo}
+use Rattle.list_rules.specs.declared.refusal.TokenNo.TheVariants.{NotToken, OtherList, Memory}
+
+abbrev pub is_line_feed : ℕ → Bool
+is_line_feed b = b == 10
+
+-- ---- writing
+
+-- a text, a line feed, and what follows
+abbrev pub line : List ℕ → List ℕ → List ℕ
+line text rest = text ++ 10 ∷ rest
+
+-- each line feed replaced by a space
+abbrev pub spaced : List ℕ → List ℕ
+spaced text = map (λ b. if is_line_feed b then 32 else b) text
+
+-- the namespace of a list, empty for all
+abbrev pub list_namespace : Option (List ℕ) → List ℕ
+list_namespace ns = unwrap_or ns []
+
+-- the seven texts, for the page of a list that ends with the object `key` at the revision
+abbrev pub token_lines : Selection → List ℕ → List ℕ → ℕ → List ℕ → List ℕ
+token_lines s label field rev key =
+    line (codes "1") (line (decimal rev) (line (plural_of s.resource) (line (list_namespace s.ns) (line key (line (spaced label) field)))))
+
+unfoldable pub token_text : Selection → List ℕ → List ℕ → ℕ → List ℕ → List ℕ
+token_text s label field rev key = encode_of url_safe_no_pad (token_lines s label field rev key)
+
+-- ---- reading
+
+-- the seven texts
+pub record TokenTexts : Type 0 where
+  pub version : List ℕ
+  pub revision : List ℕ
+  pub resource : List ℕ
+  pub namespace : List ℕ
+  pub key : List ℕ
+  pub label : List ℕ
+  pub field : List ℕ
+
+-- what stands before the first line feed and what behind it, if there is one
+abbrev pub line_of : List ℕ → Option (List ℕ × List ℕ)
+line_of text = if list_any is_line_feed text then Some (before_first is_line_feed text, after_first is_line_feed text) else None
+
+-- the first six lines and what follows them, if there are six line feeds
+abbrev pub texts_of : List ℕ → Option TokenTexts
+texts_of body =
+    option_and_then (λ a. option_and_then (λ b. option_and_then (λ c. option_and_then (λ d. option_and_then (λ e. option_map
+    (λ f. record { version = a.0; revision = b.0; resource = c.0; namespace = d.0; key = e.0; label = f.0; field = f.1 })
+    (line_of e.1)) (line_of d.1)) (line_of c.1)) (line_of b.1)) (line_of a.1)) (line_of body)
+
+-- a revision of at least 1
+abbrev pub above_zero : Result ℕ RevNo → Bool
+above_zero (Ok n) = not (n == 0)
+above_zero (Err fault) = false
+
+abbrev pub number_in : Result ℕ RevNo → ℕ
+number_in (Ok n) = n
+number_in (Err fault) = 0
+
+abbrev pub is_plural : List ℕ → Bool
+is_plural text = bytes_eq text (codes "pods") || (bytes_eq text (codes "configmaps") || bytes_eq text (codes "deployments"))
+
+-- a namespace and a name around the first `/`
+abbrev pub is_key : List ℕ → Bool
+is_key text = list_any is_slash text && (is_namespace (namespace_of text) && is_object_name (name_of text))
+
+-- texts as a token has them
+abbrev pub is_token : TokenTexts → Bool
+is_token t = bytes_eq t.version (codes "1") && (above_zero (revision_of t.revision) && (is_plural t.resource && is_key t.key))
+
+-- those of a token of this list
+abbrev pub is_of_list : TokenTexts → Selection → List ℕ → List ℕ → Bool
+is_of_list t s label field =
+    bytes_eq t.resource (plural_of s.resource) && (bytes_eq t.namespace (list_namespace s.ns) && (bytes_eq t.label (spaced label) && bytes_eq t.field field))
+
+-- the revision and the key of the texts, or why there are none
+abbrev pub texts_read : Option TokenTexts → Selection → List ℕ → List ℕ → Result (ℕ × List ℕ) TokenNo
+texts_read None s label field = Err NotToken
+texts_read (Some t) s label field =
+    if not (is_token t) then Err NotToken else
+    (if not (is_of_list t s label field) then Err OtherList else Ok (number_in (revision_of t.revision), t.key))
+
+-- the bytes that a text is the encoding of, if it is one
+unfoldable pub token_body : List ℕ → Option (List ℕ)
+token_body text = result_ok (decode_of url_safe_no_pad text)
+
+abbrev pub token_read : List ℕ → Selection → List ℕ → List ℕ → Result (ℕ × List ℕ) TokenNo
+token_read text s label field = texts_read (option_and_then texts_of (token_body text)) s label field
+
+-- What was read is what reading gives; what was refused is what reading refuses, unless memory ran out.
+abbrev pub ReadsToken : Result (ℕ × List ℕ) TokenNo → Result (ℕ × List ℕ) TokenNo → Type 0
+ReadsToken (Ok place) read = read ≡ Ok place
+ReadsToken (Err Memory) read = Unit {0}
+ReadsToken (Err NotToken) read = read ≡ Err NotToken
+ReadsToken (Err OtherList) read = read ≡ Err OtherList
+
+-- a text of one line
+abbrev pub IsOneLine : List ℕ → Type 0
+IsOneLine text = list_any is_line_feed text ≡ false

@@ -1,0 +1,19 @@
+//! What the options of lists and gets ask for: at which revision, how much, and from which key on;
+//! the continue tokens of pages; and that pages, joined, are the whole list.
+#![tactic(auto)]
+
+mod ask;
+mod get;
+mod laws;
+mod options;
+mod refusal;
+mod tokens;
+
+pub use ask::{ListAsk, meaning};
+pub use get::GetAsk;
+pub use laws::pages_join;
+pub use refusal::{AskNo, TokenNo};
+pub use tokens::{read_token, token};
+
+#[cfg(test)]
+mod tests;

@@ -1,0 +1,104 @@
+-- The bodies of watches: an opening, then stretches of the log and bookmarks, and last maybe a loss (Kubernetes API
+-- concepts, "Efficient detection of changes"; KEP-956; KEP-3157). A body is plain data, read beside its log and ask.
+use Rattle.std.specs.Prelude.{◌≡◌, ℕ, ◌≤◌, Bool, IsTrue, List, [], ◌∷◌, ◌++◌, map, filter_map, Option, Some, None, IfSome, if◌then◌else◌}
+use Rattle.kube_meta.specs.Rows.{RowData}
+use Rattle.rev_log.specs.Logs.{Log, end_of}
+use Rattle.select_all.specs.declared.selection.Selection.{Selection}
+use Rattle.select_all.specs.declared.selection.Kind.TheVariants.{Added}
+use Rattle.select_all.specs.Streams.{TransitionData, transitions}
+use Rattle.select_all.specs.Listings.{IsListing}
+use Rattle.select_all.specs.Floors.{IsEvicted}
+use Rattle.watch_rules.specs.declared.starts.Start.{Start}
+use Rattle.watch_rules.specs.declared.starts.Start.TheVariants.{FromState, FromHere, FromRevision}
+use Rattle.watch_rules.specs.declared.ask.WatchAsk.{WatchAsk}
+
+-- a line of a body: ADDED, MODIFIED or DELETED; BOOKMARK; the bookmark that ends the initial events; or the ERROR
+-- that the watch's revision, the first number, is below the floor of what is still known, the second
+pub data Line : Type 0 where
+  Told : TransitionData → Line
+  Bookmark : ℕ → Line
+  Closing : ℕ → Line
+  Lost : ℕ → ℕ → Line
+
+-- after the opening: the log up to a revision, or a bookmark
+pub data Piece : Type 0 where
+  Upto : ℕ → Piece
+  Mark : Piece
+
+-- the revision of the start and the rows that stood then, the pieces in order, and maybe the floor of a loss
+pub record Body : Type 0 where
+  pub at : ℕ
+  pub rows : List RowData
+  pub pieces : List Piece
+  pub loss : Option ℕ
+
+-- the body with one more piece
+abbrev pub with_piece : Body → Piece → Body
+with_piece body piece = record body { pieces = body.pieces ++ piece ∷ [] }
+
+-- ---- the position that a body has reached: the revision up to which all is told
+
+abbrev pub position_after : ℕ → List Piece → ℕ
+position_after from [] = from
+position_after from (Upto to ∷ more) = position_after to more
+position_after from (Mark ∷ more) = position_after from more
+
+abbrev pub position_of : Body → ℕ
+position_of body = position_after body.at body.pieces
+
+-- ---- its lines
+
+-- an initial event: ADDED, with the row's own revision
+abbrev pub initial : RowData → TransitionData
+initial row = record { kind = Added; obj = row.obj; rev = row.rev }
+
+abbrev pub opening_lines : WatchAsk → Body → List Line
+opening_lines ask body = map (λ row. Told (initial row)) body.rows ++ (if ask.closing then Closing body.at ∷ [] else [])
+
+-- a stretch tells the selection's transitions in the revisions above where it begins and up to where it ends
+abbrev pub piece_lines : Log → Selection → ℕ → List Piece → List Line
+piece_lines log s from [] = []
+piece_lines log s from (Upto to ∷ more) = map Told (transitions log s from to) ++ piece_lines log s to more
+piece_lines log s from (Mark ∷ more) = Bookmark from ∷ piece_lines log s from more
+
+abbrev pub loss_lines : ℕ → Option ℕ → List Line
+loss_lines position None = []
+loss_lines position (Some floor) = Lost position floor ∷ []
+
+abbrev pub lines_of : Log → WatchAsk → Body → List Line
+lines_of log ask body = opening_lines ask body ++ piece_lines log ask.selection body.at body.pieces ++ loss_lines (position_of body) body.loss
+
+-- ---- which bodies are lawful
+
+-- a start from a state tells the rows of the listing there, which the log has reached; other starts tell none, and
+-- a start from a revision is at that one, reached or not
+abbrev pub IsOpening : Log → Selection → Start → ℕ → List RowData → Type 0
+IsOpening log s (FromState meaning) at rows = IsListing log s at rows × (at ≤ end_of log)
+IsOpening log s (FromHere meaning) at rows = (rows ≡ []) × (at ≤ end_of log)
+IsOpening log s (FromRevision revision) at rows = (rows ≡ []) × (at ≡ revision)
+
+-- stretches go on from where the body stands, up to the log's end at most; bookmarks stand only where they are
+-- asked for, at a revision that the log has reached
+abbrev pub ArePieces : Log → Bool → ℕ → List Piece → Type 0
+ArePieces log bookmarks from [] = Unit {0}
+ArePieces log bookmarks from (Upto to ∷ more) = (from ≤ to) × (to ≤ end_of log) × ArePieces log bookmarks to more
+ArePieces log bookmarks from (Mark ∷ more) = IsTrue bookmarks × (from ≤ end_of log) × ArePieces log bookmarks from more
+
+-- A body of a watch, over a log with a floor of its own, where windows keep at least `low` changes. A loss is one
+-- that the log bears out.
+pub record IsWatchBody (log : Log) (log_floor low : ℕ) (ask : WatchAsk) (body : Body) : Type 0 where
+  pub opening : IsOpening log ask.selection ask.start body.at body.rows
+  pub pieces : ArePieces log ask.bookmarks body.at body.pieces
+  pub lost : IfSome body.loss (λ floor. IsEvicted log log_floor low ask.selection.resource (position_of body) floor)
+
+-- ---- what a body tells
+
+-- the transition that a line carries
+abbrev pub told_by : Line → Option TransitionData
+told_by (Told transition) = Some transition
+told_by (Bookmark at) = None
+told_by (Closing at) = None
+told_by (Lost at floor) = None
+
+abbrev pub told_in : List Line → List TransitionData
+told_in lines = filter_map told_by lines

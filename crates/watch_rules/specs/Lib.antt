@@ -1,0 +1,4 @@
+pub mod Starts
+pub mod Options
+pub mod Bodies
+pub mod Laws

@@ -1,0 +1,56 @@
+ghost use Rattle.std.specs.Prelude.{◌≡◌, IsTrue};
+ghost use Rattle.watch_rules.specs.Starts.{is_never_exact};
+
+use crate::{Start, WatchNo, options};
+use http_read::Params;
+use select_all::Selection;
+
+/// What a watch asks for.
+#[derive(Debug, Drop)]
+pub struct WatchAsk {
+    /// The objects that it is of.
+    pub selection: Selection,
+    /// Where it starts. It is never at one revision alone.
+    pub start: Start,
+    /// Whether a bookmark ends the initial events.
+    pub closing: bool,
+    /// Whether bookmarks may come.
+    pub bookmarks: bool,
+    /// After how many seconds it ends; 0 where that is left to the server.
+    pub timeout_s: u64,
+    pub ghost never_exact: { IsTrue (is_never_exact start) },
+}
+
+impl WatchAsk {
+    ghost use Rattle.std.specs.Prelude.{Some, IfOk, IfErr};
+    ghost use Rattle.watch_rules.specs.Options.{MeansWatch, first_fault};
+
+    /// The watch that the options of a query ask for; their names are those of the Kubernetes API
+    /// concepts, and an empty value counts as none, except for those that are true or false.
+    pub fn from_params(selection: Selection, params: &Params) -> Result<WatchAsk, WatchNo>
+        ensures asked { IfOk result (λ ask. MeansWatch selection params.now ask) }
+        ensures refused { IfErr result (λ fault. first_fault params.now ≡ Some fault) }
+    {
+        let revision = options::revision(params)?;
+        if let Some(fault) = options::match_fault(params) {
+            return Err(fault);
+        }
+        let timeout_s = options::timeout(params)?;
+        let initial = params.truth("sendInitialEvents");
+        let bookmarks = params.truth("allowWatchBookmarks").unwrap_or(false);
+        Ok(WatchAsk {
+            selection,
+            start: options::start(initial, revision),
+            closing: initial.unwrap_or(false) && bookmarks,
+            bookmarks,
+            timeout_s,
+        })
+    }
+}
+
+/// Where the watch starts.
+pub fn plan(ask: &WatchAsk) -> Start
+    ensures { result ≡ ask.now.start }
+{
+    ask.start
+}
