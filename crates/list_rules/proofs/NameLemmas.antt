@@ -1,10 +1,8 @@
 -- The bytes of names: ASCII, and no line feed.
-use Rattle.std.proofs.Common.{◌≡◌, ℕ, zero, suc, ◌^◌, ◌<◌, ◌≤◌, Bool, true, false, List, [], ◌∷◌, ◌++◌, length, refl, sym, ap, ◌∙◌, subst, arith, inl, inr, ◌&&◌, ◌||◌, get_or}
-use Rattle.std.proofs.lemmas.Bool.{cases_Bool, cases_lt, and_parts, eqb-true, false_from_ne_true, false≢true}
+use Rattle.std.proofs.Common.{◌≡◌, ℕ, zero, suc, ◌^◌, ◌<◌, ◌≤◌, Bool, true, false, List, [], ◌∷◌, refl, sym, ap, ◌∙◌, subst, arith, inl, inr, ◌&&◌, ◌||◌}
+use Rattle.std.proofs.lemmas.Bool.{cases_Bool, and_parts, eqb-true, false_from_ne_true, false≢true}
 use Rattle.std.proofs.lemmas.Bool.Decides.{nat_tests}
 use Rattle.std.proofs.lemmas.List.Folds.{list_any-append}
-use Rattle.std.proofs.lemmas.List.Sums.{AllPass-from_list_all}
-use Rattle.std.proofs.lemmas.Str.Ascii.{IsAscii-from_all}
 use Rattle.std.specs.List.{list_any, list_all, slice_split, onto_first}
 use Rattle.std.specs.Str.{IsAscii}
 use Rattle.std.proofs.lemmas.Fmt.{digits_decimal}
@@ -13,8 +11,8 @@ use Rattle.std.specs.Fmt.{decimal}
 use Rattle.kube_meta.specs.declared.resources.Resource.{Resource}
 use Rattle.kube_meta.specs.declared.resources.Resource.TheVariants.{Pods, ConfigMaps, Deployments}
 use Rattle.kube_meta.specs.Resources.{plural_of}
-use Rattle.kube_meta.specs.Names.{is_dot, is_slash, is_dns_byte, is_dns_part, is_namespace, is_object_name, IsNamespace, IsObjectName}
-use Rattle.kube_meta.specs.Keys.{IsKey, namespace_of, name_of, joined}
+use Rattle.kube_meta.specs.Names.{is_dot, is_dns_byte, is_dns_part, is_namespace, is_object_name}
+use Rattle.kube_meta.specs.Keys.{IsKey, namespace_of, name_of}
 use Rattle.kube_meta.proofs.RevisionLemmas.{own, all_ascii_digits-list_all}
 use Rattle.list_rules.specs.Tokens.{is_line_feed, IsOneLine}
 use Rattle.list_rules.proofs.TextLemmas.{none_passes}

@@ -1,17 +1,15 @@
 -- Pages that follow each other are the whole list.
-use Rattle.std.proofs.Common.{◌≡◌, ℕ, zero, suc, ◌+◌, ◌<◌, ◌≤◌, Bool, true, false, List, [], ◌∷◌, ◌++◌, map, filter, length, take, drop, Option, Some, None, refl, sym, ap, ◌∙◌, subst, arith, inl, inr, cond, Less, Equal, Greater, Ordering, ltb, option_map, ◌&&◌}
+use Rattle.std.proofs.Common.{◌≡◌, ℕ, zero, suc, ◌+◌, ◌<◌, Bool, true, false, List, [], ◌∷◌, ◌++◌, map, filter, length, take, drop, Option, Some, None, refl, sym, ap, ◌∙◌, subst, arith, inl, inr, Less, Equal, Greater, Ordering, ltb}
 use Rattle.std.proofs.lemmas.Bool.{cases_Bool, and_parts, ltb-true, ltb-false}
 use Rattle.std.proofs.lemmas.Cmp.{nat_list_cmp_total}
 use Rattle.std.proofs.lemmas.Map.Keys.{sorted_head, sorted_tail}
-use Rattle.std.proofs.lemmas.List.{take_all, drop-drop, take-append-drop, length-drop}
+use Rattle.std.proofs.lemmas.List.{take_all, drop-drop, take-append-drop}
 use Rattle.std.specs.Cmp.Lexicographic.{slice_cmp}
 use Rattle.std.specs.List.{list_all, slice_get, AllByRecursion}
-use Rattle.std.specs.List.Sorted.{IsStrictlySortedBy}
 use Rattle.std.specs.Ordering.{nat_cmp, is_lt, ordering_reverse}
 use Rattle.kube_meta.specs.Rows.{RowData, key_of, AreRising}
-use Rattle.select_all.specs.declared.selection.Selection.{Selection}
 use Rattle.select_all.specs.Selecting.{selects}
-use Rattle.list_rules.specs.Pages.{is_behind, behind, page_of, next_of, Page, IsPage, Follow, joined_rows}
+use Rattle.list_rules.specs.Pages.{is_behind, behind, page_of, next_of, Page, Follow, joined_rows}
 use Rattle.list_rules.specs.Laws.{PagesJoin}
 
 -- each row is behind those before it

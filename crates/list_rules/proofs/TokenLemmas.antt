@@ -1,5 +1,5 @@
 -- What is written of a token is read back.
-use Rattle.std.proofs.Common.{◌≡◌, ℕ, zero, suc, ◌^◌, ◌<◌, ◌≤◌, ◌==◌, Bool, true, false, List, [], ◌∷◌, ◌++◌, Option, Some, None, Result, Ok, Err, refl, sym, ap, ◌∙◌, subst, arith, inl, inr, ◌&&◌, ◌||◌, codes, decimal, bytes_eq, option_and_then}
+use Rattle.std.proofs.Common.{◌≡◌, ℕ, ◌^◌, ◌≤◌, ◌==◌, Bool, true, false, List, [], ◌∷◌, Option, Some, Ok, refl, ap, ◌∙◌, arith, inl, inr, ◌||◌, codes, decimal, bytes_eq, option_and_then}
 use Rattle.std.proofs.lemmas.Bool.{cases_Bool, ne_eqb}
 use Rattle.std.proofs.lemmas.List.Folds.{list_any-append}
 use Rattle.std.proofs.lemmas.Slice.Eq.{bytes_eq-Decides}
@@ -9,15 +9,13 @@ use Rattle.base64.specs.GeneralPurpose.{decode_of}
 use Rattle.base64.specs.Engines.{url_safe_no_pad}
 use Rattle.kube_meta.specs.declared.resources.Resource.{Resource}
 use Rattle.kube_meta.specs.declared.resources.Resource.TheVariants.{Pods, ConfigMaps, Deployments}
-use Rattle.kube_meta.specs.declared.revisions.RevNo.{RevNo}
 use Rattle.kube_meta.specs.Resources.{plural_of}
 use Rattle.kube_meta.specs.Revisions.{revision_of}
 use Rattle.kube_meta.specs.Keys.{IsKey, namespace_of, name_of}
 use Rattle.kube_meta.specs.Names.{is_slash}
 use Rattle.kube_meta.proofs.RevisionLemmas.{are_read_back}
 use Rattle.select_all.specs.declared.selection.Selection.{Selection}
-use Rattle.list_rules.specs.declared.refusal.TokenNo.{TokenNo}
-use Rattle.list_rules.specs.Tokens.{TokenTexts, IsOneLine, is_line_feed, line, line_of, texts_of, spaced, list_namespace, token_lines, token_body, token_read, texts_read, is_token, is_of_list, is_plural, is_key}
+use Rattle.list_rules.specs.Tokens.{TokenTexts, IsOneLine, is_line_feed, line, texts_of, spaced, list_namespace, token_lines, token_body, token_read, texts_read, is_of_list, is_plural, is_key}
 use Rattle.list_rules.proofs.TextLemmas.{line_back}
 use Rattle.list_rules.proofs.NameLemmas.{revision_is_one_line, plural_is_one_line, key_is_one_line}
 

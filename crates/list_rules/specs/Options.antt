@@ -1,5 +1,5 @@
 -- The option table of lists and gets: `resourceVersion`, `resourceVersionMatch`, `limit`, `continue` and `sendInitialEvents`, as the Kubernetes API concepts name them ("Resource versions", "Retrieving large results sets in chunks").
-use Rattle.std.specs.Prelude.{◌≡◌, ℕ, Bool, true, false, not, ◌&&◌, ◌==◌, List, [], ◌∷◌, Option, None, Some, Result, Ok, Err, unwrap_or, codes, bytes_eq, IsTrue, if◌then◌else◌}
+use Rattle.std.specs.Prelude.{ℕ, Bool, true, false, not, ◌&&◌, ◌==◌, List, [], ◌∷◌, Option, None, Some, Result, Ok, Err, unwrap_or, codes, bytes_eq, IsTrue, if◌then◌else◌}
 use Rattle.kube_meta.specs.declared.revisions.RevNo.{RevNo}
 use Rattle.kube_meta.specs.Revisions.{revision_of}
 use Rattle.select_all.specs.declared.selection.Meaning.{Meaning}

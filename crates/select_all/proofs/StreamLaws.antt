@@ -1,17 +1,15 @@
 -- Events and transitions: from one revision to another, and as the log grows; and that a listing is one list.
-use Rattle.std.proofs.Common.{◌≡◌, ℕ, ◌≤◌, ◌-◌, max, List, [], ◌∷◌, ◌++◌, fold, filter_map, drop, take, length, refl, sym, ap, ◌∙◌, subst, append_assoc, inl, inr, arith}
+use Rattle.std.proofs.Common.{◌≡◌, ℕ, ◌≤◌, ◌-◌, max, List, [], ◌∷◌, ◌++◌, fold, filter_map, drop, take, refl, sym, ap, ◌∙◌, append_assoc, inl, inr, arith}
 use Rattle.std.proofs.lemmas.Bool.{cases_lt}
 use Rattle.std.proofs.lemmas.List.{drop_all, length-take}
 use Rattle.std.proofs.lemmas.List.Elements.{filter_map-append}
 use Rattle.kube_meta.specs.declared.resources.Resource.{Resource}
-use Rattle.kube_meta.specs.Rows.{RowData}
 use Rattle.rev_log.specs.Changes.{RevisionData}
-use Rattle.rev_log.specs.Logs.{Log, grown, end_of, upto, between}
+use Rattle.rev_log.specs.Logs.{Log, grown, end_of, between}
 use Rattle.rev_log.specs.States.{row_next, row_at}
 use Rattle.rev_log.proofs.GrowthLemmas.{upto-grown, row_at-grown, between-joined, row_at-between}
 use Rattle.rev_log.proofs.StateLemmas.{are_unique}
-use Rattle.select_all.specs.declared.selection.Selection.{Selection}
-use Rattle.select_all.specs.Streams.{EventData, Standing, events_in, events_from, events, transition, transitions}
+use Rattle.select_all.specs.Streams.{EventData, Standing, events_in, events_from, events, transition}
 use Rattle.select_all.specs.Listings.{listing}
 use Rattle.select_all.specs.Laws.{ListingsAreUnique, TransitionsJoin, TransitionsStay}
 

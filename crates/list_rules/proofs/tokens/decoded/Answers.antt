@@ -1,6 +1,6 @@
-use Rattle.std.proofs.Common.{◌≡◌, sym, ap, subst}
+use Rattle.std.proofs.Common.{sym, ap, subst}
 use Rattle.std.specs.Result.{result_ok}
-use Rattle.base64.specs.GeneralPurpose.{IsDecodeFailure, decode_of}
+use Rattle.base64.specs.GeneralPurpose.{IsDecodeFailure}
 use Rattle.base64.specs.Engines.{url_safe_no_pad}
 use Rattle.list_rules.specs.Tokens.{token_body}
 use Rattle.list_rules.proofs.tokens.decoded.Goals as goal
