@@ -41,7 +41,7 @@ module _ (kept taken rest : List ℕ) (n : ℕ) (either : (length kept ≤ n) �
       → FillsBody (kept ++ taken) (take n kept ++ rest) (drop n kept) left f f' r
   fills left f f' (Ok u) h = joined h
   fills left f f' (Err CutShort) h = (fewer h.0, h.1)
-  fills left f f' (Err ReadFault) h = h
+  fills left f f' (Err ReadFault) h = (h.0, fewer h.1)
   fills left f f' (Err Malformed) h = h
   fills left f f' (Err HeadTooLong) h = h
   fills left f f' (Err TooManyHeaders) h = h
@@ -132,7 +132,7 @@ breaks-off bytes h after body kept left f f' TooManyHeaders has e p = absurd p
 breaks-off bytes h after body kept left f f' BodyTooLong has e p = absurd p
 breaks-off bytes h after body kept left f f' NeedsLength has e p = absurd p
 breaks-off bytes h after body kept left f f' CutShort has e p = (inr (h, after, length body, has, e, p.0), p.1)
-breaks-off bytes h after body kept left f f' ReadFault has e p = p
+breaks-off bytes h after body kept left f f' ReadFault has e p = (p.0, inr (inr (h, after, length body, has, e, p.1)))
 breaks-off bytes h after body kept left f f' Memory has e p = absurd p
 
 -- a head that isn't read
@@ -144,7 +144,7 @@ no-head bytes spans left f f' TooManyHeaders p = inl p
 no-head bytes spans left f f' BodyTooLong p = absurd p
 no-head bytes spans left f f' NeedsLength p = absurd p
 no-head bytes spans left f f' CutShort p = (inl p.0, p.1)
-no-head bytes spans left f f' ReadFault p = p
+no-head bytes spans left f f' ReadFault p = (p.0, elim p.1 [ inl none ↦ inl none | inr ends ↦ inr (inl ends) ])
 no-head bytes spans left f f' Memory p = absurd p
 
 -- a whole request
@@ -177,7 +177,7 @@ pub reads-later : (bytes : List ℕ) (answer : Result (Option Req) ReqNo) (kept 
     → f ≤ f' → f' ≤ f'' → Reads bytes answer kept left f' f'' → Reads bytes answer kept left f f''
 reads-later bytes (Ok (Some req)) kept left f f' f'' p q h = h
 reads-later bytes (Ok None) kept left f f' f'' p q h = h
-reads-later bytes (Err ReadFault) kept left f f' f'' p q h = rose-later f f' f'' p q h
+reads-later bytes (Err ReadFault) kept left f f' f'' p q h = (rose-later f f' f'' p q h.0, h.1)
 reads-later bytes (Err Memory) kept left f f' f'' p q h = h
 reads-later bytes (Err CutShort) kept left f f' f'' p q h = h
 reads-later bytes (Err Malformed) kept left f f' f'' p q h = h

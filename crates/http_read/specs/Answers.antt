@@ -3,7 +3,7 @@ use Rattle.std.specs.Prelude.{◌≡◌, ℕ, List, [], ◌++◌, Option, None, 
 use Rattle.edge_io.specs.Told.{IsExhausted, prepended}
 use Rattle.edge_io.specs.Counts.{Rose}
 use Rattle.http_read.specs.Readers.{ReaderState}
-use Rattle.http_read.specs.Requests.{ReadsOne, IsRefused, IsCutShort}
+use Rattle.http_read.specs.Requests.{ReadsOne, IsRefused, IsCutShort, IsUnfinished}
 use Rattle.http_read.specs.declared.request.Req.{Req}
 use Rattle.http_read.specs.declared.refusal.ReqNo.{ReqNo}
 use Rattle.http_read.specs.declared.refusal.ReqNo.TheVariants.{Malformed, HeadTooLong, TooManyHeaders, BodyTooLong, NeedsLength, CutShort, ReadFault, Memory}
@@ -12,7 +12,7 @@ use Rattle.http_read.specs.declared.refusal.ReqNo.TheVariants.{Malformed, HeadTo
 abbrev pub Reads : List ℕ → Result (Option Req) ReqNo → List ℕ → Option (List ℕ) → ℕ → ℕ → Type 0
 Reads bytes (Ok (Some req)) kept left old_faults new_faults = ReadsOne bytes req kept
 Reads bytes (Ok None) kept left old_faults new_faults = (bytes ≡ []) × IsExhausted left × (kept ≡ [])
-Reads bytes (Err ReadFault) kept left old_faults new_faults = Rose old_faults new_faults
+Reads bytes (Err ReadFault) kept left old_faults new_faults = Rose old_faults new_faults × IsUnfinished bytes
 Reads bytes (Err Memory) kept left old_faults new_faults = kept ≡ bytes
 Reads bytes (Err CutShort) kept left old_faults new_faults = IsCutShort bytes × IsExhausted left
 Reads bytes (Err Malformed) kept left old_faults new_faults = IsRefused bytes Malformed

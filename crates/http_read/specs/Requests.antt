@@ -78,6 +78,10 @@ EndsInBody bytes =
 abbrev pub IsCutShort : List ℕ → Type 0
 IsCutShort bytes = EndsInHead bytes ⊎ EndsInBody bytes
 
+-- what a fault of the source may leave: no byte, or a beginning of a request that is neither whole nor refused
+abbrev pub IsUnfinished : List ℕ → Type 0
+IsUnfinished bytes = (bytes ≡ []) ⊎ IsCutShort bytes
+
 -- how a row of requests ends
 pub data Ending : Type 0 where
   clean cut_short : Ending

@@ -1,5 +1,5 @@
 -- The steps in which a reader reads one request.
-use Rattle.std.specs.Prelude.{◌≡◌, ℕ, ◌<◌, ◌≤◌, List, [], ◌++◌, length, take, map, Option, None, Some, Result, Ok, Err}
+use Rattle.std.specs.Prelude.{◌≡◌, ℕ, ◌<◌, ◌≤◌, ◌⊎◌, List, [], ◌++◌, length, take, map, Option, None, Some, Result, Ok, Err}
 use Rattle.httparse.specs.Grammar.{RequestHead, HasNoRequest, MayBecomeRequest}
 use Rattle.httparse.specs.Spans.{IsRequestAt, IsRequestWithin, header_bytes, span_bytes}
 use Rattle.httparse.specs.declared.spans.HeaderSpan.{HeaderSpan}
@@ -40,7 +40,7 @@ abbrev pub ReadsHead : List ℕ → List HeaderSpan → Option (List ℕ) → �
 ReadsHead bytes spans left old_faults new_faults (Ok (Some found)) = FindsHead bytes spans found
 ReadsHead bytes spans left old_faults new_faults (Ok None) = (bytes ≡ []) × IsExhausted left
 ReadsHead bytes spans left old_faults new_faults (Err CutShort) = EndsInHead bytes × IsExhausted left
-ReadsHead bytes spans left old_faults new_faults (Err ReadFault) = Rose old_faults new_faults
+ReadsHead bytes spans left old_faults new_faults (Err ReadFault) = Rose old_faults new_faults × ((bytes ≡ []) ⊎ EndsInHead bytes)
 ReadsHead bytes spans left old_faults new_faults (Err Malformed) = RefusesHead bytes Malformed
 ReadsHead bytes spans left old_faults new_faults (Err HeadTooLong) = RefusesHead bytes HeadTooLong
 ReadsHead bytes spans left old_faults new_faults (Err TooManyHeaders) = RefusesHead bytes TooManyHeaders
@@ -52,7 +52,7 @@ ReadsHead bytes spans left old_faults new_faults (Err Memory) = ⊥
 abbrev pub FillsBody : List ℕ → List ℕ → List ℕ → Option (List ℕ) → ℕ → ℕ → Result (Unit {0}) ReqNo → Type 0
 FillsBody came body kept left old_faults new_faults (Ok u) = came ≡ body ++ kept
 FillsBody came body kept left old_faults new_faults (Err CutShort) = (length came < length body) × IsExhausted left
-FillsBody came body kept left old_faults new_faults (Err ReadFault) = Rose old_faults new_faults
+FillsBody came body kept left old_faults new_faults (Err ReadFault) = Rose old_faults new_faults × (length came < length body)
 FillsBody came body kept left old_faults new_faults (Err Malformed) = ⊥
 FillsBody came body kept left old_faults new_faults (Err HeadTooLong) = ⊥
 FillsBody came body kept left old_faults new_faults (Err TooManyHeaders) = ⊥

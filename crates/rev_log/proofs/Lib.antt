@@ -1,4 +1,5 @@
 pub mod ChangeLemmas
+pub mod FitLemmas
 pub mod GrowthLemmas
 pub mod MapLemmas
 pub mod StateLemmas

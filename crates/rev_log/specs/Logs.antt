@@ -1,6 +1,7 @@
 -- A log as plain data. It is read by position: the revision at place i, from 0, is first + 1 + i, whatever number it carries.
 use Rattle.std.specs.Prelude.{◌≡◌, ℕ, ◌+◌, ◌-◌, ◌^◌, ◌≤◌, List, [], ◌∷◌, ◌++◌, length, take, drop, All}
 use Rattle.kube_meta.specs.Rows.{RowData, AreRising}
+use Rattle.rev_front.specs.Passes.{FitFrom}
 use Rattle.rev_log.specs.Changes.{RevisionData, IsRevision}
 
 -- the revision of the base, the pods that stood then, and what was accepted since
@@ -29,6 +30,16 @@ between log from to = drop (from - log.first) (upto log to)
 abbrev pub AreNumbered : ℕ → List RevisionData → Type 0
 AreNumbered first [] = Unit {0}
 AreNumbered first (revision ∷ more) = (revision.rev ≡ first + 1) × AreNumbered (first + 1) more
+
+-- the revisions that may stand at a number of a log
+abbrev pub Fits : ℕ → RevisionData → Type 0
+Fits at revision = (revision.rev ≡ at) × IsRevision revision
+
+-- where each revision fits its place, each carries the number of its place, and is one
+abbrev pub FittingLogsAreNumbered : Type 0
+FittingLogsAreNumbered =
+    (first : ℕ) (revisions : List RevisionData) → FitFrom Fits first revisions →
+    AreNumbered first revisions × All IsRevision revisions
 
 -- a log as it should be: sorted base rows that are not younger than the base, revisions that carry their numbers, none above 2 ^ 62
 pub record IsLog (log : Log) : Type 0 where

@@ -1,6 +1,7 @@
 ghost use Rattle.std.specs.Prelude.{◌≡◌, [], ◌∷◌, IfOk};
 
 use kube_meta::{Key, Memory, Obj, Resource};
+use rev_front::Entry;
 use std::alloc::Global;
 use std::marker::Model;
 use std::sync::Arc;
@@ -56,6 +57,12 @@ impl Revision {
         changes.push(change)?;
         Ok(Revision { rev, changes })
     }
+}
+
+impl Entry for Revision {
+    ghost use Rattle.rev_log.specs.Logs.{Fits};
+
+    ghost fits = { Fits };
 }
 
 impl Clone for Change {

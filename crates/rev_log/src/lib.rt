@@ -6,7 +6,7 @@ mod changes;
 mod states;
 
 pub use changes::{Change, Revision};
-pub use states::{state, states_are_unique};
+pub use states::{fitting_logs_are_numbered, state, states_are_unique};
 
 #[cfg(test)]
 mod tests;

@@ -3,7 +3,7 @@ ghost use Rattle.std.specs.BTreeMap.{values};
 ghost use Rattle.std.specs.Option.{option_or};
 ghost use Rattle.kube_meta.specs.Resources.{same_resource};
 ghost use Rattle.kube_meta.specs.Rows.{key_of, row_with};
-ghost use Rattle.rev_log.specs.Logs.{Log, AreNumbered};
+ghost use Rattle.rev_log.specs.Logs.{Log, AreNumbered, FittingLogsAreNumbered};
 ghost use Rattle.rev_log.specs.Rows.{Holds, Follows, row_next_upto};
 ghost use Rattle.rev_log.specs.States.{IsStateAt, StatesAreUnique, row_after, row_next, row_in_base};
 
@@ -36,6 +36,11 @@ pub fn state(
 /// A resource has one list of rows at a revision.
 pub fn states_are_unique()
     ensures { StatesAreUnique }
+{}
+
+/// Revisions of which each fits its place in a log are numbered by their places.
+pub fn fitting_logs_are_numbered()
+    ensures { FittingLogsAreNumbered }
 {}
 
 // The rows of the base by their keys: pods alone.
