@@ -1,0 +1,175 @@
+-- What a request asks for, or why it is refused: by its path, its method, its selectors, its options and its body, in this order.
+use Rattle.std.specs.Prelude.{◌≡◌, ℕ, List, Bool, false, Option, Some, None, Result, Ok, Err, codes, option_map}
+use Rattle.std.specs.Bool.{MatchBool}
+use Rattle.std.specs.Option.{option_map_or}
+use Rattle.serde_json.specs.Data.{Data}
+use Rattle.kube_meta.specs.Keys.{joined}
+use Rattle.kube_meta.specs.Revisions.{revision_of}
+use Rattle.kube_meta.specs.declared.revisions.RevNo.{RevNo}
+use Rattle.kube_meta.specs.declared.resources.Resource.{Resource}
+use Rattle.http_read.specs.Queries.{first_value, is_truth}
+use Rattle.http_read.specs.declared.request.Req.{Req}
+use Rattle.select_all.specs.Reading.{selection_of}
+use Rattle.select_all.specs.declared.selection.Selection.{Selection}
+use Rattle.list_rules.specs.Options.{Pairs, given, text_of, number_of, of_get}
+use Rattle.list_rules.specs.Asking.{ask_of}
+use Rattle.watch_rules.specs.Options.{first_fault, MeansWatch}
+use Rattle.json_obj.specs.Objects.{IsTextOf, refusal, IsObjectOf, Stores}
+use Rattle.json_obj.specs.declared.refusals.ObjNo.{ObjNo}
+use Rattle.json_obj.specs.declared.refusals.ObjNo.TheVariants as object_no
+use Rattle.up_store.specs.declared.writes.WriteAsk.TheVariants as write
+use Rattle.up_store.specs.declared.operations.Operate.TheVariants as operate
+use Rattle.route_req.specs.Places.{Names, action_at}
+use Rattle.route_req.specs.Texts.{AsksTransaction, RefusesText}
+use Rattle.route_req.specs.declared.places.Place.{Place}
+use Rattle.route_req.specs.declared.places.Action.{Action}
+use Rattle.route_req.specs.declared.places.Action.TheVariants.{Read, Create, Get, Replace, Remove, Cut, Compact, Restart, Transact}
+use Rattle.route_req.specs.declared.transactions.TxTextNo.TheVariants as text_no
+use Rattle.route_req.specs.declared.routing.Routed.{Routed}
+use Rattle.route_req.specs.declared.routing.Routed.TheVariants as routed
+use Rattle.route_req.specs.declared.routing.RouteNo.{RouteNo}
+use Rattle.route_req.specs.declared.routing.RouteNo.TheVariants as route_no
+
+-- a read of a collection is a watch exactly where the truth parameter `watch` is true
+abbrev pub is_watch : Pairs → Bool
+is_watch params = option_map_or is_truth (first_value (codes "watch") params) false
+
+-- what the texts of the two selectors are read as
+abbrev pub IsSelection : Resource → Option (List ℕ) → Pairs → Selection → Type 0
+IsSelection r ns params s = selection_of r ns (text_of (codes "labelSelector") params) (text_of (codes "fieldSelector") params) ≡ Ok s
+
+-- the revision of a compaction
+abbrev pub compacts_at : Pairs → Option (Result ℕ RevNo)
+compacts_at params = option_map revision_of (given (codes "revision") params)
+
+-- why a body holds no object for the path
+abbrev pub RefusesBody : Resource → List ℕ → Option (List ℕ) → List ℕ → ObjNo → Type 0
+RefusesBody r ns name body object_no.NotJson = (d : Data) → ¬ (IsTextOf body d)
+RefusesBody r ns name body fault = (d : Data) × IsTextOf body d × (refusal r ns name d ≡ Some fault)
+
+-- ---- what is asked for at a place that has the method
+
+abbrev pub AsksList : Selection → Pairs → Routed → Type 0
+AsksList s params (routed.List ask) = ask_of s params ≡ Ok ask
+AsksList s params answer = ⊥
+
+abbrev pub AsksWatch : Selection → Pairs → Routed → Type 0
+AsksWatch s params (routed.Watch ask) = MeansWatch s params ask
+AsksWatch s params answer = ⊥
+
+abbrev pub AsksRead : Resource → Option (List ℕ) → Pairs → Routed → Type 0
+AsksRead r ns params answer =
+    (s : Selection) × IsSelection r ns params s
+    × MatchBool (is_watch params) (AsksWatch s params answer) (AsksList s params answer)
+
+abbrev pub AsksCreate : Resource → List ℕ → List ℕ → Routed → Type 0
+AsksCreate r ns body (routed.Write (write.Create resource obj)) =
+    (resource ≡ r) × (d : Data) × IsTextOf body d × (refusal r ns None d ≡ None) × IsObjectOf r ns d obj
+AsksCreate r ns body answer = ⊥
+
+abbrev pub AsksReplace : Resource → List ℕ → List ℕ → List ℕ → Routed → Type 0
+AsksReplace r ns name body (routed.Write (write.Replace resource obj revision)) =
+    (resource ≡ r) × (d : Data) × IsTextOf body d × (refusal r ns (Some name) d ≡ None) × Stores r ns d (obj, revision)
+AsksReplace r ns name body answer = ⊥
+
+-- on one object `watch` and the body are ignored
+abbrev pub AsksGet : Resource → List ℕ → List ℕ → Pairs → Routed → Type 0
+AsksGet r ns name params (routed.Get ask) =
+    (ask.resource ≡ r) × (ask.key ≡ joined ns name)
+    × (of_get (number_of (given (codes "resourceVersion") params)) ≡ Ok ask.meaning)
+AsksGet r ns name params answer = ⊥
+
+abbrev pub AsksCompact : Pairs → Routed → Type 0
+AsksCompact params (routed.Operate (operate.Compact at)) = compacts_at params ≡ Some (Ok at)
+AsksCompact params answer = ⊥
+
+abbrev pub AsksTransact : List ℕ → Routed → Type 0
+AsksTransact body (routed.Transact transaction) = AsksTransaction body transaction
+AsksTransact body answer = ⊥
+
+abbrev pub AsksRemove : Resource → List ℕ → List ℕ → Routed → Type 0
+AsksRemove r ns name answer = answer ≡ routed.Write (write.Remove r (joined ns name))
+
+abbrev pub Asks : Action → Req → Routed → Type 0
+Asks (Read r ns) req answer = AsksRead r ns req.params answer
+Asks (Create r ns) req answer = AsksCreate r ns req.body answer
+Asks (Get r ns name) req answer = AsksGet r ns name req.params answer
+Asks (Replace r ns name) req answer = AsksReplace r ns name req.body answer
+Asks (Remove r ns name) req answer = AsksRemove r ns name answer
+Asks Cut req answer = answer ≡ routed.Operate operate.Cut
+Asks Compact req answer = AsksCompact req.params answer
+Asks Restart req answer = answer ≡ routed.Operate operate.Restart
+Asks Transact req answer = AsksTransact req.body answer
+
+-- ---- why it is refused there; want of memory may come anywhere
+
+abbrev pub RefusesList : Selection → Pairs → RouteNo → Type 0
+RefusesList s params (route_no.List fault) = ask_of s params ≡ Err fault
+RefusesList s params route_no.Memory = Unit {0}
+RefusesList s params fault = ⊥
+
+abbrev pub RefusesWatch : Pairs → RouteNo → Type 0
+RefusesWatch params (route_no.Watch fault) = first_fault params ≡ Some fault
+RefusesWatch params fault = ⊥
+
+-- the selectors first, then the options of the watch or of the list
+abbrev pub RefusesRead : Resource → Option (List ℕ) → Pairs → RouteNo → Type 0
+RefusesRead r ns params (route_no.Selector fault) =
+    selection_of r ns (text_of (codes "labelSelector") params) (text_of (codes "fieldSelector") params) ≡ Err fault
+RefusesRead r ns params route_no.Memory = Unit {0}
+RefusesRead r ns params fault =
+    (s : Selection) × IsSelection r ns params s
+    × MatchBool (is_watch params) (RefusesWatch params fault) (RefusesList s params fault)
+
+-- how the refusal of a body is told
+abbrev pub refused_object : ObjNo → RouteNo
+refused_object object_no.Memory = route_no.Memory
+refused_object fault = route_no.Object fault
+
+abbrev pub RefusesObject : Resource → List ℕ → Option (List ℕ) → List ℕ → RouteNo → Type 0
+RefusesObject r ns name body (route_no.Object fault) = RefusesBody r ns name body fault
+RefusesObject r ns name body route_no.Memory = Unit {0}
+RefusesObject r ns name body fault = ⊥
+
+abbrev pub RefusesGet : Pairs → RouteNo → Type 0
+RefusesGet params (route_no.List fault) = of_get (number_of (given (codes "resourceVersion") params)) ≡ Err fault
+RefusesGet params route_no.Memory = Unit {0}
+RefusesGet params fault = ⊥
+
+-- the parameter is absent or is no revision
+abbrev pub RefusesCompact : Pairs → RouteNo → Type 0
+RefusesCompact params route_no.Operation = (at : ℕ) → ¬ (compacts_at params ≡ Some (Ok at))
+RefusesCompact params route_no.Memory = Unit {0}
+RefusesCompact params fault = ⊥
+
+abbrev pub RefusesTransact : List ℕ → RouteNo → Type 0
+RefusesTransact body (route_no.Transaction text_no.Memory) = ⊥
+RefusesTransact body (route_no.Transaction fault) = RefusesText body fault
+RefusesTransact body route_no.Memory = Unit {0}
+RefusesTransact body fault = ⊥
+
+abbrev pub Refuses : Action → Req → RouteNo → Type 0
+Refuses (Read r ns) req fault = RefusesRead r ns req.params fault
+Refuses (Create r ns) req fault = RefusesObject r ns None req.body fault
+Refuses (Get r ns name) req fault = RefusesGet req.params fault
+Refuses (Replace r ns name) req fault = RefusesObject r ns (Some name) req.body fault
+Refuses (Remove r ns name) req fault = fault ≡ route_no.Memory
+Refuses Cut req fault = ⊥
+Refuses Compact req fault = RefusesCompact req.params fault
+Refuses Restart req fault = ⊥
+Refuses Transact req fault = RefusesTransact req.body fault
+
+-- ---- the whole: the path before the method, and both before all else
+
+-- the route of what the path names and the method asks for there
+abbrev pub IsRoute : Req → Routed → Type 0
+IsRoute req answer =
+    (place : Place) × (action : Action) × Names req.path place × (action_at place req.method ≡ Some action) × Asks action req answer
+
+-- no place has the path; or the place that has it hasn't the method; or what the method asks for there is refused
+abbrev pub IsRefusal : Req → RouteNo → Type 0
+IsRefusal req route_no.NoPath = (place : Place) → ¬ (Names req.path place)
+IsRefusal req route_no.NoMethod = (place : Place) × Names req.path place × (action_at place req.method ≡ None)
+IsRefusal req route_no.Memory = Unit {0}
+IsRefusal req fault =
+    (place : Place) × (action : Action) × Names req.path place × (action_at place req.method ≡ Some action) × Refuses action req fault

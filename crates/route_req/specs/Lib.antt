@@ -1,0 +1,4 @@
+pub mod Places
+pub mod Lookup
+pub mod Texts
+pub mod Asks

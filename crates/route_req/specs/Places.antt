@@ -1,0 +1,85 @@
+-- Which paths and methods are served: those of the Kubernetes API for three resources ("Resource URIs" of the API concepts), and four of the server's own.
+use Rattle.std.specs.Prelude.{◌≡◌, ℕ, List, [], ◌∷◌, ◌++◌, codes, Option, Some, None, if◌then◌else◌}
+use Rattle.std.specs.Str.{bytes_eq}
+use Rattle.kube_meta.specs.Names.{IsNamespace, IsObjectName}
+use Rattle.kube_meta.specs.Resources.{plural_of}
+use Rattle.kube_meta.specs.declared.resources.Resource.{Resource}
+use Rattle.kube_meta.specs.declared.resources.Resource.TheVariants.{Pods, ConfigMaps, Deployments}
+use Rattle.route_req.specs.declared.places.Place.{Place}
+use Rattle.route_req.specs.declared.places.Place.TheVariants.{Everywhere, Namespaced, Named, OfCut, OfCompact, OfRestart, OfTransaction}
+use Rattle.route_req.specs.declared.places.Action.{Action}
+use Rattle.route_req.specs.declared.places.Action.TheVariants.{Read, Create, Get, Replace, Remove, Cut, Compact, Restart, Transact}
+
+-- ---- the table of paths
+
+-- what the paths of a resource begin with
+abbrev pub base_of : Resource → List (List ℕ)
+base_of Pods = codes "api" ∷ codes "v1" ∷ []
+base_of ConfigMaps = codes "api" ∷ codes "v1" ∷ []
+base_of Deployments = codes "apis" ∷ codes "apps" ∷ codes "v1" ∷ []
+
+-- the path of each place, in segments
+abbrev pub path_of : Place → List (List ℕ)
+path_of (Everywhere r) = base_of r ++ plural_of r ∷ []
+path_of (Namespaced r ns) = base_of r ++ codes "namespaces" ∷ ns ∷ plural_of r ∷ []
+path_of (Named r ns name) = base_of r ++ codes "namespaces" ∷ ns ∷ plural_of r ∷ name ∷ []
+path_of OfCut = codes "watchcache" ∷ codes "cut" ∷ []
+path_of OfCompact = codes "watchcache" ∷ codes "compact" ∷ []
+path_of OfRestart = codes "watchcache" ∷ codes "restart" ∷ []
+path_of OfTransaction = codes "watchcache" ∷ codes "transaction" ∷ []
+
+-- its namespace and its name, where it has them, are in the grammars
+abbrev pub IsPlace : Place → Type 0
+IsPlace (Everywhere r) = Unit {0}
+IsPlace (Namespaced r ns) = IsNamespace ns
+IsPlace (Named r ns name) = IsNamespace ns × IsObjectName name
+IsPlace OfCut = Unit {0}
+IsPlace OfCompact = Unit {0}
+IsPlace OfRestart = Unit {0}
+IsPlace OfTransaction = Unit {0}
+
+-- the path is that of the place
+abbrev pub Names : List (List ℕ) → Place → Type 0
+Names path place = (path ≡ path_of place) × IsPlace place
+
+-- the place that the path names, or none where it names none
+abbrev pub NamesMaybe : List (List ℕ) → Option Place → Type 0
+NamesMaybe path (Some place) = Names path place
+NamesMaybe path None = (place : Place) → ¬ (Names path place)
+
+-- no path names two places
+abbrev pub PathsNameOnePlace : Type 0
+PathsNameOnePlace = (path : List (List ℕ)) (a b : Place) → Names path a → Names path b → a ≡ b
+
+-- ---- the table of methods
+
+-- the own paths have POST alone
+abbrev pub posted : Action → List ℕ → Option Action
+posted action method = if bytes_eq method (codes "POST") then Some action else None
+
+-- what a method asks for at a place, if the place has it
+abbrev pub action_at : Place → List ℕ → Option Action
+action_at (Everywhere r) method = if bytes_eq method (codes "GET") then Some (Read r None) else None
+action_at (Namespaced r ns) method =
+    if bytes_eq method (codes "GET") then Some (Read r (Some ns)) else
+    (if bytes_eq method (codes "POST") then Some (Create r ns) else None)
+action_at (Named r ns name) method =
+    if bytes_eq method (codes "GET") then Some (Get r ns name) else
+    (if bytes_eq method (codes "PUT") then Some (Replace r ns name) else
+    (if bytes_eq method (codes "DELETE") then Some (Remove r ns name) else None))
+action_at OfCut method = posted Cut method
+action_at OfCompact method = posted Compact method
+action_at OfRestart method = posted Restart method
+action_at OfTransaction method = posted Transact method
+
+-- the namespace and the name of what is asked for are in the grammars
+abbrev pub IsAction : Action → Type 0
+IsAction (Read r ns) = Unit {0}
+IsAction (Create r ns) = IsNamespace ns
+IsAction (Get r ns name) = IsNamespace ns × IsObjectName name
+IsAction (Replace r ns name) = IsNamespace ns × IsObjectName name
+IsAction (Remove r ns name) = IsNamespace ns × IsObjectName name
+IsAction Cut = Unit {0}
+IsAction Compact = Unit {0}
+IsAction Restart = Unit {0}
+IsAction Transact = Unit {0}
