@@ -1,0 +1,4 @@
+pub mod HandshakeLemmas
+pub mod MessageLemmas
+pub mod ClientLemmas
+pub mod WritingLemmas
