@@ -1,0 +1,55 @@
+-- What a pump does to a cache, to what it follows and to the pass that it is lent.
+use Rattle.std.specs.Prelude.{◌≡◌, ℕ, zero, suc, ◌<◌, ◌≤◌, ◌⊎◌, Option, Some, None, option_map}
+use Rattle.kube_meta.specs.declared.resources.Resource.{Resource}
+use Rattle.rev_front.specs.Passes.{Pass}
+use Rattle.rev_log.specs.Changes.{RevisionData}
+use Rattle.up_api.specs.Sections.{counted}
+use Rattle.up_api.specs.declared.feeds.Feed.{Feed}
+
+-- a reflector: the resource, how many changes it polls at a time, and the feed that it follows
+pub record ReflectorState : Type 0 where
+  pub resource : Resource
+  pub batch : ℕ
+  pub feed : Option Feed
+
+-- the feed, if there is one, is of this resource
+abbrev pub HasFeedOf : Resource → Option Feed → Type 0
+HasFeedOf resource (Some feed) = feed.resource ≡ resource
+HasFeedOf resource None = Unit {0}
+
+-- a feed of a resource that is complete up to a revision, of a generation between two
+pub record FeedsFrom (resource : Resource) (upto low high : ℕ) (feed : Feed) : Type 0 where
+  pub resource_is : feed.resource ≡ resource
+  pub upto_is : feed.upto ≡ upto
+  pub low_gen : low ≤ feed.gen_
+  pub high_gen : feed.gen_ ≤ high
+
+-- the generation in which the feed was begun, or the one that the pass knows where there is no feed
+abbrev pub generation_of : Option Feed → Pass RevisionData → ℕ
+generation_of (Some feed) p = feed.gen_
+generation_of None p = p.gen
+
+-- the feed is of no later generation than the pass knows
+abbrev pub IsKnown : Option Feed → Pass RevisionData → Type 0
+IsKnown (Some feed) p = feed.gen_ ≤ p.gen
+IsKnown None p = Unit {0}
+
+-- a count that goes up by so many
+abbrev pub raised : ℕ → ℕ → ℕ
+raised zero n = n
+raised (suc more) n = counted (raised more n)
+
+-- why a cache that ended at a revision is built anew: the log was compacted past it, or the feeds were cut in this call
+abbrev pub HasCause : ℕ → Pass RevisionData → Pass RevisionData → Type 0
+HasCause end p q = (end < q.floor) ⊎ (p.gen < q.gen)
+
+-- a count stands, or it went up by one for a cause
+abbrev pub RisesFor : Type 0 → ℕ → ℕ → Type 0
+RisesFor cause old new = (new ≡ old) ⊎ ((new ≡ counted old) × cause)
+
+-- the same of a count that may not be told
+abbrev pub MayRiseFor : Type 0 → Option ℕ → Option ℕ → Type 0
+MayRiseFor cause old new = (new ≡ old) ⊎ ((new ≡ option_map counted old) × cause)
+
+abbrev pub raised_where_told : ℕ → Option ℕ → Option ℕ
+raised_where_told more count = option_map (raised more) count
