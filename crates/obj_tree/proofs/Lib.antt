@@ -1,0 +1,5 @@
+pub mod MapLemmas
+pub mod PageLemmas
+pub mod SearchLemmas
+pub mod EditLemmas
+pub mod MapEdits

@@ -1,0 +1,96 @@
+-- Rows in pages: lists of 1 to 64 rows, of which any two neighbours hold more than 32 together.
+use Rattle.std.specs.Prelude.{◌≡◌, ℕ, suc, ◌+◌, ◌-◌, ◌<◌, ◌≤◌, Bool, true, not, List, [], ◌∷◌, ◌++◌, map, length, take, drop, nat_lt, if◌then◌else◌, slice_index_or}
+use Rattle.std.specs.List.{list_all}
+use Rattle.std.specs.declared.sync.Arc.{Arc}
+use Rattle.kube_meta.specs.Rows.{RowData, key_of, AreRising}
+use Rattle.obj_tree.specs.Maps.{is_below, is_above}
+
+-- what the shared pointers point to
+abbrev pub values_of : {X Z : Type 0} → List (Arc X Z) → List X
+values_of pointers = map (λ pointer. pointer.value) pointers
+
+-- the rows of all pages, one page after the other
+abbrev pub joined : List (List RowData) → List RowData
+joined [] = []
+joined (page ∷ pages) = page ++ joined pages
+
+-- each page holds 1 to 64 rows
+abbrev pub AreSized : List (List RowData) → Type 0
+AreSized [] = Unit {0}
+AreSized (page ∷ pages) = (0 < length page) × (length page ≤ 64) × AreSized pages
+
+-- two neighbours hold more than 32 rows together
+abbrev pub FullWith : List RowData → List (List RowData) → Type 0
+FullWith page [] = Unit {0}
+FullWith page (next ∷ pages) = 32 < length page + length next
+
+abbrev pub AreFull : List (List RowData) → Type 0
+AreFull [] = Unit {0}
+AreFull (page ∷ pages) = FullWith page pages × AreFull pages
+
+pub record IsPaged (pages : List (List RowData)) : Type 0 where
+  pub sized : AreSized pages
+  pub full : AreFull pages
+  pub rising : AreRising (joined pages)
+
+-- pages that hold these rows
+pub record ArePagesOf (pages : List (List RowData)) (rows : List RowData) : Type 0 where
+  pub rows_are : joined pages ≡ rows
+  pub sized : AreSized pages
+  pub full : AreFull pages
+
+-- the page at a place, and none past the end
+abbrev pub page_at : List (List RowData) → ℕ → List RowData
+page_at pages at = slice_index_or pages at []
+
+-- the lists from one place up to another replaced by others
+abbrev pub replaced : List (List RowData) → ℕ → ℕ → List (List RowData) → List (List RowData)
+replaced pages from to others = take from pages ++ (others ++ drop to pages)
+
+-- a row in place of those from one place up to another
+abbrev pub row_put : List RowData → ℕ → ℕ → RowData → List RowData
+row_put rows from to row = take from rows ++ row ∷ drop to rows
+
+-- a page without the row at a place
+abbrev pub row_gone : List RowData → ℕ → List RowData
+row_gone rows at = take at rows ++ drop (at + 1) rows
+
+-- a page that holds too many rows is two
+abbrev pub divided : List RowData → List (List RowData)
+divided page = if nat_lt 64 (length page) then take 32 page ∷ drop 32 page ∷ [] else page ∷ []
+
+-- a page holds at most 32 rows together with the one before a place, and with the one after it
+abbrev pub FitsBefore : List (List RowData) → ℕ → List RowData → Type 0
+FitsBefore pages at page = (0 < at) × (length (page_at pages (at - 1)) + length page ≤ 32)
+
+abbrev pub FitsAfter : List (List RowData) → ℕ → List RowData → Type 0
+FitsAfter pages at page = (at + 1 < length pages) × (length page + length (page_at pages (at + 1)) ≤ 32)
+
+-- a page doesn't begin above a key
+abbrev pub begins_by : List ℕ → List RowData → Bool
+begins_by key [] = true
+begins_by key (row ∷ rows) = not (is_above key row)
+
+-- the page at a place is the one in which a key stands, or would stand
+pub record IsPageFor (pages : List (List RowData)) (key : List ℕ) (at : ℕ) : Type 0 where
+  pub inside : at < length pages
+  pub before : list_all (is_below key) (joined (take at pages)) ≡ true
+  pub after : list_all (is_above key) (joined (drop (suc at) pages)) ≡ true
+
+-- the row at a place has the key
+pub record IsRowAt (rows : List RowData) (key : List ℕ) (at : ℕ) : Type 0 where
+  pub inside : at < length rows
+  pub before : list_all (is_below key) (take at rows) ≡ true
+  pub has_key : (row : RowData) → key_of (slice_index_or rows at row) ≡ key
+  pub after : list_all (is_above key) (drop (suc at) rows) ≡ true
+
+-- no row has the key, and a place is where it would go
+pub record IsGapAt (rows : List RowData) (key : List ℕ) (at : ℕ) : Type 0 where
+  pub inside : at ≤ length rows
+  pub before : list_all (is_below key) (take at rows) ≡ true
+  pub after : list_all (is_above key) (drop at rows) ≡ true
+
+-- a place in the first page, or the very beginning where there is none
+abbrev pub IsWithin : ℕ → List (List RowData) → Type 0
+IsWithin place [] = place ≡ 0
+IsWithin place (page ∷ pages) = place < length page

@@ -1,0 +1,19 @@
+//! The current objects of one resource in the order of their keys, in shared pages: a snapshot shares
+//! the pages, and a change copies only the page that it changes.
+#![tactic(auto)]
+
+mod laws;
+mod page;
+mod pages;
+mod rows;
+mod search;
+mod snapshot;
+mod tree;
+
+pub use laws::{puts_are_updates, puts_stay_rising, removals_are_updates, removals_stay_rising};
+pub use rows::Rows;
+pub use snapshot::Snapshot;
+pub use tree::Tree;
+
+#[cfg(test)]
+mod tests;

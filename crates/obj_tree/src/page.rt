@@ -1,0 +1,141 @@
+ghost use Rattle.std.specs.Prelude.{◌≡◌, ◌++◌, ◌∷◌, [], ◌≤◌, ◌<◌, length, take, drop, IfOk, OnOk};
+ghost use Rattle.kube_meta.specs.Rows.{key_of as row_key};
+ghost use Rattle.obj_tree.specs.Pages.{values_of, begins_by, row_put, row_gone};
+
+use encode_once::Shown;
+use kube_meta::{Key, Memory};
+use std::alloc::Global;
+use std::marker::Model;
+use std::sync::Arc;
+
+/// Some rows that stand next to each other. Seen in contracts as their list.
+#[derive(Drop)]
+pub(crate) struct Page {
+    rows: Vec<Arc<Shown>>,
+}
+
+impl Model for Page {
+    ghost use Rattle.std.specs.Prelude.{List};
+    ghost use Rattle.kube_meta.specs.Rows.{RowData};
+    ghost use Rattle.obj_tree.specs.Pages.{values_of};
+
+    ghost Value = { List RowData };
+
+    ghost view = { λ p. values_of p.rows.items };
+}
+
+impl Page {
+    // The rows.
+    pub(crate) fn rows(&self) -> &[Arc<Shown>]
+        ensures { values_of result.now ≡ self.now }
+    {
+        &self.rows
+    }
+
+    // How many rows there are.
+    pub(crate) fn len(&self) -> usize
+        ensures { result ≡ length self.now }
+    {
+        self.rows.len()
+    }
+
+    // Whether the first row isn't above a key.
+    pub(crate) fn begins_by(&self, key: &Key) -> bool
+        ensures { result ≡ begins_by key.now self.now }
+    {
+        match self.rows.first() {
+            Some(shown) => !key.cmp(key_of(shown)).is_lt(),
+            None => true,
+        }
+    }
+
+    // A page of one row.
+    pub(crate) fn one(alloc: Global, shown: Arc<Shown>) -> Result<Page, Memory>
+        ensures { IfOk result (λ page. page ≡ shown.value ∷ []) }
+    {
+        let mut rows = Vec::new(alloc);
+        rows.push(shown)?;
+        Ok(Page { rows })
+    }
+
+    // A copy with a row in place of those from a place up to another.
+    pub(crate) fn with(
+        &self,
+        alloc: Global,
+        from: usize,
+        to: usize,
+        shown: Arc<Shown>,
+    ) -> Result<Page, Memory>
+        requires order { from ≤ to }
+        requires inside { to ≤ length self.now }
+        ensures { IfOk result (λ page. page ≡ row_put self.now from to shown.value) }
+    {
+        let (front, _) = self.rows.split_at(from);
+        let (_, back) = self.rows.split_at(to);
+        let mut rows = Vec::with_capacity(alloc, self.rows.len() + 1)?;
+        share(&mut rows, front)?;
+        rows.push(shown)?;
+        share(&mut rows, back)?;
+        Ok(Page { rows })
+    }
+
+    // A copy without the row at a place.
+    pub(crate) fn except(&self, alloc: Global, place: usize) -> Result<Page, Memory>
+        requires { place < length self.now }
+        ensures { IfOk result (λ page. page ≡ row_gone self.now place) }
+    {
+        let (front, _) = self.rows.split_at(place);
+        let (_, back) = self.rows.split_at(place + 1);
+        joined(alloc, front, back)
+    }
+
+    // The rows of this page and then those of another, as one page.
+    pub(crate) fn joined(&self, alloc: Global, next: &Page) -> Result<Page, Memory>
+        ensures { IfOk result (λ page. page ≡ self.now ++ next.now) }
+    {
+        joined(alloc, &self.rows, &next.rows)
+    }
+
+    // The rows up to a place, and those from it on.
+    pub(crate) fn split(&self, alloc: Global, place: usize) -> Result<(Page, Page), Memory>
+        requires { place ≤ length self.now }
+        ensures { IfOk result (λ halves. (halves.0 ≡ take place self.now) × (halves.1 ≡ drop place self.now)) }
+    {
+        let (front, back) = self.rows.split_at(place);
+        Ok((copied(alloc, front)?, copied(alloc, back)?))
+    }
+}
+
+/// The key of a shared object.
+pub(crate) fn key_of(shown: &Shown) -> &Key
+    ensures { result.now ≡ row_key shown.now }
+{
+    &shown.row().obj.key
+}
+
+fn joined(alloc: Global, front: &[Arc<Shown>], back: &[Arc<Shown>]) -> Result<Page, Memory>
+    ensures { IfOk result (λ page. page ≡ values_of front.now ++ values_of back.now) }
+{
+    let mut rows = Vec::new(alloc);
+    share(&mut rows, front)?;
+    share(&mut rows, back)?;
+    Ok(Page { rows })
+}
+
+fn copied(alloc: Global, from: &[Arc<Shown>]) -> Result<Page, Memory>
+    ensures { IfOk result (λ page. page ≡ values_of from.now) }
+{
+    let mut rows = Vec::new(alloc);
+    share(&mut rows, from)?;
+    Ok(Page { rows })
+}
+
+// Puts shared rows behind others.
+fn share(rows: &mut Vec<Arc<Shown>>, more: &[Arc<Shown>]) -> Result<(), Memory>
+    ensures { OnOk result (values_of rows.new.items ≡ values_of rows.old.items ++ values_of more.now) }
+{
+    for shown in more {
+        rows.push(Arc::try_clone(shown)?)?;
+    }
+    Ok(())
+}
