@@ -12,13 +12,14 @@ use Rattle.route_req.specs.declared.places.Action.TheVariants.{Read, Create, Get
 
 -- ---- the table of paths
 
--- what the paths of a resource begin with
+-- what the paths of a resource begin with: /api/v1 in the core group, /apis/apps/v1 in the group `apps`
 abbrev pub base_of : Resource → List (List ℕ)
 base_of Pods = codes "api" ∷ codes "v1" ∷ []
 base_of ConfigMaps = codes "api" ∷ codes "v1" ∷ []
 base_of Deployments = codes "apis" ∷ codes "apps" ∷ codes "v1" ∷ []
 
--- the path of each place, in segments
+-- the path of each place, in segments: behind the base path /{resource}, /namespaces/{ns}/{resource} and
+-- /namespaces/{ns}/{resource}/{name}; and /watchcache/cut, /compact, /restart and /transaction
 abbrev pub path_of : Place → List (List ℕ)
 path_of (Everywhere r) = base_of r ++ plural_of r ∷ []
 path_of (Namespaced r ns) = base_of r ++ codes "namespaces" ∷ ns ∷ plural_of r ∷ []

@@ -15,13 +15,17 @@ pub(crate) enum Place {
     Namespaced(Resource, Text),
     /// The object of a resource with this namespace and name.
     Named(Resource, Text, Text),
+    /// `/watchcache/cut`.
     OfCut,
+    /// `/watchcache/compact`.
     OfCompact,
+    /// `/watchcache/restart`.
     OfRestart,
+    /// `/watchcache/transaction`.
     OfTransaction,
 }
 
-/// What a method asks for at a place.
+/// What a method asks for at a place: a resource, then a namespace, then a name.
 #[derive(Debug, Drop)]
 pub(crate) enum Action {
     /// A list or a watch, in one namespace or in all.

@@ -1,1 +1,4 @@
+pub mod Kept
+pub mod Stores
 pub mod Transactions
+pub mod Writes

@@ -1,12 +1,20 @@
 //! What clients of an API server's store ask for and are answered: writes, transactions of several
-//! writes at one revision, and operations on the log.
+//! writes at one revision, and operations on the log. And the store itself.
 #![tactic(auto)]
 
+mod committing;
+mod kept;
 mod operations;
+mod parts;
+mod reading;
+mod store;
+mod tables;
 mod transactions;
 mod writes;
+mod writing;
 
 pub use operations::{OpNo, Operate};
+pub use store::Store;
 pub use transactions::{Transaction, TxNo, TxWriteNo};
 pub use writes::{WriteAsk, WriteNo, Written};
 

@@ -125,7 +125,7 @@ fn is_of_same(a: &WriteAsk, b: &WriteAsk) -> bool
     resource_of(a) == resource_of(b) && key_of(a) == key_of(b)
 }
 
-fn resource_of(ask: &WriteAsk) -> Resource
+pub(crate) fn resource_of(ask: &WriteAsk) -> Resource
     ensures { let target = target_of ask.now in result ≡ target.0 }
 {
     match ask {
@@ -135,7 +135,7 @@ fn resource_of(ask: &WriteAsk) -> Resource
     }
 }
 
-fn key_of(ask: &WriteAsk) -> &Key
+pub(crate) fn key_of(ask: &WriteAsk) -> &Key
     ensures { let target = target_of ask.now in result.now ≡ target.1 }
 {
     match ask {

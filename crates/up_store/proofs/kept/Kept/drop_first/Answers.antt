@@ -1,0 +1,17 @@
+-- The floor's rows make the first revision, or the first changes of it.
+use Rattle.std.proofs.Common.{◌≡◌, ◌<◌, ◌∷◌, ◌++◌, refl, sym, ap, ◌∙◌, arith}
+use Rattle.std.specs.Option.{option_to_list}
+use Rattle.up_store.proofs.KeptLemmas.{dropped, dropping}
+use Rattle.up_store.proofs.kept.Kept.drop_first.Goals as goal
+
+pub returns-in_err-apply-clause-keeps : goal.returns-in_err-apply-clause-keeps
+returns-in_err-apply-clause-keeps c = λ log floor below keeps.
+    dropping log floor c.index.result.now c.args.self.now _ below (omega (arith, c.requires.some)) c.index.ensures refl refl refl refl c.in_err-apply.ensures.partly keeps
+
+pub returns-clause-keeps : goal.returns-clause-keeps
+returns-clause-keeps c = λ log floor below keeps.
+    let some : 0 < c.args.self.now.revisions.len = omega (arith, c.requires.some, c.args.self.now.revisions.ok.0) in
+    let first : c.args.self.now.revisions.items ≡ c.index.result.now ∷ c.pop_front.new.self.items =
+    c.pop_front.ensures.items ∙ ap (λ o. option_to_list o ++ c.pop_front.new.self.items) (c.pop_front.ensures.value c.index.result.now some)
+    ∙ ap (λ r. r ∷ c.pop_front.new.self.items) (sym c.index.ensures) in
+    dropped log floor c.index.result.now c.args.self.now _ below c.requires.whole first refl refl refl c.in_ok-apply.ensures.done keeps

@@ -1,0 +1,13 @@
+-- What the store polls is of its own log, which the pass knows.
+use Rattle.std.proofs.Common.{sym, subst}
+use Rattle.rev_log.specs.Logs.{Log}
+use Rattle.up_api.specs.Feeds.{IsPoll}
+use Rattle.up_store.specs.Stores.{log_in}
+use Rattle.up_store.proofs.StoreLemmas.{met-log}
+use Rattle.up_store.proofs.reading.StoreUpstream.poll.Goals as goal
+
+pub returns-clause-polled : goal.returns-clause-polled
+returns-clause-polled g c =
+    subst (λ (log : Log). IsPoll log c.args.feed.now.resource c.args.feed.now.upto c.args.max c.in_ok-polled.polled)
+    (sym (met-log g.N.LogFacts.base c.self.inside.pen c.args.told.now c.meet.new.told c.in_ok-meet.ensures.met))
+    (c.in_ok-polled.ensures (log_in g.N.LogFacts.base c.self.inside.pen) c.self.inside.pen.floor c.self.invariant.keeps)

@@ -1,0 +1,71 @@
+-- What a store keeps of its log: the rows of each resource at its compaction floor and at its end, and the revisions after the floor.
+use Rattle.std.specs.Prelude.{◌≡◌, ℕ, ◌+◌, ◌^◌, ◌<◌, ◌≤◌, List, length, take, fold, Option}
+use Rattle.std.specs.BTreeMap.{BTreeMap}
+use Rattle.std.specs.VecDeque.{deque_len, deque_capacity}
+use Rattle.kube_meta.specs.Rows.{RowData}
+use Rattle.kube_meta.specs.declared.resources.Resource.{Resource}
+use Rattle.kube_meta.specs.declared.resources.Resource.TheVariants.{Pods, ConfigMaps, Deployments}
+use Rattle.rev_log.specs.Changes.{RevisionData}
+use Rattle.rev_log.specs.Logs.{Log, end_of, between, AreNumbered}
+use Rattle.rev_log.specs.Rows.{Holds, Follows}
+use Rattle.rev_log.specs.States.{row_after, row_next, row_at}
+use Rattle.up_store.specs.declared.kept.Kept.{Kept}
+use Rattle.up_store.specs.declared.tables.Tables.{Tables}
+
+-- the rows of one resource
+abbrev pub rows_of : Tables → Resource → BTreeMap (List ℕ) RowData
+rows_of tables Pods = tables.pods
+rows_of tables ConfigMaps = tables.config_maps
+rows_of tables Deployments = tables.deployments
+
+-- the row that stands at each key of each resource
+abbrev pub Standing : Type 0
+Standing = Resource → List ℕ → Option RowData
+
+-- each resource's rows are these
+abbrev pub HoldEach : Tables → Standing → Type 0
+HoldEach tables stands = (resource : Resource) → Holds (rows_of tables resource) (stands resource)
+
+-- each resource's rows have made this revision's changes
+abbrev pub HaveMade : RevisionData → Tables → Tables → Type 0
+HaveMade revision old new =
+    (resource : Resource) → Follows (rows_of old resource) (rows_of new resource) (λ key row. row_next resource key row revision)
+
+-- one resource's rows have made the first of this revision's changes
+abbrev pub HasBegun : Resource → RevisionData → BTreeMap (List ℕ) RowData → BTreeMap (List ℕ) RowData → Type 0
+HasBegun resource revision old new =
+    (n : ℕ) × Follows old new (λ key row. fold (row_after resource key revision.rev) row (take n revision.changes))
+
+-- each resource's rows have
+abbrev pub HaveBegun : RevisionData → Tables → Tables → Type 0
+HaveBegun revision old new = (resource : Resource) → HasBegun resource revision (rows_of old resource) (rows_of new resource)
+
+-- where the revisions above `from` are made again upon the tables, the log's rows stand at each revision from `least` on
+pub record Replay (log : Log) (from least : ℕ) (tables : Tables) : Type 0 where
+  pub stands : Standing
+  pub holds : HoldEach tables stands
+  pub replays : (resource : Resource) (key : List ℕ) (at : ℕ) → least ≤ at → at ≤ end_of log →
+      fold (row_next resource key) (stands resource key) (between log from at) ≡ row_at log resource at key
+
+-- what is kept of a log with this floor
+pub record Keeps (log : Log) (floor : ℕ) (kept : Kept) : Type 0 where
+  pub numbered : AreNumbered log.first log.revisions
+  pub ends : end_of log ≤ 2 ^ 62
+  pub begun : log.first ≤ kept.from
+  pub within : kept.from ≤ floor
+  pub reached : floor ≤ end_of log
+  pub revisions : kept.revisions.items ≡ between log kept.from (end_of log)
+  pub floor_rows : Replay log kept.from floor kept.floor_rows
+  pub followed : kept.from ≤ kept.last_at
+  pub behind : kept.last_at ≤ end_of log
+  pub last_rows : Replay log kept.last_at (end_of log) kept.last_rows
+
+-- its numbers are in order, and none is above 2 ^ 62
+pub record AreBounded (kept : Kept) : Type 0 where
+  pub followed : kept.from ≤ kept.last_at
+  pub behind : kept.last_at ≤ kept.from + length kept.revisions.items
+  pub bounded : kept.from + length kept.revisions.items ≤ 2 ^ 62
+
+-- there is room for one more revision
+abbrev pub HasRoom : Kept → Type 0
+HasRoom kept = deque_len kept.revisions < deque_capacity kept.revisions

@@ -1,0 +1,141 @@
+ghost use Rattle.std.specs.Prelude.{◌≡◌, ◌≤◌, [], false, IfOk, OnOk, OnErr};
+ghost use Rattle.rev_front.specs.Passes.{empty_log, pass_from, end_from};
+ghost use Rattle.up_api.specs.Sections.{Learns};
+ghost use Rattle.up_store.specs.Stores.{HasMet, IsCutAnswer, IsCompactionAnswer, OperationTells};
+
+use crate::OpNo;
+use crate::committing::raise;
+use crate::kept::Kept;
+use crate::tables::Tables;
+use kube_meta::Memory;
+use rev_front::{Blank, Pen, start};
+use rev_log::Revision;
+use std::alloc::Global;
+use std::collections::VecDeque;
+use std::marker::Model;
+use up_api::{LogFacts, Pass};
+
+/// The greatest revision, and the greatest generation of feeds: 2 ^ 62.
+pub(crate) const LAST: u64 = 1 << 62;
+
+/// The store of an API server: one log of what was accepted. Contracts see the whole log; the code keeps the rows at the
+/// compaction floor and at the log's end, and the revisions after the floor. Each call that takes a pass is one section, after
+/// which the pass knows the whole log.
+#[derive(Drop)]
+pub struct Store<N: LogFacts> {
+    pub(crate) alloc: Global,
+    pub(crate) pen: Pen<Revision, N>,
+    pub(crate) kept: Kept,
+    // Whether the log is a mirror's, which takes its revisions from its peer alone.
+    pub(crate) mirror: bool,
+    // How many revisions the floor is behind the log's end at most, once the log is longer than that.
+    pub(crate) history: u64,
+    pub(crate) reads: u64,
+}
+
+impl<N: LogFacts> Model for Store<N> {
+    ghost use Rattle.up_store.specs.Stores.{StoreData, IsStore};
+
+    ghost Value = { StoreData };
+
+    ghost view = { λ s. record { whole = s.pen; history = s.history; reads = s.reads } };
+
+    ghost invariant = { λ s. IsStore N.base N.mirror s.pen s.kept s.mirror s.history s.reads };
+}
+
+impl<N: LogFacts> Store<N> {
+    /// The store of a new log, whose floor follows its end `history` revisions behind.
+    pub fn new(alloc: Global, blank: Blank<Revision>, history: u64) -> Result<Store<N>, Memory>
+        requires name { blank ≡ N.log }
+        requires base { N.base ≡ [] }
+        requires own { N.mirror ≡ false }
+        requires history { 1 ≤ history }
+        ensures { IfOk result (λ store. store ≡ record { whole = empty_log N.log.first; history = history; reads = 0 }) }
+    {
+        let pen: Pen<Revision, N> = start(blank);
+        let first = pen.revision();
+        let kept = Kept {
+            from: first,
+            revisions: VecDeque::new(alloc),
+            floor_rows: Tables::new(alloc),
+            last_rows: Tables::new(alloc),
+            last_at: first,
+        };
+        Ok(Store {
+            alloc,
+            pen,
+            kept,
+            mirror: false,
+            history,
+            reads: 0,
+        })
+    }
+
+    /// A pass that knows the whole log.
+    pub fn pass(&mut self) -> Result<Pass<N>, Memory>
+        ensures same { self.new ≡ self.old }
+        ensures pass { IfOk result (λ p. p ≡ pass_from self.old.whole p.seat) }
+    {
+        Ok(self.pen.front()?)
+    }
+
+    /// How many times states and histories were read, refused calls included, up to 2 ^ 62.
+    pub fn reads(&self) -> u64
+        ensures { result ≡ self.now.reads }
+    {
+        self.reads
+    }
+
+    /// Cuts all feeds: their next polls are refused. Answers the new generation of feeds.
+    pub fn drop_feeds(&mut self, told: &mut Pass<N>) -> Result<u64, OpNo>
+        ensures learns { Learns told.old told.new }
+        ensures answer { IsCutAnswer self.old.whole self.new.whole result }
+        ensures tells { OperationTells self.new.whole told.new result }
+        ensures rest { self.new ≡ record self.old { whole = self.new.whole } }
+    {
+        meet(&mut self.pen, told)?;
+        if self.pen.generation() == LAST {
+            return Err(OpNo::UsedUp { at: LAST });
+        }
+        let generation = self.pen.cut();
+        meet(&mut self.pen, told)?;
+        Ok(generation)
+    }
+
+    /// Compacts the log: states and feeds below the revision `at` are refused from then on. Answers the floor.
+    pub fn compact(&mut self, at: u64, told: &mut Pass<N>) -> Result<u64, OpNo>
+        ensures learns { Learns told.old told.new }
+        ensures answer { IsCompactionAnswer at self.old.whole self.new.whole result }
+        ensures tells { OperationTells self.new.whole told.new result }
+        ensures rest { self.new ≡ record self.old { whole = self.new.whole } }
+    {
+        meet(&mut self.pen, told)?;
+        let floor = self.pen.floor();
+        if at < floor {
+            return Err(OpNo::Compacted { asked: at, floor });
+        }
+        let current = self.pen.revision();
+        if current < at {
+            return Err(OpNo::Future { asked: at, current });
+        }
+        raise(&mut self.pen, &mut self.kept, at);
+        meet(&mut self.pen, told)?;
+        Ok(at)
+    }
+}
+
+/// One section's learning: the pen learns what the pass knows, and the pass what the pen does.
+pub(crate) fn meet<N: LogFacts>(
+    pen: &mut Pen<Revision, N>,
+    told: &mut Pass<N>,
+) -> Result<(), Memory>
+    ensures same { pen.new ≡ pen.old }
+    ensures met { OnOk result (HasMet pen.old told.old told.new) }
+    ensures kept { OnErr result (told.new ≡ told.old) }
+{
+    let asked = told.split()?;
+    let _ = pen.learn(asked);
+    let fresh = pen.front()?;
+    let _ = told.meet(fresh);
+    Ok(())
+}
