@@ -1,7 +1,7 @@
 -- Lemmas on what ends tell.
-use Rattle.std.proofs.Common.{◌≡◌, ℕ, ◌+◌, ◌-◌, List, [], ◌++◌, None, Some, length, take, drop, refl, sym, ap, ◌∙◌, append_assoc, append-nil, take-append-drop, take_all, take-add, length-drop, arith}
-use Rattle.std.specs.Prelude.{Option}
-use Rattle.edge_io.specs.Told.{appended, prepended, AppendedSome}
+use Rattle.std.proofs.Common.{◌≡◌, ℕ, ◌+◌, ◌-◌, List, [], ◌++◌, None, Some, length, take, drop, refl, sym, ap, ◌∙◌, append_assoc, append-nil, take-append-drop, take_all, take-add, length-drop, subst, arith}
+use Rattle.std.specs.Prelude.{Option, IsSome}
+use Rattle.edge_io.specs.Told.{appended, prepended, AppendedSome, Noted}
 
 -- two texts went out, one after the other
 pub appended-appended : {A : Type 0} (old : Option (List A)) (first second : List A)
@@ -68,3 +68,20 @@ appended-next old mid new bytes at n before now =
 pub AppendedSome-front : (old new : Option (List ℕ)) (bytes : List ℕ) (at : ℕ)
     → new ≡ appended old (take at bytes) → AppendedSome old new bytes
 AppendedSome-front old new bytes at e = (take at bytes, drop at bytes, sym (take-append-drop at bytes), e)
+
+-- nothing was noted
+pub Noted-nil : {A : Type 0} (old : Option (List A)) → Noted old old []
+Noted-nil old told = sym (appended-nil old)
+
+-- what was appended to is told where the whole is
+told_before : {A : Type 0} (mid : Option (List A)) (more : List A) → IsSome (appended mid more) → IsSome mid
+told_before None more told = told
+told_before (Some sofar) more told = refl
+
+-- what was noted first and what was noted then join
+pub Noted-join : {A : Type 0} (old mid new : Option (List A)) (first second : List A)
+    → Noted old mid first → Noted mid new second → Noted old new (first ++ second)
+Noted-join old mid new first second before now told =
+    let e = now told in
+    let mid_told = told_before mid second (subst IsSome e told) in
+    e ∙ ap (λ m. appended m second) (before mid_told) ∙ appended-appended old first second

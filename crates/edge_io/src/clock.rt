@@ -1,3 +1,5 @@
+//! What shows the time of a session.
+
 ghost use Rattle.std.specs.Prelude.{◌≡◌, ℕ, ◌≤◌, List, [], ◌∷◌, Option};
 ghost use Rattle.edge_io.specs.Told.{Noted};
 ghost use Rattle.edge_io.specs.declared.clock.Reading.{Reading};

@@ -1,3 +1,5 @@
+//! The bytes that a sink holds back until they are flushed.
+
 ghost use Rattle.std.specs.Prelude.{◌≡◌, ◌+◌, ◌-◌, ◌<◌, ◌≤◌, ◌↔◌, [], ◌++◌, IsTrue, length, min, take};
 
 use std::alloc::Global;
@@ -46,6 +48,13 @@ impl Held {
         ensures { IsTrue result ↔ (self.now.room ≤ length self.now.bytes) }
     {
         self.len >= self.buffer.len()
+    }
+
+    /// Whether nothing is held back and `bytes` would fill the room by themselves.
+    pub(crate) fn is_filled_by(&self, bytes: &[u8]) -> bool
+        ensures { IsTrue result ↔ ((self.now.bytes ≡ []) × (self.now.room ≤ length bytes.now)) }
+    {
+        self.len == 0 && self.buffer.len() <= bytes.len()
     }
 
     /// Forgets the bytes.

@@ -1,3 +1,5 @@
+//! Ends in memory, which tell in their contracts what goes through them.
+
 ghost use Rattle.std.specs.Prelude.{◌≡◌, ℕ, ◌+◌, ◌<◌, ◌≤◌, ◌↔◌, [], ◌∷◌, ◌++◌, min, length, take, drop, Some, IsTrue, IfOk, OnOk, OnErr, IsErr, Contains};
 ghost use Rattle.edge_io.specs.Counts.{counted};
 ghost use Rattle.edge_io.specs.Memory.{after_read, after_read_fault, after_write, after_write_fault, fresh_source, fresh_sink};
@@ -162,6 +164,8 @@ impl Sink for MemSink {
     ghost written = { λ s. Some s.written };
 
     ghost faults = { λ s. s.faults };
+
+    ghost settled = { λ _. Unit {0} };
 
     // Where the text can't grow for want of memory, that is counted as a fault too.
     fn write(&mut self, bytes: &[u8]) -> Result<usize, Failed>

@@ -1,3 +1,5 @@
+//! A net in memory: a list of connections that is handed out.
+
 ghost use Rattle.std.specs.Prelude.{◌≡◌, ◌+◌, ◌<◌, ◌^◌, ◌↔◌, [], ◌∷◌, IfOk, IfSome, OnErr, OnOk, IsOk, IsNone, IsErr, length};
 ghost use Rattle.edge_io.specs.Memory.{Connection, next_peer, IsFirstDialled};
 ghost use Rattle.edge_io.specs.Net.{handed_out, failures, faulty, faulty_ends};

@@ -1,3 +1,5 @@
+//! What accepts connections.
+
 ghost use Rattle.std.specs.Prelude.{◌≡◌, ℕ, ◌+◌, ◌<◌, ◌≤◌, ◌^◌, List, Option, Some, None, IfOk, IfSome, IfNone};
 ghost use Rattle.edge_io.specs.Net.{handed_out, failures, faulty, faulty_ends};
 

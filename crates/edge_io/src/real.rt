@@ -1,3 +1,5 @@
+//! Standard input and output and the system's clock as ends.
+
 ghost use Rattle.std.specs.Prelude.{◌≡◌, ◌↔◌, IsTrue, ℕ, ◌+◌, ◌-◌, ◌<◌, ◌≤◌, [], None, OnOk, OnErr, IfOk, length};
 ghost use Rattle.edge_io.specs.Counts.{Rose};
 
@@ -53,9 +55,9 @@ impl<R: Read> Source for ReadEnd<R> {
     }
 }
 
-/// A sink over what the system writes to, as standard output or a TCP stream. It holds back up to 64 KiB, which go out when
-/// they are full and at each [`Sink::flush`]. Where there is no memory for that, it holds back nothing. It tells no
-/// content. Once it failed it stays failed, so that nothing goes out behind a gap.
+/// A sink over what the system writes to, as standard output or a TCP stream. It holds back up to 64 KiB, which go
+/// out when they are full and at each [`Sink::flush`]. Where there is no memory for that, it holds back nothing. It
+/// tells no content. Once it failed it stays failed, so that nothing goes out behind a gap.
 #[derive(Drop)]
 pub struct WriteEnd<W> {
     to: W,
@@ -99,6 +101,7 @@ impl<W: Write> WriteEnd<W> {
     // Writes out what is held back.
     fn pour(&mut self) -> Result<(), Failed>
         ensures emptied { OnOk result (self.new.held ≡ record self.old.held { bytes = [] }) }
+        ensures quiet { OnOk result (self.new.faults ≡ self.old.faults) }
         ensures counted { OnErr result (Rose self.old.faults self.new.faults) }
         ensures never_falls { self.old.faults ≤ self.new.faults }
     {
@@ -144,6 +147,9 @@ impl<W: Write> Sink for WriteEnd<W> {
 
     ghost faults = { λ end. end.faults };
 
+    ghost settled = { λ end. end.held.bytes ≡ [] };
+
+    // Bytes that would fill the room by themselves aren't copied.
     fn write(&mut self, bytes: &[u8]) -> Result<usize, Failed> {
         if self.broken {
             return Err(self.fail());
@@ -154,9 +160,8 @@ impl<W: Write> Sink for WriteEnd<W> {
         if self.held.is_full() {
             self.pour()?;
         }
-        let taken = self.held.take(bytes);
-        if taken > 0 {
-            return Ok(taken);
+        if !self.held.is_filled_by(bytes) {
+            return Ok(self.held.take(bytes));
         }
         match write_some(&mut self.to, bytes) {
             Ok(n) => Ok(n),
@@ -179,8 +184,9 @@ impl<W: Write> Sink for WriteEnd<W> {
 /// How many milliseconds a [`SystemClock`] rests.
 const REST_MS: u64 = 20;
 
-/// The system's clock, in milliseconds since it was made. It never asks to stop, and a rest of it gives up the thread's turn
-/// for about 20 ms. It tells no readings. Where the system's clock can't be read, it shows what it showed before.
+/// The system's clock, in milliseconds since it was made. It never asks to stop, and a rest of it gives up the
+/// thread's turn for about 20 ms. It tells no readings. Where the system's clock can't be read, it shows what it
+/// showed before.
 #[derive(Drop)]
 pub struct SystemClock<R> {
     rt: R,

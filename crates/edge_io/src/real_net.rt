@@ -1,3 +1,5 @@
+//! TCP as a net.
+
 ghost use Rattle.std.specs.Prelude.{◌≡◌, ◌+◌, ◌<◌, ◌^◌, None, IfOk};
 ghost use Rattle.edge_io.specs.Net.{failures, faulty, faulty_ends};
 

@@ -1,4 +1,6 @@
-ghost use Rattle.std.specs.Prelude.{◌≡◌, ℕ, ◌<◌, ◌≤◌, List, length, take, Option, None, IfOk, OnErr};
+//! Where bytes come from.
+
+ghost use Rattle.std.specs.Prelude.{◌≡◌, ℕ, ◌<◌, ◌≤◌, List, length, take, Option, None, IfOk, OnOk, OnErr};
 ghost use Rattle.edge_io.specs.Told.{prepended, IsExhausted};
 ghost use Rattle.edge_io.specs.Counts.{Rose};
 
@@ -19,6 +21,7 @@ pub trait Source {
         ensures taken { IfOk result (λ n. left self.old ≡ prepended (take n buf.new) (left self.new)) }
         ensures end { IfOk result (λ n. n ≡ 0 → 0 < length buf.new → IsExhausted (left self.new)) }
         ensures kept { OnErr result (left self.new ≡ left self.old) }
+        ensures quiet { OnOk result (faults self.new ≡ faults self.old) }
         ensures counted { OnErr result (Rose (faults self.old) (faults self.new)) }
         ensures never_falls { faults self.old ≤ faults self.new };
 }

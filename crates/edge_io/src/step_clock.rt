@@ -1,3 +1,5 @@
+//! A clock that steps at each reading.
+
 ghost use Rattle.std.specs.Prelude.{◌≡◌, ◌≤◌, ℕ, [], ◌∷◌};
 ghost use Rattle.edge_io.specs.Counts.{counted};
 ghost use Rattle.edge_io.specs.Told.{Noted};
@@ -6,8 +8,8 @@ ghost use Rattle.edge_io.specs.Memory.{step_reading, told_readings, step_last};
 use crate::clock::{Clock, Reading};
 use std::marker::Model;
 
-/// A clock that reads 0 first and 1000 milliseconds more at each reading, as far as that fits into 64 bits, and never asks
-/// to stop. Contracts see it as the number of readings that it made.
+/// A clock that reads 0 first and 1000 milliseconds more at each reading, as far as that fits into 64 bits, and never
+/// asks to stop. Contracts see it as the number of readings that it made.
 #[derive(Debug, Drop)]
 pub struct StepClock {
     made: u64,

@@ -10,5 +10,5 @@ pub loop-at-preserved : goal.loop-at-preserved
 loop-at-preserved g c = record {
   within = omega (arith, c.in-Ok.ensures.within, length-take {A = ℕ}, length-drop {A = ℕ});
   taken = appended-next _ _ _ _ c.loop-at.at c.in-Ok.n c.loop-at.invariant.taken c.in-Ok.ensures.taken;
-  never_falls = omega arith;
+  quiet = c.in-Ok.ensures.quiet ∙ c.loop-at.invariant.quiet;
 }

@@ -7,7 +7,7 @@ abbrev pub invariant-loop-at : goal.invariant-loop-at
 invariant-loop-at g l = record {
   within : l.at ≤ length l.bytes;
   taken : g.Self.Sink.written l.self ≡ appended (g.Self.Sink.written l.initial.self) (take l.at l.bytes);
-  never_falls : g.Self.Sink.faults l.initial.self ≤ g.Self.Sink.faults l.self;
+  quiet : g.Self.Sink.faults l.self ≡ g.Self.Sink.faults l.initial.self;
 }
 
 abbrev pub decreases-loop-at : goal.decreases-loop-at
