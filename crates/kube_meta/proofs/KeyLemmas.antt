@@ -1,11 +1,12 @@
 -- The two parts of a joined text.
-use Rattle.std.proofs.Common.{◌≡◌, ℕ, true, ◌+◌, List, ◌∷◌, ◌++◌, length, sym, ap, ◌∙◌, subst, arith, ap₂, suc, ◌<◌, get_or, length-append}
+use Rattle.std.proofs.Common.{◌≡◌, ℕ, Bool, ◌||◌, true, false, [], take, drop, inl, inr, ltb, drop-cons, refl, ◌+◌, List, ◌∷◌, ◌++◌, length, sym, ap, ◌∙◌, subst, arith, ap₂, suc, ◌<◌, get_or, length-append}
 use Rattle.std.proofs.Math.Seq.{take-append_seam, drop-append-add, get_or-append_seam}
-use Rattle.std.proofs.lemmas.Bool.{and_parts}
-use Rattle.std.specs.List.{list_all, position_or_len}
+use Rattle.std.proofs.lemmas.Bool.{and_parts, cases_Bool, lt-ltb, ltb-true, eqb-true}
+use Rattle.std.proofs.lemmas.List.{take-append-drop}
+use Rattle.std.specs.List.{list_all, list_any, position_or_len}
 use Rattle.kube_meta.specs.Names.{is_slash, is_dns_byte, IsNamespace, IsObjectName}
-use Rattle.kube_meta.specs.Keys.{joined, namespace_of, name_of, IsKey, JoinedTellsApart}
-use Rattle.kube_meta.proofs.NameLemmas.{place_of_slash}
+use Rattle.kube_meta.specs.Keys.{joined, namespace_of, name_of, is_key, IsKey, JoinedTellsApart, KeysAreTested}
+use Rattle.kube_meta.proofs.NameLemmas.{place_of_slash, list_any-position}
 
 -- each byte of a namespace is one of a DNS name
 bytes_of_namespace : (ns : List ℕ) → IsNamespace ns → list_all is_dns_byte ns ≡ true
@@ -41,3 +42,61 @@ slash_at key at is_key place_is =
     let e : key ≡ namespace_of key ++ 47 ∷ name_of key = is_key.parted in
     let long : length key ≡ length (namespace_of key) + suc (length (name_of key)) = ap length e ∙ length-append (namespace_of key) (47 ∷ name_of key) in
     (omega arith, rw place_is (ap (λ text. get_or text (length (namespace_of key)) 0) e ∙ get_or-append_seam (namespace_of key) 47 (name_of key) 0))
+
+-- ---- the first slash of a text
+
+pub any-at : (p : ℕ → Bool) (text : List ℕ) (at : ℕ) → position_or_len p text ≡ at → at < length text → list_any p text ≡ true
+any-at p text at found within = list_any-position p text ∙ ap (λ (n : ℕ). ltb n (length text)) found ∙ lt-ltb at (length text) within
+
+pub any-none : (p : ℕ → Bool) (text : List ℕ) → position_or_len p text ≡ length text → list_any p text ≡ false
+any-none p text none = list_any-position p text ∙ ap (λ (n : ℕ). ltb n (length text)) none ∙ same (length text)
+  where
+    same : (n : ℕ) → ltb n n ≡ false
+    same n = elim (cases_Bool (ltb n n)) [
+      | inl less ↦ let h = ltb-true n n less in absurd (omega arith)
+      | inr not ↦ not
+    ]
+
+-- a text that is cut at a place is the two pieces round the byte there
+pub rejoined : (text : List ℕ) (at b : ℕ) → at < length text → get_or text at 0 ≡ b → take at text ++ b ∷ drop (at + 1) text ≡ text
+rejoined text at b within is =
+    let e : drop at text ≡ get_or text at 0 ∷ drop (suc at) text = drop-cons text at 0 within in
+    let next : suc at ≡ at + 1 = omega arith in
+    ap (λ (x : ℕ). take at text ++ x ∷ drop (at + 1) text) (sym is) ∙ ap (λ (n : ℕ). take at text ++ get_or text at 0 ∷ drop n text) (sym next)
+    ∙ ap (λ (l : List ℕ). take at text ++ l) (sym e) ∙ take-append-drop at text
+
+-- ---- the test for keys
+
+slash_found : (p : ℕ → Bool) (text : List ℕ) → position_or_len p text < length text → p (get_or text (position_or_len p text) 0) ≡ true
+slash_found p [] within = absurd (omega arith)
+slash_found p (b ∷ text) within = elim (cases_Bool (p b)) [
+  | inl here ↦ rw (here, here) refl
+  | inr other ↦
+      let next : position_or_len p (b ∷ text) ≡ suc (position_or_len p text) = rw other (omega arith) in
+      rw next (slash_found p text (omega (arith, next)))
+]
+
+-- with a slash the two pieces around the first one make the text
+parted : (text : List ℕ) → list_any is_slash text ≡ true → text ≡ joined (namespace_of text) (name_of text)
+parted text any =
+    let within : position_or_len is_slash text < length text = ltb-true _ _ (sym (list_any-position is_slash text) ∙ any) in
+    sym (rejoined text (position_or_len is_slash text) 47 within (eqb-true _ 47 (slash_found is_slash text within)))
+
+some_slash : (ns name : List ℕ) → list_any is_slash (ns ++ 47 ∷ name) ≡ true
+some_slash [] name = refl
+some_slash (b ∷ ns) name = either (is_slash b) (list_any is_slash (ns ++ 47 ∷ name)) (some_slash ns name)
+  where
+    either : (a b : Bool) → b ≡ true → (a || b) ≡ true
+    either true b e = refl
+    either false b e = e
+
+pub tested : KeysAreTested
+tested text = (
+  λ passes.
+      let parts = and_parts _ _ passes in
+      let names = and_parts _ _ parts.1 in
+      record { namespace = names.0; name = names.1; parted = parted text parts.0 },
+  λ is.
+      let any : list_any is_slash text ≡ true = ap (list_any is_slash) is.parted ∙ some_slash (namespace_of text) (name_of text) in
+      rw (any, is.namespace, is.name) refl,
+)

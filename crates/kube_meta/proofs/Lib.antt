@@ -1,4 +1,6 @@
 pub mod KeyLemmas
 pub mod LabelLemmas
 pub mod NameLemmas
+pub mod ResourceLemmas
 pub mod RevisionLemmas
+pub mod RowLemmas

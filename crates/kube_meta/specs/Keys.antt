@@ -1,7 +1,7 @@
 -- The key of an object: its namespace and name, joined by `/`. A namespace has no `/`, so the first one parts them again.
-use Rattle.std.specs.Prelude.{◌≡◌, ℕ, List, ◌∷◌, ◌++◌}
-use Rattle.std.specs.List.{before_first, after_first}
-use Rattle.kube_meta.specs.Names.{is_slash, IsNamespace, IsObjectName}
+use Rattle.std.specs.Prelude.{◌≡◌, ◌↔◌, ℕ, Bool, true, ◌&&◌, List, ◌∷◌, ◌++◌}
+use Rattle.std.specs.List.{before_first, after_first, list_any}
+use Rattle.kube_meta.specs.Names.{is_slash, is_namespace, is_object_name, IsNamespace, IsObjectName}
 
 -- `namespace/name`
 abbrev pub joined : List ℕ → List ℕ → List ℕ
@@ -24,3 +24,11 @@ abbrev pub JoinedTellsApart : Type 0
 JoinedTellsApart =
     (ns name other_ns other_name : List ℕ) → IsNamespace ns → IsNamespace other_ns →
     joined ns name ≡ joined other_ns other_name → (ns ≡ other_ns) × (name ≡ other_name)
+
+-- the test of that: a namespace and a name around the first `/`
+abbrev pub is_key : List ℕ → Bool
+is_key text = list_any is_slash text && (is_namespace (namespace_of text) && is_object_name (name_of text))
+
+-- it passes exactly for the texts of keys
+abbrev pub KeysAreTested : Type 0
+KeysAreTested = (text : List ℕ) → (is_key text ≡ true) ↔ IsKey text

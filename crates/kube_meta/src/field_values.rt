@@ -1,3 +1,5 @@
+//! The values of the fields by which objects are selected.
+
 ghost use Rattle.std.specs.Prelude.{◌≡◌, ◌↔◌, [], length, IsTrue, option_copied, slice_get};
 
 use crate::{Memory, Text};

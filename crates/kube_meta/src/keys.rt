@@ -1,14 +1,19 @@
-ghost use Rattle.std.specs.Prelude.{◌≡◌, ◌↔◌, IfOk, OnOk, nat_eq};
+//! Which object of a resource: namespace and name.
+
+ghost use Rattle.std.specs.Prelude.{◌≡◌, ◌↔◌, ◌&&◌, true, false, IfOk, OnOk, MatchOption, nat_eq};
 ghost use Rattle.std.proofs.Common.{rules};
 ghost use Rattle.std.specs.Cmp.{partial_order_from_own_ties};
 ghost use Rattle.std.specs.Cmp.Lexicographic.{pointwise, slice_cmp};
 ghost use Rattle.std.specs.Cmp.Rules.{comparing};
 ghost use Rattle.std.specs.Ordering.{nat_cmp, as_partial_cmp};
-ghost use Rattle.kube_meta.specs.Names.{IsNamespace, IsObjectName};
-ghost use Rattle.kube_meta.specs.Keys.{joined, namespace_of, name_of, IsKey, JoinedTellsApart};
+ghost use Rattle.std.specs.List.{list_any};
+ghost use Rattle.kube_meta.specs.Names as names;
+ghost use Rattle.kube_meta.specs.Names.{IsNamespace, IsObjectName, is_slash};
+ghost use Rattle.kube_meta.specs.Keys.{joined, namespace_of, name_of, is_key, IsKey, JoinedTellsApart, KeysAreTested};
 
 use crate::names::{is_namespace, is_object_name};
 use crate::{Memory, Text};
+use std::alloc::Global;
 use std::cmp::Ordering;
 use std::marker::Model;
 
@@ -62,6 +67,16 @@ impl Key {
         Ok(Key { joined, slash })
     }
 
+    /// The key that a text is: a namespace and an object's name around the first `/`.
+    pub fn read(alloc: Global, text: &[u8]) -> Result<Option<Key>, Memory>
+        ensures { IfOk result (λ key. MatchOption key (is_key text.now ≡ false) (λ k. (is_key text.now ≡ true) × (k ≡ text.now))) }
+    {
+        match around_slash(text) {
+            Some((ns, name)) => key_of_parts(alloc, ns, name),
+            None => Ok(None),
+        }
+    }
+
     /// The namespace.
     pub fn ns(&self) -> &str
         ensures value { result.now ≡ namespace_of self.now }
@@ -84,6 +99,51 @@ impl Key {
         ensures form { IsKey self.now }
     {
         self.joined.as_str()
+    }
+}
+
+// The pieces of a text around its first `/`.
+fn around_slash(text: &[u8]) -> Option<(&[u8], &[u8])>
+    ensures { MatchOption result (list_any is_slash text.now ≡ false) (λ pieces. (list_any is_slash text.now ≡ true)
+        × (pieces.0.now ≡ namespace_of text.now) × (pieces.1.now ≡ name_of text.now) × (joined pieces.0.now pieces.1.now ≡ text.now)) }
+{
+    match text.iter().position(|b| *b == b'/') {
+        Some(at) => Some((&text[..at], &text[at + 1..])),
+        None => None,
+    }
+}
+
+// The key with that namespace and name, if they are ones.
+fn key_of_texts(alloc: Global, ns: &str, name: &str) -> Result<Option<Key>, Memory>
+    ensures { IfOk result (λ key. MatchOption key ((names.is_namespace ns.now && names.is_object_name name.now) ≡ false)
+        (λ k. ((names.is_namespace ns.now && names.is_object_name name.now) ≡ true) × (k ≡ joined ns.now name.now))) }
+{
+    match Key::new(Text::new(alloc, ns)?, Text::new(alloc, name)?) {
+        Ok(key) => Ok(Some(key)),
+        Err(KeyNo::Memory) => Err(Memory),
+        Err(_) => Ok(None),
+    }
+}
+
+// The same, where the name may not be UTF-8.
+fn key_with_name(alloc: Global, ns: &str, name: &[u8]) -> Result<Option<Key>, Memory>
+    ensures { IfOk result (λ key. MatchOption key ((names.is_namespace ns.now && names.is_object_name name.now) ≡ false)
+        (λ k. ((names.is_namespace ns.now && names.is_object_name name.now) ≡ true) × (k ≡ joined ns.now name.now))) }
+{
+    match str::from_utf8(name) {
+        Ok(name) => key_of_texts(alloc, ns, name),
+        Err(_) => Ok(None),
+    }
+}
+
+// The same, where neither may be.
+fn key_of_parts(alloc: Global, ns: &[u8], name: &[u8]) -> Result<Option<Key>, Memory>
+    ensures { IfOk result (λ key. MatchOption key ((names.is_namespace ns.now && names.is_object_name name.now) ≡ false)
+        (λ k. ((names.is_namespace ns.now && names.is_object_name name.now) ≡ true) × (k ≡ joined ns.now name.now))) }
+{
+    match str::from_utf8(ns) {
+        Ok(ns) => key_with_name(alloc, ns, name),
+        Err(_) => Ok(None),
     }
 }
 
@@ -151,4 +211,9 @@ impl Ord for Key {
 /// has no `/`.
 pub fn joined_texts_tell_keys_apart()
     ensures { JoinedTellsApart }
+{}
+
+/// The test for the texts of keys passes for those alone.
+pub fn keys_are_tested()
+    ensures { KeysAreTested }
 {}

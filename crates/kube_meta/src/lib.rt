@@ -12,11 +12,13 @@ mod revisions;
 mod texts;
 
 pub use field_values::Fields;
-pub use keys::{Key, KeyNo, joined_texts_tell_keys_apart};
+pub use keys::{Key, KeyNo, joined_texts_tell_keys_apart, keys_are_tested};
 pub use label_pairs::Labels;
 pub use names::{is_label_key, is_label_value, is_namespace, is_object_name};
 pub use objects::{Obj, Row};
-pub use resources::Resource;
+pub use resources::{
+    Resource, each_is_listed, groups_are_read_back, names_agree, plurals_are_read_back,
+};
 pub use revisions::{MAX_REVISION, Rev, RevNo, revisions_are_read_back};
 pub use std::alloc::AllocError as Memory;
 pub use texts::Text;

@@ -1,3 +1,5 @@
+//! The grammars of names and labels, as tests.
+
 ghost use Rattle.std.specs.Prelude.{◌≡◌, position};
 ghost use Rattle.std.specs.List.{list_all};
 ghost use Rattle.kube_meta.specs.Names as grammar;

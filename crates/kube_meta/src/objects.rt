@@ -1,3 +1,5 @@
+//! Objects and rows, as they are kept.
+
 ghost use Rattle.std.specs.Prelude.{◌≤◌, length};
 
 use crate::{Fields, Key, Labels, Memory, Text};

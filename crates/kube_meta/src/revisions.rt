@@ -1,3 +1,5 @@
+//! Revisions, which Kubernetes calls resource versions.
+
 ghost use Rattle.std.specs.Prelude.{◌≡◌, ◌^◌, ◌<◌, IsTrue, option_and_then, length, nat_lt, None, Some, if◌then◌else◌};
 ghost use Rattle.std.specs.Str.{all_ascii_digits};
 ghost use Rattle.std.specs.Str.Parse.{digits_value};
