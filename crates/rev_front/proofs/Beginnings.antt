@@ -1,6 +1,6 @@
 -- Beginnings of one list, the longer of two of them, and an entry more.
 use Rattle.std.proofs.Common.{◌≡◌, ◌⊎◌, ℕ, zero, suc, ◌+◌, ◌<◌, ◌≤◌, Bool, true, false, List, [], ◌∷◌, ◌++◌, length, Some, refl, ap, sym, ◌∙◌, subst, inl, inr, ⊎_elim, arith, append_assoc, length-append}
-use Rattle.std.specs.Prelude.{slice_get, nat_lt, if◌then◌else◌}
+use Rattle.std.specs.Prelude.{All, slice_get, nat_lt, if◌then◌else◌}
 use Rattle.std.proofs.lemmas.List.{append-nil}
 use Rattle.std.proofs.lemmas.Bool.Decides.{nat_tests}
 use mathlib.Core.List.{IsPrefix}
@@ -56,6 +56,14 @@ module _ {A : Type 0} where
   pub longer_second : (xs ys zs : List A) → IsPrefix xs zs → IsPrefix ys zs → IsPrefix ys (longer xs ys)
   longer_second xs ys zs p q = longer_is (λ l. IsPrefix ys l) xs ys (λ _. prefix_self ys) (λ le. prefix_shorter ys xs zs q p le)
 
+  -- the longer of a list and a beginning of it is that list
+  pub longer_of_prefix : (xs ys : List A) → IsPrefix xs ys → longer xs ys ≡ ys
+  longer_of_prefix xs ys p = longer_is (λ l. l ≡ ys) xs ys (λ _. refl) (λ le. whole_of_length p.0 (omega (arith, le, sym (ap length p.1) ∙ length-append xs p.0)) p.1)
+    where
+      whole_of_length : (more : List A) → length more ≡ 0 → xs ++ more ≡ ys → xs ≡ ys
+      whole_of_length [] none is = sym (append-nil xs) ∙ is
+      whole_of_length (x ∷ more) none is = absurd (omega (arith, none))
+
   at_push : (xs : List A) (e x : A) (i : ℕ) → slice_get (xs ++ e ∷ []) i ≡ Some x → (slice_get xs i ≡ Some x) ⊎ ((i ≡ length xs) × (e ≡ x))
   at_push [] e x zero h = inr (refl, cc)
   at_push [] e x (suc i) h = absurd cc
@@ -70,3 +78,8 @@ module _ {A : Type 0} where
 pub last_push : (m n : ℕ) (ns : List ℕ) → last_or m (ns ++ n ∷ []) ≡ n
 last_push m n [] = refl
 last_push m n (k ∷ ns) = last_push k n ns
+
+-- the last of some numbers that are at most a bound is so too
+pub last_within : (m k : ℕ) (ns : List ℕ) → m ≤ k → All (λ n. n ≤ k) ns → last_or m ns ≤ k
+last_within m k [] le all = le
+last_within m k (n ∷ ns) le all = let h = all 0 n (omega arith) in last_within n k ns h (λ i d some. all (suc i) d (omega arith))

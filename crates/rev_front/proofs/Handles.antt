@@ -6,10 +6,10 @@ use mathlib.Core.List.{IsPrefix}
 use Rattle.atomic_table.specs.Seated.{TableId}
 use Rattle.atomic_table.specs.Table.{State, Me, step}
 use Rattle.rev_front.specs.declared.sight.Sight.{Sight}
-use Rattle.rev_front.specs.Passes.{LogId, Pass, Extends, Met, last_or, looked}
+use Rattle.rev_front.specs.Passes.{LogId, Pass, Extends, Met, Whole, Covers, briefed, pass_from, revision, longer, last_or, looked}
 use Rattle.rev_front.specs.Rule.{looks, pass_of, whole_of, Rule, Stands}
-use Rattle.rev_front.specs.Kept.{Sits, Writes, Reads}
-use Rattle.rev_front.proofs.Beginnings.{prefix_self, prefix_grown, last_push}
+use Rattle.rev_front.specs.Kept.{Sits, Comes, Writes, Reads}
+use Rattle.rev_front.proofs.Beginnings.{prefix_self, prefix_grown, longer_of_prefix, last_push}
 use Rattle.rev_front.proofs.Passing.{looked_on, commit_leads}
 
 -- a seat that sits at the table may step there
@@ -18,10 +18,10 @@ seated id table key seat carried at s e =
     let three : at.words ≡ 3 = ap (λ (t : TableId). t.words) e ∙ s.words in
     (s.seat_is ∙ sym e, omega arith, omega arith, omega arith)
 
--- two seats of one log sit at one table
-pub together : {E F : Type 0} (id : LogId) (table table' : TableId) (key key' : ℕ) (seat seat' : TableId) (carried : List (ℕ × E)) (carried' : List (ℕ × F)) (at : TableId)
-    → Sits id table key seat carried → Sits id table' key' seat' carried' → at ≡ table → seat' ≡ at
-together id table table' key key' seat seat' carried carried' at s t e = t.seat_is ∙ (t.table_is ∙ (sym s.table_is ∙ sym e))
+-- a seat that comes from the log's table may be joined at it
+pub together : {E F : Type 0} (id : LogId) (table : TableId) (key : ℕ) (seat seat' : TableId) (carried : List (ℕ × E)) (carried' : List (ℕ × F)) (at : TableId)
+    → Sits id table key seat carried → Comes id seat' carried' → at ≡ table → seat' ≡ at
+together id table key seat seat' carried carried' at s t e = t.seat_is ∙ (sym s.table_is ∙ sym e)
 
 module _ {E : Type 0} where
   -- a step keeps the table of a seat
@@ -98,3 +98,16 @@ met_extends {E} p o q m =
       floor_on = omega arith;
       gen_on = omega arith;
     }
+
+-- what the writer knows of a pass speaks of no seat
+pub covers_reseated : {E : Type 0} (w : Whole E) (p : Pass E) (seat : ℕ) → Covers w (record p { seat = seat }) → Covers w p
+covers_reseated w p seat c = record { first_is = c.first_is; seen = c.seen; shown = c.shown; floor = c.floor; gen = c.gen }
+
+-- a pass that meets one that knows all of the log is briefed
+pub briefed_by : {E : Type 0} (w : Whole E) (p q : Pass E) (seat : ℕ) → Covers w p → Met p (pass_from w seat) q → q ≡ briefed w p
+briefed_by {E} w p q seat c m =
+    let log : longer p.seen w.log ≡ w.log = longer_of_prefix p.seen w.log c.seen in
+    let shown : max p.shown (revision w) ≡ revision w = let h = c.shown in omega arith in
+    let floor : max p.floor w.floor ≡ w.floor = let h = c.floor in omega arith in
+    let gen : max p.gen w.gen ≡ w.gen = let h = c.gen in omega arith in
+    m.is ∙ (λ i. record p { seen = log i; shown = shown i; floor = floor i; gen = gen i })

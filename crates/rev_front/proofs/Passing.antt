@@ -1,13 +1,13 @@
 -- What stays true of a pass, and of the pen, over a step.
-use Rattle.std.proofs.Common.{◌≡◌, ℕ, ◌+◌, ◌-◌, ◌≤◌, ◌^◌, max, List, [], ◌∷◌, ◌++◌, length, length-append, refl, sym, ◌∙◌, subst, arith}
+use Rattle.std.proofs.Common.{◌≡◌, ℕ, ◌+◌, ◌-◌, ◌≤◌, ◌^◌, max, List, [], ◌∷◌, ◌++◌, length, length-append, refl, ap, sym, ◌∙◌, subst, arith}
 use Rattle.std.specs.Prelude.{All}
 use Rattle.std.specs.List.Sorted.{IsNonDecreasing}
 use Rattle.std.proofs.lemmas.List.Elements.{All-push, All-nil}
 use Rattle.std.proofs.lemmas.List.Sorted.{IsNonDecreasingBy-push, IsNonDecreasingBy-short}
 use Rattle.rev_front.specs.declared.sight.Sight.{Sight}
-use Rattle.rev_front.specs.Passes.{Pass, IsPass, Extends, FitFrom, end_from}
+use Rattle.rev_front.specs.Passes.{Pass, IsPass, Extends, LooksStand, LoadsAreSeen, FitFrom, end_from, last_or}
 use Rattle.rev_front.specs.Rule.{pass_of, Leads, Follows, met, learnt, copied}
-use Rattle.rev_front.proofs.Beginnings.{prefix_self, prefix_trans, prefix_grown, longer_is, longer_begins, longer_first, longer_second, fit_push}
+use Rattle.rev_front.proofs.Beginnings.{prefix_self, prefix_trans, prefix_grown, prefix_length, last_push, last_within, longer_is, longer_begins, longer_first, longer_second, fit_push}
 
 pub told_more : (ns : List ℕ) (m n : ℕ) → m ≤ n → All (λ k. k ≤ m) ns → All (λ k. k ≤ n) ns
 told_more ns m n le all k d lt = let h = all k d lt in omega arith
@@ -32,6 +32,18 @@ extends_trans p q r a b = record {
   floor_on = let x = a.floor_on in let y = b.floor_on in omega arith;
   gen_on = let x = a.gen_on in let y = b.gen_on in omega arith;
 }
+
+-- what follows a look, and what has seen all
+pub looks_hold : {E : Type 0} (fits : ℕ → E → Type 0) → LooksStand fits
+looks_hold fits p q n lawful later = (
+  omega (arith, prefix_length (p.loads ++ n ∷ []) q.loads later.loads_on, length-append p.loads (n ∷ [])),
+  λ stays. lawful.last_is ∙ ap (last_or 0) stays ∙ last_push 0 n p.loads,
+)
+
+pub loads_hold : {E : Type 0} (fits : ℕ → E → Type 0) → LoadsAreSeen fits
+loads_hold fits p lawful all =
+    let seen = told_more p.loads p.shown (end_from p.first p.seen) (omega (arith, all)) lawful.told in
+    (seen, subst (λ n. n ≤ end_from p.first p.seen) (sym lawful.last_is) (last_within 0 (end_from p.first p.seen) p.loads (omega arith) seen))
 
 module _ {E : Type 0} (fits : ℕ → E → Type 0) (first : ℕ) where
   -- no fact of a pass speaks of its seat

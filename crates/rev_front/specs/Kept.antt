@@ -16,6 +16,11 @@ pub record Sits {E : Type 0} (id : LogId) (table : TableId) (key : ℕ) (seat : 
   pub seat_is : seat ≡ table
   pub bare : carried ≡ []
 
+-- a seat that comes from the table of the log, and holds no slot
+pub record Comes {E : Type 0} (id : LogId) (seat : TableId) (carried : List (ℕ × E)) : Type 0 where
+  pub seat_is : seat ≡ id.table
+  pub bare : carried ≡ []
+
 -- the numbers of the pen are those of the first seat
 pub record Writes {E : Type 0} (fits : ℕ → E → Type 0) (first seat : ℕ) (v : Sight E) (revision gen floor : ℕ) : Type 0 where
   pub first_seat : seat ≡ 0

@@ -1,5 +1,5 @@
 -- One log that only grows, its one writer, and passes, each of which knows a beginning of it.
-use Rattle.std.specs.Prelude.{◌≡◌, ℕ, ◌+◌, ◌≤◌, ◌^◌, max, List, [], ◌∷◌, ◌++◌, length, All, Some, slice_get, nat_lt, if◌then◌else◌}
+use Rattle.std.specs.Prelude.{◌≡◌, ℕ, ◌+◌, ◌<◌, ◌≤◌, ◌^◌, max, List, [], ◌∷◌, ◌++◌, length, All, Some, slice_get, nat_lt, if◌then◌else◌}
 use Rattle.std.specs.List.Sorted.{IsNonDecreasing}
 use mathlib.Core.List.{IsPrefix}
 use Rattle.atomic_table.specs.Seated.{TableId}
@@ -76,6 +76,18 @@ pub record Met {E : Type 0} (p o q : Pass E) : Type 0 where
   pub mine : IsPrefix p.seen q.seen
   pub theirs : IsPrefix o.seen q.seen
 
+-- what follows a look has made its load, and has it as its last where no other load was made since
+abbrev pub LooksStand : {E : Type 0} → (ℕ → E → Type 0) → Type 0
+LooksStand {E} fits =
+    (p q : Pass E) (n : ℕ) → IsPass fits q → Extends (looked p n) q →
+    (length p.loads < length q.loads) × (q.loads ≡ p.loads ++ n ∷ [] → q.last ≡ n)
+
+-- a pass that has seen all that it was told of has seen all that its loads gave
+abbrev pub LoadsAreSeen : {E : Type 0} → (ℕ → E → Type 0) → Type 0
+LoadsAreSeen {E} fits =
+    (p : Pass E) → IsPass fits p → p.shown ≡ end_from p.first p.seen →
+    All (λ n. n ≤ end_from p.first p.seen) p.loads × (p.last ≤ end_from p.first p.seen)
+
 -- the whole log and its numbers, as the one writer has them
 pub record Whole (E : Type 0) : Type 0 where
   pub first : ℕ
@@ -101,6 +113,10 @@ pub record IsWhole {E : Type 0} (fits : ℕ → E → Type 0) (w : Whole E) : Ty
 -- the pass with this seat that knows all that the writer knows, and has made no load
 abbrev pub pass_from : {E : Type 0} → Whole E → ℕ → Pass E
 pass_from w seat = record { first = w.first; seen = w.log; shown = revision w; loads = []; looks = 0; last = 0; floor = w.floor; gen = w.gen; seat = seat }
+
+-- the pass with all that the writer knows, and its own loads
+abbrev pub briefed : {E : Type 0} → Whole E → Pass E → Pass E
+briefed w p = record p { seen = w.log; shown = revision w; floor = w.floor; gen = w.gen }
 
 -- the writer knows all that the pass knows: the pass has seen a beginning of its log, and was told of no greater number
 pub record Covers {E : Type 0} (w : Whole E) (p : Pass E) : Type 0 where

@@ -1,3 +1,5 @@
+//! A log that has no name yet.
+
 ghost use Rattle.std.specs.Prelude.{◌≡◌};
 ghost use Rattle.rev_front.specs.Passes.{empty_log};
 

@@ -1,5 +1,5 @@
-//! That a blank, a pen and a pass may go to another thread wherever their entries and their name may. Nothing calls this: it
-//! is here to be proved.
+//! That a blank, a pen and a pass may go to another thread wherever their entries and their name may. Nothing calls
+//! this: it is here to be proved.
 use crate::blanks::Blank;
 use crate::entry::Entry;
 use crate::front::Front;

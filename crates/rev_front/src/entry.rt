@@ -1,3 +1,5 @@
+//! What a log can hold.
+
 /// What a log can hold. No code keeps the entries of a log: contracts alone see them.
 pub trait Entry: Drop {
     ghost use Rattle.std.specs.Prelude.{ℕ};

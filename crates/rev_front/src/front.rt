@@ -1,8 +1,11 @@
+//! Passes.
+
 ghost use Rattle.std.specs.Prelude.{◌≡◌, ◌≤◌, IfOk, IsOk, MatchResult};
 ghost use Rattle.rev_front.specs.Passes.{Extends, IsPass, Met, end_from, looked};
 
 use crate::entry::Entry;
 use crate::name::LogName;
+use crate::news::News;
 use crate::sight::{Board, Place};
 use crate::steps::{Copies, Look, Meet, ReadFloor, ReadGen, RecallPass};
 use std::alloc::{AllocError, Global};
@@ -37,7 +40,8 @@ impl<E: Entry, N: LogName> Model for Front<E, N> {
 }
 
 impl<E: Entry, N: LogName> Front<E, N> {
-    /// One load of the revision that the log has reached, which a consistent read makes before it answers from a cache (KEP-2340).
+    /// One load of the revision that the log has reached, which a consistent read makes before it answers from a
+    /// cache (KEP-2340).
     pub fn look(&mut self) -> u64
         ensures load { self.new ≡ looked self.old result }
         ensures later { self.old.shown ≤ result }
@@ -107,16 +111,22 @@ impl<E: Entry, N: LogName> Front<E, N> {
         ensures extends { Extends self.old self.new }
     {
         let board = Arc::try_clone(&self.board)?;
-        let shared = &self.board.shared;
-        let seat = shared.split_seat::<Copies>(&mut self.seat);
+        let News {
+            seat,
+            end,
+            last,
+            told,
+            floor,
+            of,
+        } = self.tell();
         Ok(Front {
             board,
             seat,
-            end: self.end,
-            last: self.last,
-            told: self.told,
-            floor: self.floor,
-            of: PhantomData,
+            end,
+            last,
+            told,
+            floor,
+            of,
         })
     }
 
@@ -134,14 +144,67 @@ impl<E: Entry, N: LogName> Front<E, N> {
             last,
             told,
             floor,
+            of,
             ..
         } = other;
+        self.hear(News {
+            seat,
+            end,
+            last,
+            told,
+            floor,
+            of,
+        });
+        Ok(())
+    }
+
+    /// Two passes of the log meet, and both are kept: each has then met the other. It needs no memory.
+    pub fn share(&mut self, other: &mut Front<E, N>)
+        ensures met { Met self.old other.old self.new }
+        ensures other_met { Met other.old self.old other.new }
+        ensures extends { Extends self.old self.new }
+        ensures other_extends { Extends other.old other.new }
+    {
+        let mine = self.tell();
+        self.hear(other.tell());
+        other.hear(mine);
+    }
+
+    // What it knows, for another handle.
+    pub(crate) fn tell(&mut self) -> News<E, N>
+        ensures same { self.new ≡ self.old }
+        ensures copy { result ≡ record self.old { seat = result.seat } }
+    {
+        let shared = &self.board.shared;
+        let seat = shared.split_seat::<Copies>(&mut self.seat);
+        News {
+            seat,
+            end: self.end,
+            last: self.last,
+            told: self.told,
+            floor: self.floor,
+            of: PhantomData,
+        }
+    }
+
+    // Takes in what another handle knows.
+    pub(crate) fn hear(&mut self, news: News<E, N>)
+        ensures met { Met self.old news self.new }
+        ensures extends { Extends self.old self.new }
+    {
+        let News {
+            seat,
+            end,
+            last,
+            told,
+            floor,
+            ..
+        } = news;
         let shared = &self.board.shared;
         shared.join_seat::<Meet>(&mut self.seat, seat);
         shared.load::<RecallPass>(&mut self.seat, 0);
         self.end = self.end.max(end);
         self.told = self.told.max(last).max(told);
         self.floor = self.floor.max(floor);
-        Ok(())
     }
 }

@@ -1,3 +1,5 @@
+//! The table of a new log.
+
 ghost use Rattle.std.specs.Prelude.{◌≡◌, ◌≤◌, ◌^◌, IfOk};
 
 use crate::blanks::Blank;

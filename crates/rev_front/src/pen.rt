@@ -1,10 +1,13 @@
+//! The writer of a log.
+
 ghost use Rattle.std.specs.Prelude.{◌≡◌, ◌+◌, ◌<◌, ◌≤◌, ◌^◌, [], ◌∷◌, ◌++◌, IfOk, IsOk, MatchResult};
-ghost use Rattle.rev_front.specs.Passes.{Covers, IsWhole, pass_from, revision as reached};
+ghost use Rattle.rev_front.specs.Passes.{Covers, Extends, IsWhole, briefed, pass_from, revision as reached};
 ghost use Rattle.rev_front.specs.Rule.{Stands};
 
 use crate::entry::Entry;
 use crate::front::Front;
 use crate::name::LogName;
+use crate::news::News;
 use crate::sight::{Board, Place};
 use crate::steps::{Commit, Copies, Learn, RecallPen, SetFloor, SetGen};
 use std::alloc::{AllocError, Global};
@@ -72,7 +75,8 @@ impl<E: Entry, N: LogName> Pen<E, N> {
         next
     }
 
-    /// Raises the compaction floor to a revision that the log has reached. States below the floor are no longer served, as after a compaction of etcd.
+    /// Raises the compaction floor to a revision that the log has reached. States below the floor are no longer
+    /// served, as after a compaction of etcd.
     pub fn compact(&mut self, at: u64)
         requires above { self.old.floor ≤ at }
         requires reached { at ≤ reached self.old }
@@ -89,16 +93,22 @@ impl<E: Entry, N: LogName> Pen<E, N> {
         ensures pass { IfOk result (λ p. p ≡ pass_from self.old p.seat) }
     {
         let board = Arc::try_clone(&self.board)?;
-        let shared = &self.board.shared;
-        let seat = shared.split_seat::<Copies>(&mut self.seat);
+        let News {
+            seat,
+            end,
+            last,
+            told,
+            floor,
+            of,
+        } = self.tell();
         Ok(Front {
             board,
             seat,
-            end: self.revision,
-            last: 0,
-            told: self.revision,
-            floor: self.floor,
-            of: PhantomData,
+            end,
+            last,
+            told,
+            floor,
+            of,
         })
     }
 
@@ -110,11 +120,64 @@ impl<E: Entry, N: LogName> Pen<E, N> {
         ensures learnt { MatchResult result (λ _. Covers self.new pass) (λ back. back ≡ pass) }
         ensures done { IsOk result }
     {
-        let Front { seat, .. } = pass;
+        let Front {
+            seat,
+            end,
+            last,
+            told,
+            floor,
+            of,
+            ..
+        } = pass;
+        self.hear(News {
+            seat,
+            end,
+            last,
+            told,
+            floor,
+            of,
+        });
+        Ok(())
+    }
+
+    /// Meets a pass, which is kept: what it knew is of this log and not ahead of it, and then it knows the whole log
+    /// and its numbers, beside its own loads. It needs no memory.
+    pub fn meet(&mut self, told: &mut Front<E, N>)
+        ensures same { self.new ≡ self.old }
+        ensures covered { Covers self.old told.old }
+        ensures told { told.new ≡ briefed self.old told.old }
+        ensures extends { Extends told.old told.new }
+    {
+        self.hear(told.tell());
+        told.hear(self.tell());
+    }
+
+    // What it knows, for a pass.
+    fn tell(&mut self) -> News<E, N>
+        ensures same { self.new ≡ self.old }
+        ensures pass { result ≡ pass_from self.old result.seat }
+    {
+        let shared = &self.board.shared;
+        let seat = shared.split_seat::<Copies>(&mut self.seat);
+        News {
+            seat,
+            end: self.revision,
+            last: 0,
+            told: self.revision,
+            floor: self.floor,
+            of: PhantomData,
+        }
+    }
+
+    // Takes in what a pass knows, which is then known to be of this log, and not to be ahead of it.
+    fn hear(&mut self, news: News<E, N>)
+        ensures same { self.new ≡ self.old }
+        ensures covered { Covers self.new news }
+    {
+        let News { seat, .. } = news;
         let shared = &self.board.shared;
         shared.join_seat::<Learn>(&mut self.seat, seat);
         shared.load::<RecallPen>(&mut self.seat, 0);
-        Ok(())
     }
 
     /// The revision that the log has reached.
@@ -140,7 +203,8 @@ impl<E: Entry, N: LogName> Pen<E, N> {
         self.floor
     }
 
-    /// Ends the log where no pass is left, and answers the three words as they stand. The pen comes back where a pass is left.
+    /// Ends the log where no pass is left, and answers the three words as they stand. The pen comes back where a pass
+    /// is left.
     pub fn close(self) -> Result<Words, Pen<E, N>>
         ensures { MatchResult result (λ w. Stands E.fits self (w.revision ∷ w.generation ∷ w.floor ∷ [])) (λ back. back ≡ self) }
     {

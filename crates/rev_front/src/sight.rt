@@ -1,4 +1,5 @@
-//! The table that the pen and all passes share. Word 0 is the revision, word 1 the generation, word 2 the compaction floor.
+//! The table that the pen and all passes share. Word 0 is the revision, word 1 the generation, word 2 the compaction
+//! floor.
 use crate::entry::Entry;
 use atomic_table::{Seat, Table, TableRule};
 use std::alloc::Global;
@@ -43,6 +44,8 @@ impl<E: Entry> TableRule<E, Sight<E>, u64> for Law {
     ghost first = { λ first. opening_sight first };
 }
 
+/// The table that the pen and all passes share.
 pub type Board<E> = Table<E, Sight<E>, u64, Law, Global>;
 
+/// A seat at the table.
 pub type Place<E> = Seat<E, Sight<E>>;

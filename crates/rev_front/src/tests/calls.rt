@@ -8,81 +8,28 @@ use std::process::Abort;
 use std::test::*;
 
 #[test]
-fn begins(rt: HostRuntime) -> Result<(), Fail> {
-    begins_at::<Brand>(&rt, blank(rt.alloc(), 7)?);
-    Ok(())
-}
-
-fn begins_at<N: LogName>(rt: &impl Abort, made: Blank<Note>)
-    requires { made ≡ N.log }
-{
-    let pen: Pen<Note, N> = start(made);
-    assert_eq!(rt; pen.revision(), 7);
-    assert_eq!(rt; pen.generation(), 0);
-    assert_eq!(rt; pen.floor(), 7);
-}
-
-#[test]
 fn meets(rt: HostRuntime) -> Result<(), Fail> {
     meets_at::<Brand>(&rt, blank(rt.alloc(), 1)?)
 }
 
-/// A pass that looked at 2 meets one that has seen up to 6: it has seen up to 6.
+/// A pass that looked at 2 meets the pen at 6, and its copy meets it: both have seen up to 6, and made their own look.
 fn meets_at<N: LogName>(rt: &impl Abort, made: Blank<Note>) -> Result<(), Fail>
     requires { made ≡ N.log }
 {
     let mut pen: Pen<Note, N> = start(made);
     let mut pass = pen.front()?;
+    let mut copy = pass.split()?;
     commit_to(&mut pen, 2);
     assert_eq!(rt; pass.look(), 2);
     assert_eq!(rt; pass.end(), 1);
     commit_to(&mut pen, 6);
-    let Ok(()) = pass.meet(pen.front()?) else {
+    pen.meet(&mut pass);
+    assert_eq!(rt; (pass.end(), pass.shown(), pass.last()), (6, 6, 2));
+    copy.share(&mut pass);
+    assert_eq!(rt; (copy.end(), copy.shown(), copy.last()), (6, 6, 0));
+    let Ok(()) = copy.meet(pass) else {
         return Err("a meeting needs no memory".into());
     };
-    assert_eq!(rt; pass.end(), 6);
-    assert_eq!(rt; pass.shown(), 6);
-    assert_eq!(rt; pass.last(), 2);
-    Ok(())
-}
-
-#[test]
-fn keeps_the_longer(rt: HostRuntime) -> Result<(), Fail> {
-    keeps_the_longer_at::<Brand>(&rt, blank(rt.alloc(), 1)?)
-}
-
-/// It keeps what it has seen where the other pass has seen less.
-fn keeps_the_longer_at<N: LogName>(rt: &impl Abort, made: Blank<Note>) -> Result<(), Fail>
-    requires { made ≡ N.log }
-{
-    let mut pen: Pen<Note, N> = start(made);
-    let early = pen.front()?;
-    commit_to(&mut pen, 4);
-    let mut late = pen.front()?;
-    let Ok(()) = late.meet(early) else {
-        return Err("a meeting needs no memory".into());
-    };
-    assert_eq!(rt; late.end(), 4);
-    Ok(())
-}
-
-#[test]
-fn splits(rt: HostRuntime) -> Result<(), Fail> {
-    splits_at::<Brand>(&rt, blank(rt.alloc(), 1)?)
-}
-
-fn splits_at<N: LogName>(rt: &impl Abort, made: Blank<Note>) -> Result<(), Fail>
-    requires { made ≡ N.log }
-{
-    let mut pen: Pen<Note, N> = start(made);
-    commit_to(&mut pen, 3);
-    let mut pass = pen.front()?;
-    let mut twin = pass.split()?;
-    commit_to(&mut pen, 5);
-    assert_eq!(rt; twin.end(), 3);
-    assert_eq!(rt; twin.look(), 5);
-    assert_eq!(rt; pass.shown(), 3);
-    assert_eq!(rt; pass.last(), 0);
     Ok(())
 }
 

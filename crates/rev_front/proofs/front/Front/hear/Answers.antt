@@ -1,17 +1,17 @@
 use Rattle.std.proofs.Common.{ap, ◌∙◌}
 use Rattle.rev_front.proofs.Moves.{meet_allowed, recall_pass_allowed}
 use Rattle.rev_front.proofs.Handles.{seated, together}
-use Rattle.rev_front.proofs.front.Front.meet.Goals as goal
+use Rattle.rev_front.proofs.front.Front.hear.Goals as goal
 
 pub join_seat-requires : goal.join_seat-requires
 join_seat-requires g c =
     let at = ap (λ t. t.shared.table_id) c.deref.ensures in
     let ok = seated _ _ _ _ _ _ c.self.invariant.0 at in (
       ok.0,
-      together _ _ _ _ _ _ _ _ _ _ c.self.invariant.0 c.other.invariant.0 at,
-      c.other.invariant.0.bare,
+      together _ _ _ _ _ _ _ _ c.self.invariant.0 c.news.invariant.0 at,
+      c.news.invariant.0.bare,
       ok.1,
-      meet_allowed g.E.Entry.fits _ _ _ _ _ c.self.invariant.1.role c.other.invariant.1.role,
+      meet_allowed g.E.Entry.fits _ _ _ _ _ c.self.invariant.1.role c.news.invariant.1.role,
     )
 
 pub load-self-inside-requires : goal.load-self-inside-requires
