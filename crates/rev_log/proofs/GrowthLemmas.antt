@@ -7,6 +7,7 @@ use Rattle.kube_meta.specs.declared.resources.Resource.{Resource}
 use Rattle.kube_meta.specs.Rows.{RowData}
 use Rattle.rev_log.specs.Changes.{RevisionData}
 use Rattle.rev_log.specs.Logs.{Log, grown, end_of, upto, between, AreNumbered}
+use Rattle.rev_log.specs.Laws.{RowsStay, StatesStay}
 use Rattle.rev_log.specs.States.{row_next, row_in_base, row_at, IsStateAt}
 
 -- the revisions up to a number of the log stay
@@ -22,6 +23,15 @@ IsStateAt-grown log more resource at rows within state = record {
   rising = state.rising;
   exact = λ key. state.exact key ∙ sym (row_at-grown log more resource at key within);
 }
+
+pub rows_stay : RowsStay
+rows_stay log more resource at key within = row_at-grown log more resource at key within
+
+pub states_stay : StatesStay
+states_stay log more resource at rows within = (
+  IsStateAt-grown log more resource at rows within,
+  λ state. record { rising = state.rising; exact = λ key. state.exact key ∙ row_at-grown log more resource at key within },
+)
 
 -- at and past the end the whole log counts
 pub upto-end : (log : Log) (at : ℕ) → end_of log ≤ at → upto log at ≡ log.revisions

@@ -1,5 +1,5 @@
 -- A map of rows by their keys, and what steps make of it.
-use Rattle.std.proofs.Common.{◌≡◌, ℕ, true, false, cond, List, [], ◌∷◌, map, length, Option, Some, None, IfSome, All, bytes_eq, refl, sym, ap, ◌∙◌, subst, inl, inr, Result, Ok, Err, OnOk, ◌+◌, ◌<◌, ◌≤◌, get_or, take, fold, zero, suc, is_some, arith}
+use Rattle.std.proofs.Common.{◌≡◌, ℕ, true, false, cond, List, [], ◌∷◌, map, length, Option, Some, None, IfSome, All, bytes_eq, refl, sym, ap, ◌∙◌, subst, inl, inr, Result, Ok, Err, OnOk, OnErr, ◌+◌, ◌<◌, ◌≤◌, get_or, take, fold, zero, suc, is_some, arith}
 use Rattle.std.specs.BTreeMap.{BTreeMap, IsOrdered, IsEmpty, Updates, get, is_at, values}
 use Rattle.std.specs.Map.{lookup, values_of, keys_of}
 use Rattle.std.specs.Cmp.Lexicographic.{slice_cmp}
@@ -102,6 +102,10 @@ Follows-same m n step other same follows stands holds = Holds-same n (λ key. st
 pub on_ok : {A E : Type 0} (r : Result A E) {P Q : Type 0} → (P → Q) → OnOk r P → OnOk r Q
 on_ok (Ok x) follows fact = follows fact
 on_ok (Err e) follows fact = fact
+
+pub on_err : {A E : Type 0} (r : Result A E) {P : Type 0} → P → OnErr r P
+on_err (Ok x) fact = tt
+on_err (Err e) fact = fact
 
 -- the next row joins those so far, unless its key is there
 pub row_with_more : (rows : List RowData) (i : ℕ) (row : RowData) (key : List ℕ) → i < length rows → row ≡ get_or rows i row → option_or (row_with (take i rows) key) (cond (bytes_eq key (key_of row)) (Some row) None) ≡ row_with (take (i + 1) rows) key

@@ -2,3 +2,4 @@ pub mod Changes
 pub mod Logs
 pub mod States
 pub mod Rows
+pub mod Laws

@@ -1,3 +1,5 @@
+//! What no contract says, tried.
+
 ghost use Rattle.std.specs.Prelude.{◌≡◌, IfOk};
 
 use crate::*;

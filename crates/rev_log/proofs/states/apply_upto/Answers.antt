@@ -10,6 +10,6 @@ pub returns : goal.returns
 returns c =
     let number : c.revision.inside.rev ≡ c.args.revision.now.rev = ap (λ revision. revision.rev) c.revision.view_is in
     let counts : leb c.args.revision.now.rev c.args.at ≡ true = le-leb c.args.revision.now.rev c.args.at (rw (← number) c.if-revision-at.false) in
-    on_ok c.apply.result
-    (Follows-same c.args.rows.now c.apply.new.rows (λ key row. row_next c.args.resource key row c.args.revision.now) (λ key row. row_next_upto c.args.resource c.args.at key row c.args.revision.now) (λ stands holds key. rw counts refl))
-    c.apply.ensures
+    on_ok c.make_changes.result
+    (Follows-same c.args.rows.now c.make_changes.new.rows (λ key row. row_next c.args.resource key row c.args.revision.now) (λ key row. row_next_upto c.args.resource c.args.at key row c.args.revision.now) (λ stands holds key. rw counts refl))
+    c.make_changes.ensures.done

@@ -16,4 +16,4 @@ returns c =
     let whole : take c.loop-revision.revision-index c.args.log.now ≡ c.args.log.now = take_all c.args.log.now c.loop-revision.revision-index c.loop-revision-test.false in
     let holds : Holds c.loop-revision.rows (λ key. fold (row_next_upto c.args.resource c.args.at key) (row_in_base c.args.base.now c.args.resource key) c.args.log.now) =
     Holds-same c.loop-revision.rows _ _ (λ key. ap (fold (row_next_upto c.args.resource c.args.at key) (row_in_base c.args.base.now c.args.resource key)) whole) c.loop-revision.invariant in
-    if_ok c.in_order.result (λ list items first numbered. IsStateAt-values c.loop-revision.rows c.args.base.now c.args.log.now c.args.resource c.args.at first list.items numbered holds items) c.in_order.ensures
+    if_ok c.rows_in_order.result (λ list items first numbered. IsStateAt-values c.loop-revision.rows c.args.base.now c.args.log.now c.args.resource c.args.at first list.items numbered holds items) c.rows_in_order.ensures

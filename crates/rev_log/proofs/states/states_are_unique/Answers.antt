@@ -1,5 +1,0 @@
-use Rattle.rev_log.proofs.StateLemmas.{are_unique}
-use Rattle.rev_log.proofs.states.states_are_unique.Goals as goal
-
-pub returns : goal.returns
-returns c = are_unique
