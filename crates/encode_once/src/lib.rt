@@ -5,7 +5,7 @@
 ghost use Rattle.std.specs.Prelude.{◌≡◌, ◌++◌, IfOk, decimal};
 ghost use Rattle.kube_meta.specs.Objects.{object_json};
 
-use itoa::Buffer;
+use itoa::write_digits;
 use kube_meta::{Memory, Row};
 use std::alloc::Global;
 use std::marker::Model;
@@ -16,18 +16,20 @@ use std::sync::Arc;
 #[derive(Debug, Drop)]
 pub struct Shown {
     row: Row,
-    digits: Vec<u8>,
+    // The digits of the revision stand at the end of 20 bytes, from `start` on.
+    digits: [u8; 20],
+    start: u8,
 }
 
 impl Model for Shown {
-    ghost use Rattle.std.specs.Prelude.{◌≡◌, decimal};
+    ghost use Rattle.std.specs.Prelude.{◌≡◌, ◌≤◌, decimal, drop};
     ghost use Rattle.kube_meta.specs.Rows.{RowData};
 
     ghost Value = { RowData };
 
     ghost view = { λ s. s.row };
 
-    ghost invariant = { λ s. s.digits.items ≡ decimal s.row.rev };
+    ghost invariant = { λ s. (s.start ≤ 20) × (drop s.start s.digits ≡ decimal s.row.rev) };
 }
 
 impl Shown {
@@ -35,9 +37,9 @@ impl Shown {
     pub fn new(alloc: Global, row: Row) -> Result<Arc<Shown>, Memory>
         ensures { IfOk result (λ shown. shown.value ≡ row) }
     {
-        let mut buffer = Buffer::new();
-        let digits = Vec::from_slice(alloc, buffer.format(row.rev).as_bytes())?;
-        Ok(Arc::new(alloc, Shown { row, digits })?)
+        let mut digits = [0; 20];
+        let start = write_digits(row.rev, &mut digits, 20) as u8;
+        Ok(Arc::new(alloc, Shown { row, digits, start })?)
     }
 
     /// The row that is shown.
@@ -58,7 +60,7 @@ impl Shown {
     pub fn digits(&self) -> &[u8]
         ensures { result.now ≡ decimal self.now.rev }
     {
-        &self.digits
+        self.digits.split_at(usize::from(self.start)).1
     }
 
     /// The object's JSON after its revision. `front`, `digits` and `back`, one after the other, are

@@ -1,3 +1,5 @@
+//! What no contract says, tried.
+
 use crate::Shown;
 use kube_meta::{Fields, Key, KeyNo, Labels, Obj, Row, Text};
 use std::alloc::Global;
