@@ -10,6 +10,3 @@ mod terms;
 pub use refusal::FieldNo;
 pub use selector::FieldSel;
 pub use terms::{Field, Term};
-
-#[cfg(test)]
-mod tests;

@@ -1,3 +1,5 @@
+//! The bytes of a selector, taken from the left.
+
 ghost use Rattle.std.specs.Prelude.{◌≡◌, ◌==◌, ◌<◌, ◌≤◌, false, length, slice_index, MatchOption, None, Some};
 ghost use Rattle.field_select.specs.Bytes.{EachBelow, Escapes, begins_with, is_escaped, is_in, left, taken, without};
 ghost use Rattle.field_select.specs.Reading.{operator_at, place};

@@ -1,3 +1,5 @@
+//! Reading terms.
+
 ghost use Rattle.std.specs.Prelude.{◌≡◌, false, length};
 ghost use Rattle.kube_meta.specs.Resources.{listed_fields_of};
 ghost use Rattle.field_select.specs.declared.reader.Run.TheVariants as runs;

@@ -1,3 +1,5 @@
+//! Why a text is no field selector.
+
 ghost use Rattle.std.specs.Prelude.{◌≡◌};
 ghost use Rattle.field_select.specs.declared.refusal.FieldNo.TheVariants.{Memory};
 

@@ -1,3 +1,5 @@
+//! Field selectors.
+
 ghost use Rattle.std.specs.Prelude.{◌≡◌, ◌↔◌, List, [], IfOk, IsTrue, Ok, option_copied};
 ghost use Rattle.field_select.specs.declared.terms.Term.{Term as Asked};
 ghost use Rattle.field_select.specs.Grammar.{IsSelector};

@@ -1,3 +1,5 @@
+//! One term of a field selector.
+
 ghost use Rattle.std.specs.Prelude.{◌≡◌, ◌↔◌, IfOk, IsTrue};
 ghost use Rattle.field_select.specs.Meaning.{asks_for, is_listed, value_of};
 

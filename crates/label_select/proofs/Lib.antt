@@ -7,3 +7,4 @@ pub mod Loops
 pub mod Laws
 pub mod RequirementLaws
 pub mod MeaningLaws
+pub mod SetLaws

@@ -34,11 +34,11 @@ contains_by : (b : Bool) (v w : List ℕ) (vs : List (List ℕ)) → bytes_eq v 
 contains_by true v w vs here e more = (0, omega arith, sym ((bytes_eq-Decides v w).0 here))
 contains_by false v w vs here e more = contains_later v w vs (more e)
 
-contains_from_any : (v : List ℕ) (vs : List (List ℕ)) → list_any (bytes_eq v) vs ≡ true → Contains vs v
+pub contains_from_any : (v : List ℕ) (vs : List (List ℕ)) → list_any (bytes_eq v) vs ≡ true → Contains vs v
 contains_from_any v [] e = absurd (let wrong : false ≡ true = e in cc)
 contains_from_any v (w ∷ vs) e = contains_by (bytes_eq v w) v w vs refl e (contains_from_any v vs)
 
-any_from_contains : (v : List ℕ) (vs : List (List ℕ)) (k : ℕ) → k < length vs → slice_index_or vs k v ≡ v → list_any (bytes_eq v) vs ≡ true
+pub any_from_contains : (v : List ℕ) (vs : List (List ℕ)) (k : ℕ) → k < length vs → slice_index_or vs k v ≡ v → list_any (bytes_eq v) vs ≡ true
 any_from_contains v [] k lt e = absurd (omega arith)
 any_from_contains v (w ∷ vs) zero lt e = rw ((bytes_eq-Decides v w).1 (sym e)) refl
 any_from_contains v (w ∷ vs) (suc k) lt e = or_right (bytes_eq v w) (list_any (bytes_eq v) vs) (any_from_contains v vs k (omega arith) e)

@@ -1,3 +1,5 @@
+//! Tokens taken one by one.
+
 ghost use Rattle.std.specs.Prelude.{◌≡◌, ◌==◌, length};
 ghost use Rattle.label_select.specs.Pieces.{is_kind, tokens_of};
 ghost use Rattle.label_select.specs.Reading.{place};

@@ -12,8 +12,3 @@ pub use lexer::{Token, TokenKind, Tokens};
 pub use refusal::LabelNo;
 pub use requirements::{Requirement, Values};
 pub use selector::LabelSel;
-
-#[cfg(test)]
-mod plain;
-#[cfg(test)]
-mod tests;

@@ -1,3 +1,5 @@
+//! Reading requirements.
+
 ghost use Rattle.std.specs.Prelude.{◌≡◌, None, length};
 ghost use Rattle.label_select.specs.Reading.{Fails, key_at, value_at, values_at, set_at, behind_key, requirement_at, requirements_at, selector_at};
 ghost use Rattle.label_select.specs.Left.{left, Takes, Finds};
@@ -89,10 +91,12 @@ fn requirement_on(alloc: Global, key: Text, tokens: &mut Cursor) -> Result<Requi
         None => Ok(Requirement::Exists(key)),
         Some(word) => {
             if word.text == "in" {
-                return Ok(Requirement::In(key, set_of(alloc, tokens)?));
+                let values = set_of(alloc, tokens)?;
+                return Ok(Requirement::In(key, values.searched(alloc)?));
             }
             if word.text == "notin" {
-                return Ok(Requirement::NotIn(key, set_of(alloc, tokens)?));
+                let values = set_of(alloc, tokens)?;
+                return Ok(Requirement::NotIn(key, values.searched(alloc)?));
             }
             Err(LabelNo::Syntax { at: word.at })
         }

@@ -1,3 +1,5 @@
+//! Why a text is no label selector.
+
 ghost use Rattle.std.specs.Prelude.{◌≡◌};
 ghost use Rattle.label_select.specs.declared.refusal.LabelNo.TheVariants.{Memory};
 

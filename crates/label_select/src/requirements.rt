@@ -1,22 +1,33 @@
-ghost use Rattle.std.specs.Prelude.{◌≡◌, ◌↔◌, [], ◌∷◌, ◌++◌, Contains, IfOk, IsTrue, OnOk, OnErr, option_copied};
-ghost use Rattle.label_select.specs.Values.{HasOneOf};
+//! One requirement of a label selector.
+
+ghost use Rattle.std.specs.Prelude.{◌≡◌, ◌↔◌, ◌||◌, ℕ, List, [], ◌∷◌, ◌++◌, Contains, IfOk, IsTrue, OnOk, OnErr, option_copied, bytes_eq};
+ghost use Rattle.label_select.specs.Values.{HasOneOf, HasAll, is_in};
 
 use kube_meta::{Labels, Memory, Text};
 use std::alloc::Global;
+use std::collections::BTreeSet;
 use std::marker::Model;
+
+/// So many values are compared one by one, and more are searched.
+const FEW: usize = 8;
 
 /// Values of a label, as they stand in a selector.
 #[derive(Debug, Drop)]
 pub struct Values {
     texts: Vec<Text>,
+    // The same in order, where there are many.
+    ordered: Option<BTreeSet<Text>>,
 }
 
 impl Model for Values {
-    ghost use Rattle.std.specs.Prelude.{ℕ, List};
+    ghost use Rattle.std.specs.Prelude.{ℕ, List, IfSome};
+    ghost use Rattle.label_select.specs.Values.{HasAll};
 
     ghost Value = { List (List ℕ) };
 
     ghost view = { λ v. v.texts.items };
+
+    ghost invariant = { λ v. IfSome v.ordered (HasAll v.texts.items) };
 }
 
 impl Values {
@@ -26,6 +37,7 @@ impl Values {
     {
         Values {
             texts: Vec::new(alloc),
+            ordered: None,
         }
     }
 
@@ -34,6 +46,7 @@ impl Values {
         ensures ok { OnOk result (self.new ≡ self.old ++ value ∷ []) }
         ensures err { OnErr result (self.new ≡ self.old) }
     {
+        self.ordered = None;
         self.texts.push(value)?;
         Ok(())
     }
@@ -47,25 +60,39 @@ impl Values {
         Ok(values)
     }
 
+    /// The same values, put in order where there are many, so that they are searched from now on.
+    pub fn searched(self, alloc: Global) -> Result<Values, Memory>
+        ensures { IfOk result (λ values. values ≡ self) }
+    {
+        if self.texts.len() <= FEW {
+            return Ok(self);
+        }
+        let ordered = in_order(alloc, &self.texts)?;
+        Ok(Values {
+            texts: self.texts,
+            ordered: Some(ordered),
+        })
+    }
+
     /// Whether `value` is one of them.
     pub fn contain(&self, value: &Text) -> bool
         ensures { IsTrue result ↔ Contains self.now value.now }
     {
-        for text in &self.texts {
-            if text == value {
-                return true;
-            }
+        match &self.ordered {
+            Some(ordered) => ordered.contains(value),
+            None => is_listed(&self.texts, value),
         }
-        false
     }
 
     /// A copy of the values.
-    pub fn copy(&self) -> Result<Values, Memory>
+    pub fn copy(&self, alloc: Global) -> Result<Values, Memory>
         ensures { IfOk result (λ copy. copy ≡ self.now) }
     {
-        Ok(Values {
+        let copy = Values {
             texts: self.texts.clone()?,
-        })
+            ordered: None,
+        };
+        copy.searched(alloc)
     }
 
     /// Whether `other` has the same values in the same order.
@@ -74,6 +101,38 @@ impl Values {
     {
         self.texts == other.texts
     }
+}
+
+// The texts in order.
+fn in_order(alloc: Global, texts: &[Text]) -> Result<BTreeSet<Text>, Memory>
+    ensures { IfOk result (HasAll texts.now) }
+{
+    let mut ordered = BTreeSet::new(alloc);
+    for text in texts {
+        add(&mut ordered, text)?;
+    }
+    Ok(ordered)
+}
+
+fn add(ordered: &mut BTreeSet<Text>, text: &Text) -> Result<(), Memory>
+    ensures { OnOk result ((other : List ℕ) → is_in ordered.new other ≡ (is_in ordered.old other || bytes_eq other text.now)) }
+{
+    let copy = text.clone()?;
+    match ordered.insert(copy) {
+        Ok(_) => Ok(()),
+        Err(_) => Err(Memory),
+    }
+}
+
+fn is_listed(texts: &[Text], value: &Text) -> bool
+    ensures { IsTrue result ↔ Contains texts.now value.now }
+{
+    for text in texts {
+        if text == value {
+            return true;
+        }
+    }
+    false
 }
 
 /// What a selector asks of the label of one key.
@@ -114,14 +173,16 @@ impl Requirement {
     }
 
     /// A copy of the requirement.
-    pub fn copy(&self) -> Result<Requirement, Memory>
+    pub fn copy(&self, alloc: Global) -> Result<Requirement, Memory>
         ensures { IfOk result (λ copy. copy ≡ self.now) }
     {
         match self {
             Requirement::Exists(key) => Ok(Requirement::Exists(key.clone()?)),
             Requirement::Absent(key) => Ok(Requirement::Absent(key.clone()?)),
-            Requirement::In(key, values) => Ok(Requirement::In(key.clone()?, values.copy()?)),
-            Requirement::NotIn(key, values) => Ok(Requirement::NotIn(key.clone()?, values.copy()?)),
+            Requirement::In(key, values) => Ok(Requirement::In(key.clone()?, values.copy(alloc)?)),
+            Requirement::NotIn(key, values) => {
+                Ok(Requirement::NotIn(key.clone()?, values.copy(alloc)?))
+            }
         }
     }
 

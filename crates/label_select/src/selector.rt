@@ -1,3 +1,5 @@
+//! Label selectors.
+
 ghost use Rattle.std.specs.Prelude.{◌≡◌, ◌↔◌, List, [], IfOk, IsTrue, Ok};
 ghost use Rattle.label_select.specs.declared.requirements.Requirement.{Requirement as Asked};
 ghost use Rattle.label_select.specs.Grammar.{IsSelector};
@@ -86,7 +88,7 @@ impl LabelSel {
     {
         let mut requirements = Vec::new(alloc);
         for requirement in &self.requirements {
-            requirements.push(requirement.copy()?)?;
+            requirements.push(requirement.copy(alloc)?)?;
         }
         Ok(LabelSel { requirements })
     }

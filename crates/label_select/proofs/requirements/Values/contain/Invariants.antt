@@ -1,5 +1,0 @@
-use Rattle.std.proofs.Common.{◌≡◌, ◌<◌, ℕ, slice_index_or}
-use Rattle.label_select.proofs.requirements.Values.contain.Given as goal
-
-abbrev pub invariant-loop-text : goal.invariant-loop-text
-invariant-loop-text l = (k : ℕ) → k < l.text-index → slice_index_or l.text-items k l.value ≡ l.value → ⊥
