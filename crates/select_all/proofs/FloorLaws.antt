@@ -7,7 +7,7 @@ use Rattle.std.proofs.lemmas.List.{drop-drop}
 use Rattle.kube_meta.specs.declared.resources.Resource.{Resource}
 use Rattle.rev_log.specs.Logs.{Log, upto, between}
 use Rattle.select_all.specs.Floors.{changes_in, changes_between, IsPassed, IsFloorOk, IsRingFloor, is_passed, greatest, ring_floor, IsBetweenFloors}
-use Rattle.select_all.specs.Laws.{FloorsAreGreatest, FloorsAreBetween}
+use Rattle.select_all.specs.FloorLaws.{FloorsAreGreatest, FloorsAreBetween}
 
 either : (x : Bool) → (x ≡ true) ⊎ (x ≡ false)
 either true = inl refl

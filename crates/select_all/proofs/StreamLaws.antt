@@ -1,4 +1,4 @@
--- Events and transitions: from one revision to another, and as the log grows; and that a listing is one list.
+-- Events and transitions: from one revision to another, and as the log grows.
 use Rattle.std.proofs.Common.{◌≡◌, ℕ, ◌≤◌, ◌-◌, max, List, [], ◌∷◌, ◌++◌, fold, filter_map, drop, take, refl, sym, ap, ◌∙◌, append_assoc, inl, inr, arith}
 use Rattle.std.proofs.lemmas.Bool.{cases_lt}
 use Rattle.std.proofs.lemmas.List.{drop_all, length-take}
@@ -8,10 +8,8 @@ use Rattle.rev_log.specs.Changes.{RevisionData}
 use Rattle.rev_log.specs.Logs.{Log, grown, end_of, between}
 use Rattle.rev_log.specs.States.{row_next, row_at}
 use Rattle.rev_log.proofs.GrowthLemmas.{upto-grown, row_at-grown, between-joined, row_at-between}
-use Rattle.rev_log.proofs.StateLemmas.{are_unique}
-use Rattle.select_all.specs.Streams.{EventData, Standing, events_in, events_from, events, transition}
-use Rattle.select_all.specs.Listings.{listing}
-use Rattle.select_all.specs.Laws.{ListingsAreUnique, TransitionsJoin, TransitionsStay}
+use Rattle.select_all.specs.Streams.{EventData, Standing, events_in, events_from, events, transition_by}
+use Rattle.select_all.specs.StreamLaws.{TransitionsJoin, TransitionsStay, TransitionsNone}
 
 -- the events of one part of a log and of the next
 pub events_from-append : (resource : Resource) (rows : Standing) (xs ys : List RevisionData) → events_from resource rows (xs ++ ys) ≡ events_from resource rows xs ++ events_from resource (λ key. fold (row_next resource key) (rows key) xs) ys
@@ -27,9 +25,9 @@ events_join log resource a b c first second =
     ∙ ap (events_from resource (row_at log resource a)) (between-joined log a b c first second)
 
 pub transitions_are_joined : TransitionsJoin
-transitions_are_joined log s a b c first second =
-    sym (filter_map-append (transition s) (events log s.resource a b) (events log s.resource b c))
-    ∙ ap (filter_map (transition s)) (events_join log s.resource a b c first second)
+transitions_are_joined test log resource a b c first second =
+    sym (filter_map-append (transition_by test) (events log resource a b) (events log resource b c))
+    ∙ ap (filter_map (transition_by test)) (events_join log resource a b c first second)
 
 -- nothing lies between a number and one that isn't above it
 pub between-none : (log : Log) (a b : ℕ) → b ≤ a → between log a b ≡ []
@@ -39,11 +37,11 @@ between-none log a b order = none (a - log.first) (b - log.first) log.revisions 
     none m n xs short = drop_all m (take n xs) (omega (arith, length-take n xs))
 
 -- events of no revisions are none
-no_events : (log : Log) (resource : Resource) (a b : ℕ) → b ≤ a → events log resource a b ≡ []
+pub no_events : (log : Log) (resource : Resource) (a b : ℕ) → b ≤ a → events log resource a b ≡ []
 no_events log resource a b order = ap (events_from resource (row_at log resource a)) (between-none log a b order)
 
 -- what lies up to the end stays where it is
-between-grown : (log : Log) (more : List RevisionData) (a b : ℕ) → b ≤ end_of log → between (grown log more) a b ≡ between log a b
+pub between-grown : (log : Log) (more : List RevisionData) (a b : ℕ) → b ≤ end_of log → between (grown log more) a b ≡ between log a b
 between-grown log more a b within = ap (drop (a - log.first)) (upto-grown log more b within)
 
 pub events_stay : (log : Log) (more : List RevisionData) (resource : Resource) (a b : ℕ) → b ≤ max a (end_of log) → events (grown log more) resource a b ≡ events log resource a b
@@ -57,8 +55,7 @@ events_stay log more resource a b within = elim (cases_lt a b) [
 ]
 
 pub transitions_are_kept : TransitionsStay
-transitions_are_kept log more s a b within = ap (filter_map (transition s)) (events_stay log more s.resource a b within)
+transitions_are_kept test log more resource a b within = ap (filter_map (transition_by test)) (events_stay log more resource a b within)
 
-pub listings_are_one : ListingsAreUnique
-listings_are_one log s at rows others these those =
-    these.selected ∙ ap (listing s) (are_unique log s.resource at these.state those.state these.is_state those.is_state) ∙ sym those.selected
+pub no_transitions : TransitionsNone
+no_transitions test log resource a b order = ap (filter_map (transition_by test)) (no_events log resource a b order)

@@ -3,4 +3,7 @@ pub mod Reading
 pub mod Streams
 pub mod Listings
 pub mod Floors
-pub mod Laws
+pub mod EventLaws
+pub mod StreamLaws
+pub mod ListingLaws
+pub mod FloorLaws

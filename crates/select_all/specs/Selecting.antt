@@ -27,10 +27,14 @@ is_within (Some ns) key = bytes_eq (namespace_of key) ns
 abbrev pub selects : Selection → Obj → Bool
 selects s obj = is_within s.ns obj.key && (labels_select s.labels obj.labels && fields_select s.fields obj.fields obj.key)
 
--- an object that isn't there isn't selected
+-- an object that isn't there passes no test
+abbrev pub holds_by : (Obj → Bool) → Option Obj → Bool
+holds_by test None = false
+holds_by test (Some obj) = test obj
+
+-- and so isn't selected
 abbrev pub holds : Selection → Option Obj → Bool
-holds s None = false
-holds s (Some obj) = selects s obj
+holds s obj = holds_by (selects s) obj
 
 -- What a change is to a watch, by whether the object before it and the one after it are selected.
 abbrev pub kind_of_change : Bool → Bool → Option Kind
@@ -38,3 +42,9 @@ kind_of_change false false = None
 kind_of_change false true = Some Added
 kind_of_change true true = Some Modified
 kind_of_change true false = Some Deleted
+
+-- of a deletion what was there before is told, and of the other kinds what is there now
+abbrev pub told_of : {A : Type 0} → Kind → A → A → A
+told_of Added before now = now
+told_of Modified before now = now
+told_of Deleted before now = before

@@ -1,7 +1,9 @@
+//! Selections, and what a change is to them.
+
 ghost use Rattle.std.specs.Prelude.{◌≡◌, ◌↔◌, IfOk, IsTrue, Ok, option_copied};
 ghost use Rattle.select_all.specs.declared.selection.Selection.{Selection as Asked};
 ghost use Rattle.select_all.specs.Reading.{IsRead, Reads, selection_of, label_refusal, field_refusal};
-ghost use Rattle.select_all.specs.Selecting.{Selects, is_within, selects, holds, kind_of_change};
+ghost use Rattle.select_all.specs.Selecting.{Selects, is_within, selects, holds, kind_of_change, told_of};
 
 use field_select::{FieldNo, FieldSel};
 use kube_meta::{Key, Memory, Obj, Resource, Text};
@@ -38,6 +40,19 @@ pub enum Kind {
     Modified,
     /// `DELETED`: it was selected before and isn't now, or is removed.
     Deleted,
+}
+
+impl Kind {
+    /// Which of the two a change of this kind tells: of a deletion what was there before, since what is
+    /// there now isn't selected, and otherwise what is there now.
+    pub fn told<T: Copy>(self, before: T, now: T) -> T
+        ensures { result ≡ told_of self before now }
+    {
+        match self {
+            Kind::Added | Kind::Modified => now,
+            Kind::Deleted => before,
+        }
+    }
 }
 
 /// At which revision a list may be answered, as `resourceVersion` and `resourceVersionMatch` of the

@@ -1,4 +1,4 @@
-use Rattle.select_all.proofs.StreamLaws.{listings_are_one}
+use Rattle.select_all.proofs.ListingLaws.{listings_are_one}
 use Rattle.select_all.proofs.laws.listings_are_unique.Goals as goal
 
 pub returns : goal.returns
