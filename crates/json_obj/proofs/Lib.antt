@@ -4,3 +4,9 @@ pub mod Digits
 pub mod ObjectTexts
 pub mod Found
 pub mod Refused
+pub mod Orderly
+pub mod ReadBack
+pub mod Shown
+pub mod AsShown
+pub mod One
+pub mod PieceTexts

@@ -1,6 +1,6 @@
 -- Members that are put around those of an object, in the order of their names.
 use Rattle.std.proofs.Common.{◌≡◌, ℕ, List, [], ◌∷◌, Ordering, Less, Equal, Greater, nat_cmp, is_eq, refl, sym, ap, ◌∙◌, subst, Bool, true, false, ◌||◌, ◌++◌, true≢false, Option, Some, None, Bor, String, Global, append_assoc}
-use Rattle.std.specs.Prelude.{⊤, MatchOption}
+use Rattle.std.specs.Prelude.{MatchOption}
 use Rattle.std.specs.Cmp.Lexicographic.{slice_cmp}
 use Rattle.std.specs.Ordering.{match_ordering, ordering_reverse}
 use Rattle.std.proofs.lemmas.Cmp.{nat_list_cmp_total}
@@ -9,6 +9,7 @@ use Rattle.std.proofs.lemmas.Slice.Eq.{bytes_eq-Decides}
 use Rattle.serde_json.specs.Data.{Data, Members, no_members, member, put}
 use Rattle.serde_json.specs.View.{members_view}
 use Rattle.serde_json.specs.declared.value.Value.{Value}
+use Rattle.json_obj.specs.Orderly.{IsBelow}
 use Rattle.json_obj.specs.Members.{Grows, Put, puts, IsBefore, members_from}
 
 -- the order of two names
@@ -34,11 +35,6 @@ pub puts-past : (gs : List Put) (l : List ℕ) (e : Data) (ms : Members) → IsB
 puts-past [] l e ms before = refl
 puts-past (g ∷ gs) l e ms before = ap (put g.0 g.1) (puts-past gs l e ms before.1) ∙ put-past g.0 l g.1 e (puts gs ms) before.0
 
--- the name stands before the first member
-abbrev pub IsBelow : List ℕ → Members → Type 0
-IsBelow name no_members = ⊤
-IsBelow name (member l e ms) = cmp name l ≡ Less
-
 put-below : (name : List ℕ) (d : Data) (ms : Members) → IsBelow name ms → put name d ms ≡ member name d ms
 put-below name d no_members below = refl
 put-below name d (member l e ms) below = rw below refl
@@ -48,7 +44,7 @@ IsBelow-match name Less a b c p q r = p
 IsBelow-match name Equal a b c p q r = q
 IsBelow-match name Greater a b c p q r = r
 
-IsBelow-put : (name k : List ℕ) (d : Data) (ms : Members) → cmp name k ≡ Less → IsBelow name ms → IsBelow name (put k d ms)
+pub IsBelow-put : (name k : List ℕ) (d : Data) (ms : Members) → cmp name k ≡ Less → IsBelow name ms → IsBelow name (put k d ms)
 IsBelow-put name k d no_members before below = before
 IsBelow-put name k d (member l e ms) before below = IsBelow-match name (cmp k l) _ _ _ before below below
 

@@ -49,3 +49,13 @@ plain-default (Some m) each = each m refl
 
 pub plain-metadata_of : (d : Data) → has_float d ≡ false → has_float (metadata_of d) ≡ false
 plain-metadata_of d plain = plain-default (get (codes "metadata") d) (λ m e. plain-get (codes "metadata") d m e plain)
+
+both_allowed : (kind meta : Bool) → (if not kind then Some WrongKind else (if not meta then Some BadMeta else None)) ≡ None → (kind ≡ true) × (meta ≡ true)
+both_allowed false meta e = absurd cc
+both_allowed true false e = absurd cc
+both_allowed true true e = (refl, refl)
+
+-- what nothing in the members refuses is of the kind, and its metadata may be stored
+pub members_allowed : (resource : Resource) (ns : List ℕ) (path : Option (List ℕ)) (d : Data) → members_refusal resource ns path d ≡ None
+    → (is_of_kind resource d ≡ true) × (is_metadata ns path (metadata_of d) ≡ true)
+members_allowed resource ns path d e = both_allowed (is_of_kind resource d) (is_metadata ns path (metadata_of d)) e

@@ -8,7 +8,7 @@ use Rattle.serde_json.specs.Read.{read}
 use Rattle.serde_json.specs.Written.{has_float, members_have_float, compact_text}
 use Rattle.kube_meta.specs.Names.{is_object_name, is_label_key, is_label_value}
 use Rattle.kube_meta.specs.Keys.{joined}
-use Rattle.kube_meta.specs.Labels.{value_at}
+use Rattle.kube_meta.specs.Labels.{value_at, AreSorted}
 use Rattle.kube_meta.specs.Objects.{object_json, metadata_json}
 use Rattle.kube_meta.specs.Resources.{api_version_of, kind_of}
 use Rattle.kube_meta.specs.Revisions.{revision_of}
@@ -178,11 +178,15 @@ label_in d name = option_and_then as_str (option_and_then (get name) (get (codes
 pub record IsObjectOf (resource : Resource) (ns : List ℕ) (d : Data) (o : Obj) : Type 0 where
   pub key : o.key ≡ joined ns (name_in (metadata_of d))
   pub labels : (name : List ℕ) → value_at o.labels name ≡ label_in (metadata_of d) name
+  pub sorted : AreSorted o.labels
   pub fields : o.fields ≡ field_values resource d
   -- its text is the compact JSON of the value as it is shown, at every revision
   pub text : has_float d ≡ false → (revision : ℕ) → object_json o revision ≡ compact_text (shown_object resource ns revision (members_in d) (members_in (metadata_of d)))
   -- and that of its metadata lies within it
   pub metadata : has_float d ≡ false → (revision : ℕ) → metadata_json o revision ≡ compact_text (shown_metadata ns revision (members_in (metadata_of d)))
+  -- each side of the revision is UTF-8
+  pub front_utf8 : IsUtf8 o.front
+  pub back_utf8 : IsUtf8 o.back
 
 -- the object, and the revision that a replacement asks for
 pub record Stores (resource : Resource) (ns : List ℕ) (d : Data) (stored : Obj × Option ℕ) : Type 0 where

@@ -1,7 +1,9 @@
 -- The JSON of lists, bookmarks and failures, as the Kubernetes API shows them.
-use Rattle.std.specs.Prelude.{ℕ, List, [], ◌∷◌, Bool, true, false, Option, Some, None, codes, decimal}
+use Rattle.std.specs.Prelude.{ℕ, List, [], ◌∷◌, ◌++◌, Bool, true, false, Option, Some, None, codes, decimal}
 use Rattle.std.specs.List.{concat}
 use Rattle.json.specs.Print.{quoted}
+use Rattle.json_obj.specs.declared.pieces.EventType.{EventType}
+use Rattle.json_obj.specs.declared.pieces.EventType.TheVariants.{Added, Modified, Deleted, Bookmark, Error}
 use Rattle.json_obj.specs.declared.replies.More.{More}
 use Rattle.json_obj.specs.declared.replies.Refusal.{Refusal}
 
@@ -27,6 +29,20 @@ list_back kind revision more =
     concat (codes "],\"kind\":" ∷ quoted kind ∷ codes ",\"metadata\":{" ∷ more_text more
     ∷ codes "\"resourceVersion\":\"" ∷ decimal revision ∷ codes "\"}}" ∷ [])
 
+-- the items after the first, each behind a comma
+abbrev pub later_items : List (List ℕ) → List ℕ
+later_items [] = []
+later_items (item ∷ items) = 44 ∷ (item ++ later_items items)
+
+-- the items, joined by commas
+abbrev pub items_text : List (List ℕ) → List ℕ
+items_text [] = []
+items_text (item ∷ items) = item ++ later_items items
+
+-- a list of these items
+abbrev pub list_text : List ℕ → List ℕ → ℕ → Option More → List (List ℕ) → List ℕ
+list_text version kind revision more items = list_front version ++ (items_text items ++ list_back kind revision more)
+
 -- ---- bookmarks
 
 -- the bookmark that ends the initial events of a watch says so (KEP-3157)
@@ -51,3 +67,36 @@ status_text refusal =
     concat (codes "{\"apiVersion\":\"v1\",\"code\":" ∷ decimal refusal.code ∷ codes "," ∷ details_text refusal.too_large
     ∷ codes "\"kind\":\"Status\",\"message\":" ∷ quoted refusal.message ∷ codes ",\"metadata\":{},\"reason\":" ∷ quoted refusal.reason
     ∷ codes ",\"status\":\"Failure\"}" ∷ [])
+
+-- ---- events of a watch: `{"type":"ADDED","object":{..}}`
+
+abbrev pub type_text : EventType → List ℕ
+type_text Added = codes "ADDED"
+type_text Modified = codes "MODIFIED"
+type_text Deleted = codes "DELETED"
+type_text Bookmark = codes "BOOKMARK"
+type_text Error = codes "ERROR"
+
+-- what stands before the object
+abbrev pub event_front : EventType → List ℕ
+event_front type = concat (codes "{\"type\":\"" ∷ type_text type ∷ codes "\",\"object\":" ∷ [])
+
+-- what stands after it
+abbrev pub event_back : List ℕ
+event_back = codes "}"
+
+abbrev pub event_text : EventType → List ℕ → List ℕ
+event_text type object = event_front type ++ (object ++ event_back)
+
+-- ---- the answer of an operation: a number
+
+abbrev pub value_text : ℕ → List ℕ
+value_text value = concat (codes "{\"value\":" ∷ decimal value ∷ codes "}" ∷ [])
+
+-- ---- a resource version that is too old: the Status of a list, and of a watch's error
+
+abbrev pub expired_message : ℕ → ℕ → List ℕ
+expired_message asked floor = concat (codes "too old resource version: " ∷ decimal asked ∷ codes " (" ∷ decimal floor ∷ codes ")" ∷ [])
+
+abbrev pub expired_text : ℕ → ℕ → List ℕ
+expired_text asked floor = status_text (record { code = 410; reason = codes "Expired"; message = expired_message asked floor; too_large = false })

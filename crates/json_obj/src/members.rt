@@ -1,4 +1,5 @@
-// An object's members, written in the order of their names, around values that are put among them.
+//! An object's members, written in the order of their names, around values that are put among them.
+
 ghost use Rattle.std.specs.Prelude.{◌≡◌, ◌∷◌, [], ◌++◌, OnOk, IfOk, string_bytes, true, false};
 ghost use Rattle.json.specs.Print.{quoted as quoted_text};
 ghost use Rattle.serde_json.specs.View.{view, members_view};

@@ -1,4 +1,5 @@
-// What may be stored of an object's metadata.
+//! What may be stored of an object's metadata.
+
 ghost use Rattle.std.specs.Prelude.{◌≡◌, ◌≢◌, ℕ, List, false, IfOk, OnOk, None, option_map, option_and_then};
 ghost use Rattle.std.specs.Option.{option_map_or};
 ghost use Rattle.std.specs.Str.{bytes_eq};

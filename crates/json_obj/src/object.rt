@@ -1,5 +1,6 @@
-// Objects from JSON.
-ghost use Rattle.std.specs.Prelude.{◌≡◌, ◌≢◌, IfOk, IfErr, None, Some, option_map, string_bytes};
+//! Objects from JSON.
+
+ghost use Rattle.std.specs.Prelude.{◌≡◌, ◌≢◌, not, if◌then◌else◌, IfOk, IfErr, None, Some, option_map, string_bytes, IsUtf8};
 ghost use Rattle.kube_meta.specs.Keys.{joined};
 ghost use Rattle.kube_meta.specs.Names.{IsNamespace, IsObjectName};
 ghost use Rattle.serde_json.specs.Data.{Data};
@@ -67,7 +68,8 @@ pub fn read_value(alloc: Global, bytes: &[u8]) -> Result<Value, ObjNo>
     Ok(value)
 }
 
-/// The object of the resource for a value that was read already, as `read_obj` has it. Of its numbers and its nesting nothing is asked.
+/// The object of the resource for a value that was read already, as `read_obj` has it. Of its numbers and its nesting
+/// nothing is asked.
 pub fn obj_of(
     alloc: Global,
     value: &Value,
@@ -81,22 +83,65 @@ pub fn obj_of(
         × Stores resource ns.now (view value.now) stored) }
     ensures refused { let path = option_map (λ n. n.now) name.entry in IfErr result (λ no.
         no ≢ ObjNo.Memory → object.members_refusal resource ns.now path (view value.now) ≡ Some no) }
+    ensures exact { let path = option_map (λ n. n.now) name.entry in (no : ObjNo)
+        → object.members_refusal resource ns.now path (view value.now) ≡ Some no → result ≡ Err no }
+{
+    match members_fault(value, resource, ns, name) {
+        Some(no) => Err(no),
+        None => Ok(object_for(alloc, value, resource, ns, name)?),
+    }
+}
+
+/// Why the value isn't stored, of the two reasons that lie in its members. It takes no memory to tell.
+pub fn members_fault(
+    value: &Value,
+    resource: Resource,
+    ns: &Text,
+    name: Option<&Text>,
+) -> Option<ObjNo>
+    ensures { result ≡ object.members_refusal resource ns.now (option_map (λ n. n.now) name.entry) (view value.now) }
+{
+    if !is_of_kind(value, resource) {
+        return Some(ObjNo::WrongKind);
+    }
+    match value.get("metadata") {
+        Some(metadata) => metadata_fault(metadata, ns, name),
+        None => Some(ObjNo::BadMeta),
+    }
+}
+
+fn metadata_fault(metadata: &Value, ns: &Text, name: Option<&Text>) -> Option<ObjNo>
+    ensures { result ≡ (if not (object.is_metadata ns.now (option_map (λ n. n.now) name.entry) (view metadata.now))
+        then Some ObjNo.BadMeta else None) }
+{
+    if is_metadata(metadata, ns.as_str(), name) {
+        None
+    } else {
+        Some(ObjNo::BadMeta)
+    }
+}
+
+// The object of a value that nothing in its members refuses.
+fn object_for(
+    alloc: Global,
+    value: &Value,
+    resource: Resource,
+    ns: &Text,
+    name: Option<&Text>,
+) -> Result<(Obj, Option<u64>), Memory>
+    requires namespace { IsNamespace ns.now }
+    requires allowed { object.members_refusal resource ns.now (option_map (λ n. n.now) name) (view value.now) ≡ None }
+    ensures { IfOk result (Stores resource ns.now (view value.now)) }
 {
     let Some(members) = value.as_object() else {
-        return Err(ObjNo::WrongKind);
+        unreachable!()
     };
-    if !is_of_kind(value, resource) {
-        return Err(ObjNo::WrongKind);
-    }
     let Some(metadata) = value.get("metadata") else {
-        return Err(ObjNo::BadMeta);
+        unreachable!()
     };
     let Some(metadata_members) = metadata.as_object() else {
-        return Err(ObjNo::BadMeta);
+        unreachable!()
     };
-    if !is_metadata(metadata, ns.as_str(), name) {
-        return Err(ObjNo::BadMeta);
-    }
     let given = revision_in(metadata.get("resourceVersion")).unwrap_or(None);
     let text = object_text(alloc, resource, ns.as_str(), members, metadata_members)?;
     let object = stored(alloc, value, metadata, resource, ns, text)?;
@@ -123,15 +168,25 @@ fn stored(
     let key = key_of(alloc, metadata, ns)?;
     let labels = labels_in(alloc, metadata)?;
     let fields = fields_of(alloc, value, resource)?;
+    let _in_order = labels.pairs();
     Ok(Obj {
         key,
         labels,
         fields,
-        front: Text::from_string(text.front),
-        back: Text::from_string(text.back),
+        front: kept(text.front),
+        back: kept(text.back),
         meta_from: text.meta_from,
         meta_to: text.meta_to,
     })
+}
+
+// A text that is kept. It's UTF-8, as each text.
+fn kept(text: String) -> Text
+    ensures same { result ≡ string_bytes text }
+    ensures utf8 { IsUtf8 result }
+{
+    let _utf8 = text.as_str();
+    Text::from_string(text)
 }
 
 // The key of the object with this metadata.

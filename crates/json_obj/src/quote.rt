@@ -1,4 +1,5 @@
-// Strings and the names of members, as JSON has them.
+//! Strings and the names of members, as JSON has them.
+
 ghost use Rattle.std.specs.Prelude.{◌≡◌, [], ◌∷◌, ◌++◌, IfOk, OnOk, string_bytes};
 ghost use Rattle.std.specs.List.{list_all};
 ghost use Rattle.json.specs.Print.{quoted as quoted_text};

@@ -1,3 +1,5 @@
+//! Why a body holds no object that can be stored.
+
 use kube_meta::Memory;
 
 /// Why a body holds no object that can be stored; the first of these that holds.

@@ -1,3 +1,5 @@
+//! The texts of lists, bookmarks and failures.
+
 ghost use Rattle.std.specs.Prelude.{◌≡◌, IfOk, option_map, string_bytes};
 ghost use Rattle.json.specs.Print.{quoted as quoted_text};
 ghost use Rattle.kube_meta.specs.Resources.{api_version_of, kind_of, list_kind_of};

@@ -1,4 +1,5 @@
-// The JSON of an object around its revision, which is left open.
+//! The JSON of an object around its revision, which is left open.
+
 ghost use Rattle.std.specs.Prelude.{◌≡◌, OnOk, IfOk, string_bytes};
 ghost use Rattle.serde_json.specs.View.{members_view};
 ghost use Rattle.json_obj.specs.Objects.{WritesMetadata, WritesObject};

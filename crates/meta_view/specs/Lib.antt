@@ -1,1 +1,3 @@
 pub mod Partial
+pub mod Accept
+pub mod Lines

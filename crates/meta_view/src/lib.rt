@@ -7,8 +7,15 @@ ghost use Rattle.kube_meta.specs.Objects.{metadata_json};
 ghost use Rattle.json_obj.specs.Replies.{list_front, list_back, bookmark_text};
 ghost use Rattle.meta_view.specs.Partial.{version, kind, list_kind, partial_json, ShowsMetadataAlone};
 
+mod accept;
+mod form;
+mod lines;
+
+pub use accept::wants_metadata;
+pub use form::Form;
 use json_obj::{More, bookmark_as, list_parts_as};
 use kube_meta::{Memory, Row};
+pub use lines::{shown_bookmark, shown_list_back, shown_list_front, shown_list_more, shown_pieces};
 use std::alloc::Global;
 
 const VERSION: &str = "meta.k8s.io/v1";
@@ -65,6 +72,3 @@ pub fn meta_bookmark(alloc: Global, rev: u64, closing: bool) -> Result<Vec<u8>, 
 pub fn metadata_is_that_of_the_object()
     ensures { ShowsMetadataAlone }
 {}
-
-#[cfg(test)]
-mod tests;

@@ -4,7 +4,8 @@ use Rattle.serde_json.specs.View.{view, members_view}
 use Rattle.serde_json.specs.Written.{has_float, members_have_float, comma_if, compact_text, members_text}
 use Rattle.json.specs.Print.{quoted}
 use Rattle.json_obj.specs.Members.{Grows, puts, left_of, members_from}
-use Rattle.json_obj.proofs.Puts.{Grows-again, cmp, IsBelow, put-front, put-same, put-later, member_text, or-false, members_from-next}
+use Rattle.json_obj.specs.Orderly.{IsBelow}
+use Rattle.json_obj.proofs.Puts.{Grows-again, cmp, put-front, put-same, put-later, member_text, or-false, members_from-next}
 use Rattle.json_obj.proofs.members.Unwritten.write_below.Goals as goal
 
 pub returns-in_default-clause-text : goal.returns-in_default-clause-text
