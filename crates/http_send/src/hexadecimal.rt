@@ -1,3 +1,5 @@
+//! Numbers in hexadecimal digits.
+
 ghost use Rattle.std.specs.Prelude.{◌≡◌, ◌<◌, ◌≤◌, drop, false};
 ghost use Rattle.std.specs.Fmt.{digit_glyph};
 ghost use Rattle.http_send.specs.Replies.{hexadecimal};

@@ -1,13 +1,13 @@
-//! Replies out: the heads of HTTP/1.1 replies and the frames of chunked streams (RFC 9112), written piece by piece to any
-//! [`Sink`] with no copy of the body.
+//! Replies out: the heads of HTTP/1.1 replies and the frames of chunked streams (RFC 9112), written piece by piece to
+//! any [`Sink`] with no copy of the body.
 #![tactic(auto)]
 
 mod hexadecimal;
 mod pieces;
 mod replies;
 
-pub use pieces::{SendNo, part};
-pub use replies::{begin_chunk, begin_reply, begin_stream, end_chunk, end_stream};
+pub use pieces::{SendNo, part, parts};
+pub use replies::{begin_chunk, begin_reply, begin_stream, end_chunk, end_stream, send_chunk};
 
 #[cfg(test)]
 mod tests;

@@ -1,4 +1,6 @@
-ghost use Rattle.std.specs.Prelude.{◌≡◌, ◌≤◌, OnOk, OnErr, length};
+//! Pieces that are written one after the other.
+
+ghost use Rattle.std.specs.Prelude.{◌≡◌, ◌≤◌, OnOk, OnErr};
 ghost use Rattle.std.specs.List.{flat_map};
 ghost use Rattle.edge_io.specs.Told.{appended, AppendedSome};
 ghost use Rattle.edge_io.specs.Counts.{Rose};
@@ -12,10 +14,12 @@ pub enum SendNo {
     WriteFault,
 }
 
-/// Writes exactly these bytes: a piece of a body or of a chunk. Pieces are written one after the other and never joined.
+/// Writes exactly these bytes: a piece of a body or of a chunk. Pieces are written one after the other and never
+/// joined.
 pub fn part<K: Sink>(sink: &mut K, bytes: &[u8]) -> Result<(), SendNo>
     ensures sent { OnOk result (K.written sink.new ≡ appended (K.written sink.old) bytes.now) }
     ensures broken { OnErr result (AppendedSome (K.written sink.old) (K.written sink.new) bytes.now) }
+    ensures quiet { OnOk result (K.faults sink.new ≡ K.faults sink.old) }
     ensures counted { OnErr result (Rose (K.faults sink.old) (K.faults sink.new)) }
     ensures never_falls { K.faults sink.old ≤ K.faults sink.new }
 {
@@ -25,18 +29,16 @@ pub fn part<K: Sink>(sink: &mut K, bytes: &[u8]) -> Result<(), SendNo>
     }
 }
 
-// Writes these pieces, one after the other.
-pub(crate) fn parts<K: Sink>(sink: &mut K, pieces: &[&[u8]]) -> Result<(), SendNo>
+/// Writes these pieces, one after the other.
+pub fn parts<K: Sink>(sink: &mut K, pieces: &[&[u8]]) -> Result<(), SendNo>
     ensures sent { OnOk result (K.written sink.new ≡ appended (K.written sink.old) (flat_map (λ piece. piece.now) pieces.now)) }
     ensures broken { OnErr result (AppendedSome (K.written sink.old) (K.written sink.new) (flat_map (λ piece. piece.now) pieces.now)) }
+    ensures quiet { OnOk result (K.faults sink.new ≡ K.faults sink.old) }
     ensures counted { OnErr result (Rose (K.faults sink.old) (K.faults sink.new)) }
     ensures never_falls { K.faults sink.old ≤ K.faults sink.new }
 {
-    for piece in pieces {
-        match part(sink, piece) {
-            Ok(()) => {}
-            Err(no) => return Err(no),
-        }
+    match sink.write_pieces(pieces) {
+        Ok(()) => Ok(()),
+        Err(_) => Err(SendNo::WriteFault),
     }
-    Ok(())
 }

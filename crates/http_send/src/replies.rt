@@ -1,11 +1,14 @@
-ghost use Rattle.std.specs.Prelude.{◌≡◌, ◌≤◌, OnOk, OnErr};
+//! The heads of replies and streams, and chunks.
+
+ghost use Rattle.std.specs.Prelude.{◌≡◌, ◌<◌, ◌≤◌, ◌^◌, OnOk, OnErr, length};
+ghost use Rattle.std.specs.List.{flat_map};
 ghost use Rattle.edge_io.specs.Told.{appended, AppendedSome};
 ghost use Rattle.edge_io.specs.Counts.{Rose};
-ghost use Rattle.http_send.specs.Replies.{reply_head_text, stream_head_text, chunk_head_text, stream_end_text, crlf, text_where, phrase};
+ghost use Rattle.http_send.specs.Replies.{reply_head_text, stream_head_text, chunk_head_text, chunk_text, stream_end_text, crlf, text_where, phrase};
 
 use crate::hexadecimal::hexadecimal_text;
 use crate::pieces::{SendNo, part, parts};
-use edge_io::Sink;
+use edge_io::{Sink, length_of};
 use http::StatusCode;
 use itoa::Buffer;
 
@@ -26,8 +29,8 @@ fn piece_where(flag: bool, piece: &'static [u8]) -> &'static [u8]
     if flag { piece } else { b"" }
 }
 
-/// Writes the head of a reply, up to and with its empty line, for a body of `length` bytes of JSON. `retry` says that the
-/// client may ask again after a second, and `close` that the connection ends with this reply.
+/// Writes the head of a reply, up to and with its empty line, for a body of `length` bytes of JSON. `retry` says that
+/// the client may ask again after a second, and `close` that the connection ends with this reply.
 pub fn begin_reply<K: Sink>(
     sink: &mut K,
     code: u16,
@@ -37,6 +40,7 @@ pub fn begin_reply<K: Sink>(
 ) -> Result<(), SendNo>
     ensures sent { OnOk result (K.written sink.new ≡ appended (K.written sink.old) (reply_head_text code retry close length)) }
     ensures broken { OnErr result (AppendedSome (K.written sink.old) (K.written sink.new) (reply_head_text code retry close length)) }
+    ensures quiet { OnOk result (K.faults sink.new ≡ K.faults sink.old) }
     ensures counted { OnErr result (Rose (K.faults sink.old) (K.faults sink.new)) }
     ensures never_falls { K.faults sink.old ≤ K.faults sink.new }
 {
@@ -60,6 +64,7 @@ pub fn begin_reply<K: Sink>(
 pub fn begin_stream<K: Sink>(sink: &mut K) -> Result<(), SendNo>
     ensures sent { OnOk result (K.written sink.new ≡ appended (K.written sink.old) stream_head_text) }
     ensures broken { OnErr result (AppendedSome (K.written sink.old) (K.written sink.new) stream_head_text) }
+    ensures quiet { OnOk result (K.faults sink.new ≡ K.faults sink.old) }
     ensures counted { OnErr result (Rose (K.faults sink.old) (K.faults sink.new)) }
     ensures never_falls { K.faults sink.old ≤ K.faults sink.new }
 {
@@ -69,10 +74,13 @@ pub fn begin_stream<K: Sink>(sink: &mut K) -> Result<(), SendNo>
     )
 }
 
-/// Writes the size of a chunk of `length` bytes.
+/// Writes the size of a chunk of `length` bytes. A chunk has some: one of none would end the stream.
 pub fn begin_chunk<K: Sink>(sink: &mut K, length: u64) -> Result<(), SendNo>
+    requires some { 1 ≤ length }
+    requires told { length < 2 ^ 63 }
     ensures sent { OnOk result (K.written sink.new ≡ appended (K.written sink.old) (chunk_head_text length)) }
     ensures broken { OnErr result (AppendedSome (K.written sink.old) (K.written sink.new) (chunk_head_text length)) }
+    ensures quiet { OnOk result (K.faults sink.new ≡ K.faults sink.old) }
     ensures counted { OnErr result (Rose (K.faults sink.old) (K.faults sink.new)) }
     ensures never_falls { K.faults sink.old ≤ K.faults sink.new }
 {
@@ -85,16 +93,33 @@ pub fn begin_chunk<K: Sink>(sink: &mut K, length: u64) -> Result<(), SendNo>
 pub fn end_chunk<K: Sink>(sink: &mut K) -> Result<(), SendNo>
     ensures sent { OnOk result (K.written sink.new ≡ appended (K.written sink.old) crlf) }
     ensures broken { OnErr result (AppendedSome (K.written sink.old) (K.written sink.new) crlf) }
+    ensures quiet { OnOk result (K.faults sink.new ≡ K.faults sink.old) }
     ensures counted { OnErr result (Rose (K.faults sink.old) (K.faults sink.new)) }
     ensures never_falls { K.faults sink.old ≤ K.faults sink.new }
 {
     part(sink, b"\r\n")
 }
 
+/// Writes a whole chunk: its size, these pieces, one after the other, and its end.
+pub fn send_chunk<K: Sink>(sink: &mut K, pieces: &[&[u8]]) -> Result<(), SendNo>
+    requires some { 1 ≤ length (flat_map (λ piece. piece.now) pieces.now) }
+    requires told { length (flat_map (λ piece. piece.now) pieces.now) < 2 ^ 63 }
+    ensures sent { OnOk result (K.written sink.new ≡ appended (K.written sink.old) (chunk_text (flat_map (λ piece. piece.now) pieces.now))) }
+    ensures broken { OnErr result (AppendedSome (K.written sink.old) (K.written sink.new) (chunk_text (flat_map (λ piece. piece.now) pieces.now))) }
+    ensures quiet { OnOk result (K.faults sink.new ≡ K.faults sink.old) }
+    ensures counted { OnErr result (Rose (K.faults sink.old) (K.faults sink.new)) }
+    ensures never_falls { K.faults sink.old ≤ K.faults sink.new }
+{
+    begin_chunk(sink, length_of(pieces))?;
+    parts(sink, pieces)?;
+    end_chunk(sink)
+}
+
 /// Ends the chunks of a stream.
 pub fn end_stream<K: Sink>(sink: &mut K) -> Result<(), SendNo>
     ensures sent { OnOk result (K.written sink.new ≡ appended (K.written sink.old) stream_end_text) }
     ensures broken { OnErr result (AppendedSome (K.written sink.old) (K.written sink.new) stream_end_text) }
+    ensures quiet { OnOk result (K.faults sink.new ≡ K.faults sink.old) }
     ensures counted { OnErr result (Rose (K.faults sink.old) (K.faults sink.new)) }
     ensures never_falls { K.faults sink.old ≤ K.faults sink.new }
 {

@@ -1,4 +1,8 @@
-use crate::{SendNo, begin_chunk, begin_reply, begin_stream, end_chunk, end_stream, part};
+//! What no contract says, tried.
+
+use crate::{
+    SendNo, begin_chunk, begin_reply, begin_stream, end_chunk, end_stream, part, send_chunk,
+};
 use edge_io::{MemSink, Sink};
 use std::alloc::{AllocError, Global};
 use std::test::Fail;
@@ -94,30 +98,9 @@ fn a_chunk_stands_between_its_length_and_a_line_end(rt: HostRuntime) -> Result<(
     Ok(())
 }
 
-#[test]
-fn lengths_are_hexadecimal(rt: HostRuntime) -> Result<(), Fail> {
-    for (length, text) in [
-        (1u64, b"1\r\n".as_slice()),
-        (16, b"10\r\n".as_slice()),
-        (151, b"97\r\n".as_slice()),
-        (0xabcdef, b"abcdef\r\n".as_slice()),
-        (
-            9_223_372_036_854_775_807,
-            b"7fffffffffffffff\r\n".as_slice(),
-        ),
-    ] {
-        let mut sink = sink(rt.alloc());
-        assert_eq!(rt; begin_chunk(&mut sink, length), Ok(()));
-        assert_eq!(rt; sink.bytes(), text);
-    }
-    Ok(())
-}
-
 fn whole_stream(sink: &mut impl Sink) -> Result<(), SendNo> {
     begin_stream(sink)?;
-    begin_chunk(sink, 3)?;
-    part(sink, b"{}\n")?;
-    end_chunk(sink)?;
+    send_chunk(sink, &[b"{}", b"\n"])?;
     end_stream(sink)
 }
 

@@ -1,3 +1,5 @@
+//! The answer that opens a WebSocket.
+
 ghost use Rattle.std.specs.Prelude.{◌≡◌, ◌≤◌, ◌++◌, ◌↔◌, IsTrue, IfOk, OnOk, OnErr};
 ghost use Rattle.edge_io.specs.Told.{appended, AppendedSome};
 ghost use Rattle.edge_io.specs.Counts.{Rose};
@@ -24,8 +26,8 @@ fn digest_of(key: &str) -> [u8; 20]
     hasher.finalize()
 }
 
-/// The value of `Sec-WebSocket-Accept` that answers a key (RFC 6455, section 4.2.2): the base64 of the SHA-1 of the key and
-/// the identifier that the RFC gives. Any text may stand in the key's place.
+/// The value of `Sec-WebSocket-Accept` that answers a key (RFC 6455, section 4.2.2): the base64 of the SHA-1 of the
+/// key and the identifier that the RFC gives. Any text may stand in the key's place.
 pub fn accept_text(alloc: Global, key: &str) -> Result<Text, Memory>
     ensures { IfOk result (λ text. text ≡ accept_of key.now) }
 {
@@ -43,8 +45,9 @@ fn accept_bytes(key: &str) -> [u8; 28]
     text
 }
 
-/// Whether a client asks for a WebSocket as it must (RFC 6455, section 4.2.1): its version is `13`, and its key is the
-/// standard base64 of 16 bytes, with its padding and no bits left over. Both are compared as they stand, blanks included.
+/// Whether a client asks for a WebSocket as it must (RFC 6455, section 4.2.1): its version is `13`, and its key is
+/// the standard base64 of 16 bytes, with its padding and no bits left over. Both are compared as they stand, blanks
+/// included.
 pub fn is_upgrade(key: &str, version: &str) -> bool
     ensures { IsTrue result ↔ IsUpgrade key.now version.now }
 {
@@ -62,10 +65,12 @@ fn is_socket_key(key: &[u8]) -> bool
     }
 }
 
-/// Writes the head that opens a WebSocket, up to and with its empty line: the status 101, and the answer to the client's key.
+/// Writes the head that opens a WebSocket, up to and with its empty line: the status 101, and the answer to the
+/// client's key.
 pub fn begin_socket<K: Sink>(sink: &mut K, key: &str) -> Result<(), WsNo>
     ensures sent { OnOk result (K.written sink.new ≡ appended (K.written sink.old) (socket_head_text key.now)) }
     ensures broken { OnErr result (AppendedSome (K.written sink.old) (K.written sink.new) (socket_head_text key.now)) }
+    ensures quiet { OnOk result (K.faults sink.new ≡ K.faults sink.old) }
     ensures counted { OnErr result (Rose (K.faults sink.old) (K.faults sink.new)) }
     ensures never_falls { K.faults sink.old ≤ K.faults sink.new }
 {

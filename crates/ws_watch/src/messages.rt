@@ -1,10 +1,13 @@
-ghost use Rattle.std.specs.Prelude.{◌≡◌, ◌≤◌, ◌<◌, ◌^◌, OnOk, OnErr};
+//! The frames of messages and of the close.
+
+ghost use Rattle.std.specs.Prelude.{◌≡◌, ◌≤◌, ◌<◌, ◌^◌, OnOk, OnErr, length};
+ghost use Rattle.std.specs.List.{flat_map};
 ghost use Rattle.edge_io.specs.Told.{appended, AppendedSome};
 ghost use Rattle.edge_io.specs.Counts.{Rose};
-ghost use Rattle.ws_watch.specs.Messages.{message_head_text, socket_end_text};
+ghost use Rattle.ws_watch.specs.Messages.{message_head_text, message_text, socket_end_text};
 
-use crate::writing::{WsNo, write_bytes};
-use edge_io::Sink;
+use crate::writing::{WsNo, write_bytes, write_pieces};
+use edge_io::{Sink, length_of};
 
 // The first byte of a text message: the last of its fragments, no reserved bit, and the opcode 1.
 const TEXT: u8 = 0x81;
@@ -12,13 +15,14 @@ const TEXT: u8 = 0x81;
 // The first byte of a close: the same bits, and the opcode 8.
 const CLOSE: u8 = 0x88;
 
-/// Writes the head of one text message of `length` bytes, without a mask and in one fragment (RFC 6455, section 5.2). The
-/// bytes of the message follow it, in pieces of any size.
+/// Writes the head of one text message of `length` bytes, without a mask and in one fragment (RFC 6455, section 5.2).
+/// The bytes of the message follow it, in pieces of any size.
 pub fn begin_message<K: Sink>(sink: &mut K, length: u64) -> Result<(), WsNo>
     requires some { 1 ≤ length }
     requires told { length < 2 ^ 63 }
     ensures sent { OnOk result (K.written sink.new ≡ appended (K.written sink.old) (message_head_text length)) }
     ensures broken { OnErr result (AppendedSome (K.written sink.old) (K.written sink.new) (message_head_text length)) }
+    ensures quiet { OnOk result (K.faults sink.new ≡ K.faults sink.old) }
     ensures counted { OnErr result (Rose (K.faults sink.old) (K.faults sink.new)) }
     ensures never_falls { K.faults sink.old ≤ K.faults sink.new }
 {
@@ -33,11 +37,26 @@ pub fn begin_message<K: Sink>(sink: &mut K, length: u64) -> Result<(), WsNo>
     }
 }
 
-/// Writes the frame that closes a WebSocket: the status code 1000, a normal closure, and no reason (RFC 6455, sections 5.5.1
-/// and 7.4.1). Nothing may follow it.
+/// Writes a whole text message: its head, and these pieces, one after the other.
+pub fn send_message<K: Sink>(sink: &mut K, pieces: &[&[u8]]) -> Result<(), WsNo>
+    requires some { 1 ≤ length (flat_map (λ piece. piece.now) pieces.now) }
+    requires told { length (flat_map (λ piece. piece.now) pieces.now) < 2 ^ 63 }
+    ensures sent { OnOk result (K.written sink.new ≡ appended (K.written sink.old) (message_text (flat_map (λ piece. piece.now) pieces.now))) }
+    ensures broken { OnErr result (AppendedSome (K.written sink.old) (K.written sink.new) (message_text (flat_map (λ piece. piece.now) pieces.now))) }
+    ensures quiet { OnOk result (K.faults sink.new ≡ K.faults sink.old) }
+    ensures counted { OnErr result (Rose (K.faults sink.old) (K.faults sink.new)) }
+    ensures never_falls { K.faults sink.old ≤ K.faults sink.new }
+{
+    begin_message(sink, length_of(pieces))?;
+    write_pieces(sink, pieces)
+}
+
+/// Writes the frame that closes a WebSocket: the status code 1000, a normal closure, and no reason (RFC 6455,
+/// sections 5.5.1 and 7.4.1). Nothing may follow it.
 pub fn end_socket<K: Sink>(sink: &mut K) -> Result<(), WsNo>
     ensures sent { OnOk result (K.written sink.new ≡ appended (K.written sink.old) socket_end_text) }
     ensures broken { OnErr result (AppendedSome (K.written sink.old) (K.written sink.new) socket_end_text) }
+    ensures quiet { OnOk result (K.faults sink.new ≡ K.faults sink.old) }
     ensures counted { OnErr result (Rose (K.faults sink.old) (K.faults sink.new)) }
     ensures never_falls { K.faults sink.old ≤ K.faults sink.new }
 {

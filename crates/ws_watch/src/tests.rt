@@ -1,3 +1,5 @@
+//! What no contract says, tried.
+
 ghost use Rattle.std.specs.Prelude.{◌≤◌, ◌<◌, ◌^◌, length};
 
 use crate::{WsNo, accept_text, begin_message, begin_socket, end_socket, is_upgrade};
