@@ -40,18 +40,21 @@ fn all_heads(alloc: Global) -> Result<Vec<u8>, AllocError> {
 }
 
 fn check<R: Runtime>(rt: &R, alloc: Global, text: &[u8]) -> io::Result<()> {
-    let (read, parsed) = (reads_requests(alloc, text).unwrap_or(0), parses_heads(text));
+    let mut source = MemSource::new(text.to_vec(alloc)?, 65_536, Vec::new(alloc));
+    let (read, parsed) = (
+        reads_requests(alloc, &mut source).unwrap_or(0),
+        parses_heads(text),
+    );
     println!(rt; "bench_http: {read} heads are read, and {parsed} by httparse")
 }
 
-// Reads all requests of a text, and answers how many have a parameter `limit`.
+// Reads all requests of a source, and answers how many have a parameter `limit`.
 #[inline(never)]
-fn reads_requests(alloc: Global, text: &[u8]) -> Result<u32, ReqNo> {
-    let mut source = MemSource::new(text.to_vec(alloc)?, 65_536, Vec::new(alloc));
+fn reads_requests(alloc: Global, source: &mut MemSource) -> Result<u32, ReqNo> {
     let mut reader = Reader::new(alloc)?;
     let mut read = 0u32;
     for _ in 0..HEADS {
-        if let Some(req) = reader.next_request(&mut source)? {
+        if let Some(req) = reader.next_request(source)? {
             if req.params.get("limit").is_some() {
                 read = read.saturating_add(1);
             }
@@ -94,8 +97,9 @@ fn report<R: Runtime>(rt: &R, alloc: Global, text: &[u8]) -> io::Result<()> {
     let mut read = 0u32;
     let (mut reader, mut parser) = (u64::MAX, u64::MAX);
     for _ in 0..RUNS {
+        let mut source = MemSource::new(text.to_vec(alloc)?, 65_536, Vec::new(alloc));
         let from = Instant::now(rt)?;
-        read = read.saturating_add(reads_requests(alloc, text).unwrap_or(0));
+        read = read.saturating_add(reads_requests(alloc, &mut source).unwrap_or(0));
         reader = best(rt, from, reader)?;
         let from = Instant::now(rt)?;
         read = read.saturating_add(parses_heads(text));

@@ -21,7 +21,7 @@ fronts_equal a b c d e l =
 ok_equal : (r : Result ℕ ReqNo) (m n : ℕ) → r ≡ Ok m → r ≡ Ok n → m ≡ n
 ok_equal r m n p q = cc
 
-not_both : (r : Result ℕ ReqNo) (n : ℕ) (why : ReqNo) → r ≡ Ok n → r ≡ Err why → ⊥
+pub not_both : (r : Result ℕ ReqNo) (n : ℕ) (why : ReqNo) → r ≡ Ok n → r ≡ Err why → ⊥
 not_both r n why p q = cc
 
 pub one-way : ReadsInOneWay
@@ -32,7 +32,7 @@ one-way bytes req other rest behind x y =
     (x.req_is ∙ ap (λ h. request_of h x.body) same.0 ∙ ap (request_of y.head) parts.0 ∙ sym y.req_is, parts.1)
 
 -- a head within the limit begins the front
-has-front : (bytes : List ℕ) (h : RequestHead) (after : List ℕ) → HasHead bytes h after
+pub has-front : (bytes : List ℕ) (h : RequestHead) (after : List ℕ) → HasHead bytes h after
     → ReadsRequest (front bytes) h (take (most_head - length (print_request h)) after)
 has-front bytes h after x = (
   x.reads.0,
@@ -126,7 +126,7 @@ refusal-stays bytes more why refusal =
     by_head Memory r = r
 
 -- a whole request has bytes
-not-nothing : (bytes : List ℕ) (req : Req) (rest : List ℕ) → ReadsOne bytes req rest → bytes ≡ [] → ⊥
+pub not-nothing : (bytes : List ℕ) (req : Req) (rest : List ℕ) → ReadsOne bytes req rest → bytes ≡ [] → ⊥
 not-nothing bytes req rest x none =
     let h = x.head in
     let behind = h.target ++ 32 ∷ (print_version h.minor ++ (print_end h.line_end ++ (print_section h.fields h.last ++ (x.body ++ rest)))) in
@@ -139,7 +139,7 @@ not-nothing bytes req rest x none =
     ))
 
 -- where no whole request is in front, none is
-ends-apart : (bytes : List ℕ) (ending : Ending) (req : Req) (rest : List ℕ) → EndsAs bytes ending → ReadsOne bytes req rest → ⊥
+pub ends-apart : (bytes : List ℕ) (ending : Ending) (req : Req) (rest : List ℕ) → EndsAs bytes ending → ReadsOne bytes req rest → ⊥
 ends-apart bytes clean req rest e x = not-nothing bytes req rest x e
 ends-apart bytes cut_short req rest e x = not-cut-short bytes req rest x e
 ends-apart bytes (refused why) req rest e x = not-refused bytes req rest why x e

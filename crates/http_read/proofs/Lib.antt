@@ -4,3 +4,5 @@ pub mod PieceLemmas
 pub mod HeadLemmas
 pub mod BodyLemmas
 pub mod LawLemmas
+pub mod EndingLemmas
+pub mod IdleLemmas

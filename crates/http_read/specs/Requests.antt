@@ -66,6 +66,10 @@ RefusesBody bytes why = (h : RequestHead) × (after : List ℕ) × HasHead bytes
 abbrev pub IsRefused : List ℕ → ReqNo → Type 0
 IsRefused bytes why = RefusesHead bytes why ⊎ RefusesBody bytes why
 
+-- the bytes begin with a whole head that isn't refused, so that a request was to be made of it
+abbrev pub StandsHead : List ℕ → Type 0
+StandsHead bytes = (h : RequestHead) × (after : List ℕ) × (n : ℕ) × HasHead bytes h after × (head_answer h ≡ Ok n)
+
 -- the bytes end inside a request: in its head, which more bytes could go on, or in its body
 abbrev pub EndsInHead : List ℕ → Type 0
 EndsInHead bytes =

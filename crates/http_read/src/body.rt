@@ -1,3 +1,5 @@
+//! The body of a request.
+
 ghost use Rattle.std.specs.Prelude.{◌≡◌, [], length, IfOk};
 
 use kube_meta::Memory;

@@ -1,3 +1,5 @@
+//! A head that was read, and what it says of the body.
+
 ghost use Rattle.std.specs.Prelude.{◌≡◌, ◌≤◌, ◌++◌, ℕ, List, length, map, take, IfOk, IfSome, codes, Option, All, IsUtf8, []};
 ghost use Rattle.std.specs.Str.Lossy.{utf8_lossy};
 ghost use Rattle.std.specs.Option.{option_map};
@@ -5,7 +7,8 @@ ghost use Rattle.edge_io.specs.Told.{prepended};
 ghost use Rattle.httparse.specs.Spans.{span_bytes, IsHeaderWithin, header_bytes};
 ghost use Rattle.http_read.specs.Heads as head;
 ghost use Rattle.http_read.specs.Queries.{path_of, query_of, query_pairs};
-ghost use Rattle.http_read.specs.Requests.{front, request_with};
+ghost use Rattle.http_read.specs.Requests.{front, request_with, IsUnfinished};
+ghost use Rattle.http_read.specs.Answers.{UnlessFault};
 ghost use Rattle.http_read.specs.Steps.{FindsHead, LooksAtHead, ReadsHead, fields_at, request_at};
 
 use crate::body::Body;
@@ -58,6 +61,8 @@ pub(crate) fn read_head<S: Source>(
     requires { length spans.old ≡ 64 }
     ensures reads { (taken : List ℕ) × (S.left source.old ≡ prepended taken (S.left source.new)) × (kept.new ≡ kept.old ++ taken)
         × ReadsHead kept.new spans.new (S.left source.new) (S.faults source.old) (S.faults source.new) result }
+    ensures idle { (IsUnfinished kept.old → ⊥) → (kept.new ≡ kept.old) × (source.new ≡ source.old) }
+    ensures quiet { UnlessFault result (S.faults source.new ≡ S.faults source.old) }
     ensures never_falls { S.faults source.old ≤ S.faults source.new }
 {
     loop {

@@ -1,4 +1,6 @@
-ghost use Rattle.std.specs.Prelude.{◌≡◌, ℕ, ◌+◌, ◌-◌, ◌<◌, ◌≤◌, ◌==◌, List, [], ◌++◌, length, take, drop, IfOk, OnErr};
+//! The bytes that a reader keeps.
+
+ghost use Rattle.std.specs.Prelude.{◌≡◌, ℕ, ◌+◌, ◌-◌, ◌<◌, ◌≤◌, ◌==◌, List, [], ◌++◌, length, take, drop, IfOk, OnOk, OnErr};
 ghost use Rattle.edge_io.specs.Told.{prepended, IsExhausted};
 ghost use Rattle.edge_io.specs.Counts.{Rose};
 
@@ -77,12 +79,16 @@ impl Kept {
         *self.buffer.allocator()
     }
 
-    /// Lets the first `n` bytes go.
+    /// Lets the first `n` bytes go. Where none is left, the buffer begins anew.
     pub(crate) fn consume(&mut self, n: usize)
         requires { n ≤ length self.old }
         ensures { self.new ≡ drop n self.old }
     {
         self.start += n;
+        if self.start == self.end {
+            self.start = 0;
+            self.end = 0;
+        }
     }
 
     /// Reads more bytes behind those that are there, and answers how many.
@@ -91,6 +97,7 @@ impl Kept {
         ensures taken { IfOk result (λ n. (taken : List ℕ) × (length taken ≡ n) × (self.new ≡ self.old ++ taken)
             × (S.left source.old ≡ prepended taken (S.left source.new)) × (n ≡ 0 → IsExhausted (S.left source.new))) }
         ensures kept { OnErr result ((self.new ≡ self.old) × (S.left source.new ≡ S.left source.old)) }
+        ensures quiet { OnOk result (S.faults source.new ≡ S.faults source.old) }
         ensures counted { OnErr result (Rose (S.faults source.old) (S.faults source.new)) }
         ensures never_falls { S.faults source.old ≤ S.faults source.new }
     {

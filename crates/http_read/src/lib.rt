@@ -15,12 +15,9 @@ mod request;
 mod segments;
 
 pub use body::Body;
-pub use laws::requests_are_read_in_one_way;
+pub use laws::{endings_are_determined, requests_agree, requests_are_read_in_one_way};
 pub use params::Params;
 pub use reader::Reader;
 pub use refusal::ReqNo;
 pub use request::{Req, Upgrade};
 pub use segments::Segments;
-
-#[cfg(test)]
-mod tests;

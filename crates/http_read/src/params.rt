@@ -1,3 +1,5 @@
+//! The parameters of a query.
+
 ghost use Rattle.std.specs.Prelude.{◌≡◌, IfOk, codes, length};
 ghost use Rattle.std.specs.Option.{option_map};
 ghost use Rattle.std.specs.Str.{bytes_eq};
@@ -75,8 +77,8 @@ impl Params {
         }
     }
 
-    /// What a truth parameter says: `None` where it is unset, false where its first value is `0` or, without regard to ASCII
-    /// case, `false`, and true otherwise, as where it is empty.
+    /// What a truth parameter says: `None` where it is unset, false where its first value is `0` or, without regard
+    /// to ASCII case, `false`, and true otherwise, as where it is empty.
     pub fn truth(&self, name: &str) -> Option<bool>
         ensures { result ≡ option_map is_truth (first_value name.now self.now) }
     {

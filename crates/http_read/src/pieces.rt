@@ -1,3 +1,5 @@
+//! Texts cut at separators.
+
 ghost use Rattle.std.specs.Prelude.{◌≡◌, ◌+◌, ◌<◌, ◌≤◌, ◌==◌, [], ◌∷◌, length, IfSome, IfNone, IsTrue};
 ghost use Rattle.std.specs.List.{before_first, after_first};
 ghost use Rattle.httparse.specs.Grammar.{trim_ows, is_ows, skip_ows};

@@ -1,10 +1,12 @@
+//! The reader of requests.
+
 ghost use Rattle.std.specs.Prelude.{◌≡◌, ◌≤◌, ◌++◌, ℕ, List, [], None, IfOk, IfSome, IsNone, length};
 ghost use Rattle.edge_io.specs.Told.{prepended};
-ghost use Rattle.http_read.specs.Answers.{AnswersNext, Repeats, Reads};
+ghost use Rattle.http_read.specs.Answers.{AnswersNext, Repeats, Reads, UnlessFault, kept_refusal};
 ghost use Rattle.http_read.specs.Steps.{FillsBody, FindsHead};
 ghost use Rattle.httparse.specs.Grammar.{RequestHead};
 ghost use Rattle.httparse.specs.Spans.{IsRequestAt};
-ghost use Rattle.http_read.specs.Requests.{front, head_answer, request_of};
+ghost use Rattle.http_read.specs.Requests.{front, head_answer, request_of, IsUnfinished};
 
 use crate::body::Body;
 use crate::fields::body_length;
@@ -22,6 +24,8 @@ use std::marker::Model;
 fn read_rest<S: Source>(source: &mut S, body: &mut [u8]) -> Result<(), ReqNo>
     ensures reads { (taken : List ℕ) × (S.left source.old ≡ prepended taken (S.left source.new))
         × FillsBody taken body.new [] (S.left source.new) (S.faults source.old) (S.faults source.new) result }
+    ensures idle { length body.old ≡ 0 → source.new ≡ source.old }
+    ensures quiet { UnlessFault result (S.faults source.new ≡ S.faults source.old) }
     ensures never_falls { S.faults source.old ≤ S.faults source.new }
 {
     let mut at = 0;
@@ -38,7 +42,10 @@ fn read_rest<S: Source>(source: &mut S, body: &mut [u8]) -> Result<(), ReqNo>
 // Fills `body` from the bytes that are kept, and then from a source.
 fn read_body<S: Source>(kept: &mut Kept, source: &mut S, body: &mut [u8]) -> Result<(), ReqNo>
     ensures reads { (taken : List ℕ) × (S.left source.old ≡ prepended taken (S.left source.new))
-        × FillsBody (kept.old ++ taken) body.new kept.new (S.left source.new) (S.faults source.old) (S.faults source.new) result }
+        × FillsBody (kept.old ++ taken) body.new kept.new (S.left source.new) (S.faults source.old) (S.faults source.new) result
+        × (length body.old ≤ length kept.old → taken ≡ []) }
+    ensures idle { length body.old ≤ length kept.old → source.new ≡ source.old }
+    ensures quiet { UnlessFault result (S.faults source.new ≡ S.faults source.old) }
     ensures never_falls { S.faults source.old ≤ S.faults source.new }
 {
     let n = kept.bytes().len().min(body.len());
@@ -56,8 +63,8 @@ fn zeros(alloc: Global, n: usize) -> Result<Vec<u8>, Memory>
     Ok(zeros)
 }
 
-/// Reads requests from a source, one after the other. Contracts see the bytes that it took beyond its last request, and the
-/// refusal that it keeps.
+/// Reads requests from a source, one after the other. Contracts see the bytes that it took beyond its last request,
+/// and the refusal that it keeps.
 #[derive(Debug, Drop)]
 pub struct Reader {
     kept: Kept,
@@ -72,7 +79,8 @@ impl Model for Reader {
     ghost view = { λ reader. record { kept = reader.kept; refusal = reader.refusal } };
 }
 
-// Reads the body of a request whose head was found in the bytes that are kept. Memory is asked for before a byte is let go.
+// Reads the body of a request whose head was found in the bytes that are kept. Memory is asked for before a byte is
+// let go.
 fn read_found<S: Source>(
     kept: &mut Kept,
     source: &mut S,
@@ -81,7 +89,10 @@ fn read_found<S: Source>(
 ) -> Result<Option<Req>, ReqNo>
     requires { FindsHead kept.old spans.now found }
     ensures reads { (taken : List ℕ) × (S.left source.old ≡ prepended taken (S.left source.new))
-        × Reads (kept.old ++ taken) result kept.new (S.left source.new) (S.faults source.old) (S.faults source.new) }
+        × Reads (kept.old ++ taken) result kept.new (S.left source.new) (S.faults source.old) (S.faults source.new)
+        × ((IsUnfinished kept.old → ⊥) → taken ≡ []) }
+    ensures idle { (IsUnfinished kept.old → ⊥) → source.new ≡ source.old }
+    ensures quiet { UnlessFault result (S.faults source.new ≡ S.faults source.old) }
     ensures never_falls { S.faults source.old ≤ S.faults source.new }
 {
     let alloc = kept.allocator();
@@ -142,7 +153,10 @@ fn request_in(
 // Reads the next request, behind the bytes that are kept.
 fn read_next<S: Source>(kept: &mut Kept, source: &mut S) -> Result<Option<Req>, ReqNo>
     ensures reads { (taken : List ℕ) × (S.left source.old ≡ prepended taken (S.left source.new))
-        × Reads (kept.old ++ taken) result kept.new (S.left source.new) (S.faults source.old) (S.faults source.new) }
+        × Reads (kept.old ++ taken) result kept.new (S.left source.new) (S.faults source.old) (S.faults source.new)
+        × ((IsUnfinished kept.old → ⊥) → taken ≡ []) }
+    ensures idle { (IsUnfinished kept.old → ⊥) → source.new ≡ source.old }
+    ensures quiet { UnlessFault result (S.faults source.new ≡ S.faults source.old) }
     ensures never_falls { S.faults source.old ≤ S.faults source.new }
 {
     let mut spans = [EMPTY_HEADER_SPAN; MOST_FIELDS];
@@ -150,6 +164,17 @@ fn read_next<S: Source>(kept: &mut Kept, source: &mut S) -> Result<Option<Req>, 
         Ok(Some(found)) => read_found(kept, source, &spans, found),
         Ok(None) => Ok(None),
         Err(why) => Err(why),
+    }
+}
+
+// The refusal that a reader keeps after an answer.
+fn refusal_of(answer: &Result<Option<Req>, ReqNo>) -> Option<ReqNo>
+    ensures { result ≡ kept_refusal answer.now }
+{
+    match answer {
+        Ok(_) => None,
+        Err(ReqNo::Memory) => None,
+        Err(why) => Some(*why),
     }
 }
 
@@ -166,24 +191,24 @@ impl Reader {
 
     /// Reads the next request. `None` means that the input ended and no byte of a further request was there.
     ///
-    /// After a refusal the reader has failed, and each later call answers that refusal again. After [`ReqNo::Memory`] what
-    /// was taken is kept, and a later call goes on.
+    /// Nothing is read where what the reader kept is a whole request, or is refused as it stands: a client that sends
+    /// one request and waits is answered.
+    ///
+    /// After a refusal the reader has failed, and each later call answers that refusal again. After [`ReqNo::Memory`]
+    /// what was taken is kept, and a later call goes on; it comes only where a whole head stands that isn't refused.
     pub fn next_request<S: Source>(&mut self, source: &mut S) -> Result<Option<Req>, ReqNo>
-        ensures repeats { IfSome self.old.refusal (Repeats self.old self.new (S.left source.old) (S.left source.new) result) }
+        ensures repeats { IfSome self.old.refusal (Repeats self.old self.new source.old source.new result) }
         ensures reads { IsNone self.old.refusal → AnswersNext self.old self.new (S.left source.old) (S.left source.new)
             (S.faults source.old) (S.faults source.new) result }
+        ensures idle { (IsUnfinished self.old.kept → ⊥) → source.new ≡ source.old }
+        ensures quiet { UnlessFault result (S.faults source.new ≡ S.faults source.old) }
         ensures never_falls { S.faults source.old ≤ S.faults source.new }
     {
         if let Some(why) = self.refusal {
             return Err(why);
         }
-        match read_next(&mut self.kept, source) {
-            Ok(answer) => Ok(answer),
-            Err(ReqNo::Memory) => Err(ReqNo::Memory),
-            Err(why) => {
-                self.refusal = Some(why);
-                Err(why)
-            }
-        }
+        let answer = read_next(&mut self.kept, source);
+        self.refusal = refusal_of(&answer);
+        answer
     }
 }

@@ -1,11 +1,13 @@
+//! Why no request was read.
+
 use std::alloc::AllocError;
 
 /// Why no request was read. A reader that gave one of these, other than [`ReqNo::Memory`], gives it again at each later
 /// call.
 #[derive(Clone, Copy, Debug, PartialEq, Eq)]
 pub enum ReqNo {
-    /// The head is no head of the grammar and can't become one; or its version is 1.0; or Content-Length occurs twice or
-    /// isn't 1 to 15 digits.
+    /// The head is no head of the grammar and can't become one; or its version is 1.0; or Content-Length occurs twice
+    /// or isn't 1 to 15 digits.
     Malformed,
     /// The first 16,384 bytes hold no whole head.
     HeadTooLong,

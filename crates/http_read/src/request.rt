@@ -1,3 +1,5 @@
+//! A request that was read.
+
 use crate::body::Body;
 use crate::params::Params;
 use crate::segments::Segments;

@@ -1,3 +1,5 @@
+//! The segments of a path.
+
 ghost use Rattle.std.specs.Prelude.{◌≡◌, IfOk, map};
 ghost use Rattle.form_urlencoded.specs.Form as form;
 ghost use Rattle.http_read.specs.Queries.{segment_text, segments_of, slash};

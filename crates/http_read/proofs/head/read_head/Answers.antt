@@ -1,8 +1,9 @@
-use Rattle.std.proofs.Common.{subst, ap, ◌∙◌, ◌++◌, append_assoc}
+use Rattle.std.proofs.Common.{subst, ap, ◌∙◌, ◌++◌, append_assoc, inr}
 use Rattle.edge_io.specs.Told.{prepended}
 use Rattle.edge_io.proofs.ToldLemmas.{prepended-prepended}
 use Rattle.http_read.specs.Requests.{RefusesHead}
 use Rattle.http_read.proofs.HeadLemmas.{refuses-head, ends-in-head}
+use Rattle.http_read.proofs.IdleLemmas.{other-case, unfinished-before}
 use Rattle.http_read.proofs.head.read_head.Goals as goal
 
 pub returns-in-Err-clause-reads : goal.returns-in-Err-clause-reads
@@ -23,3 +24,31 @@ returns-in-Ok-eq0-2-clause-reads g c =
         came.4 c.in-Ok-eq0.field-0-test,
       ),
     )
+
+pub returns-in-Ok-Some-clause-idle : goal.returns-in-Ok-Some-clause-idle
+returns-in-Ok-Some-clause-idle g c = other-case c.loop-found.invariant.idle
+
+pub returns-in-Ok-eq0-2-clause-idle : goal.returns-in-Ok-eq0-2-clause-idle
+returns-in-Ok-eq0-2-clause-idle g c = λ finished.
+    absurd (finished (unfinished-before c.bytes.result.now c.loop-found.kept c.args.kept.now c.bytes.ensures
+    (rw c.in-Ok-None.field-0-is at c.in-Ok-None.ensures) c.loop-found.invariant.idle))
+
+pub returns-in-Err-fill-clause-idle : goal.returns-in-Err-fill-clause-idle
+returns-in-Err-fill-clause-idle g c = λ finished.
+    absurd (finished (unfinished-before c.bytes.result.now c.loop-found.kept c.args.kept.now c.bytes.ensures
+    (rw c.in-Ok-None.field-0-is at c.in-Ok-None.ensures) c.loop-found.invariant.idle))
+
+pub loop-found-preserved : goal.loop-found-preserved
+loop-found-preserved g c =
+    let so_far = c.loop-found.invariant.taken in
+    let came = c.in-Ok.ensures.taken in record {
+      spans = c.look.auto.spans ∙ c.loop-found.invariant.spans;
+      taken = (
+        so_far.0 ++ came.0,
+        so_far.1 ∙ ap (prepended so_far.0) came.3 ∙ prepended-prepended so_far.0 came.0 _,
+        came.2 ∙ ap (λ l. l ++ came.0) so_far.2 ∙ append_assoc _ so_far.0 came.0,
+      );
+      idle = inr (unfinished-before c.bytes.result.now c.loop-found.kept c.args.kept.now c.bytes.ensures
+          (rw c.in-Ok-None.field-0-is at c.in-Ok-None.ensures) c.loop-found.invariant.idle);
+      quiet = c.in-Ok.ensures.quiet ∙ c.loop-found.invariant.quiet;
+    }

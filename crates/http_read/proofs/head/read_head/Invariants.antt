@@ -1,14 +1,16 @@
-use Rattle.std.proofs.Common.{◌≡◌, ◌≤◌, ◌-◌, ◌++◌, List, ℕ, length}
+use Rattle.std.proofs.Common.{◌≡◌, ◌-◌, ◌++◌, ◌⊎◌, List, ℕ, length}
 use Rattle.edge_io.specs.Told.{prepended}
 use Rattle.http_read.specs.Heads.{most_head}
+use Rattle.http_read.specs.Requests.{IsUnfinished}
 use Rattle.http_read.proofs.head.read_head.Given as goal
 
--- some bytes were taken, and stand behind those that were kept
+-- some bytes were taken, and stand behind those that were kept; or none, unless those are unfinished
 abbrev pub invariant-loop-found : goal.invariant-loop-found
 invariant-loop-found g l = record {
   spans : length l.spans ≡ 64;
   taken : (taken : List ℕ) × (g.S.Source.left l.initial.source ≡ prepended taken (g.S.Source.left l.source)) × (l.kept ≡ l.initial.kept ++ taken);
-  never_falls : g.S.Source.faults l.initial.source ≤ g.S.Source.faults l.source;
+  idle : ((l.kept ≡ l.initial.kept) × (l.source ≡ l.initial.source)) ⊎ IsUnfinished l.initial.kept;
+  quiet : g.S.Source.faults l.source ≡ g.S.Source.faults l.initial.source;
 }
 
 abbrev pub decreases-loop-found : goal.decreases-loop-found

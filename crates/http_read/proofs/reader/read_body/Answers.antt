@@ -2,6 +2,7 @@ use Rattle.std.proofs.Common.{ap, sym, subst, ◌≡◌, ◌∙◌, ◌-◌, ◌
 use borrow.Rule.Slice.PartMut.{post_of}
 use Rattle.http_read.specs.Steps.{FillsBody}
 use Rattle.http_read.proofs.BodyLemmas.{fills, all_or_none, body-filled}
+use Rattle.http_read.proofs.IdleLemmas.{fills-nothing}
 use Rattle.http_read.proofs.reader.read_body.Goals as goal
 
 pub returns-clause-reads : goal.returns-clause-reads
@@ -26,4 +27,5 @@ returns-clause-reads g c =
       came.1,
       subst (λ k. FillsBody (kept ++ came.0) body k left f f' c.read_rest.result) (sym c.consume.ensures)
           (subst (λ b. FillsBody (kept ++ came.0) b (drop n kept) left f f' c.read_rest.result) (sym (filled ∙ ap (λ l. l ++ rest) copied)) whole),
+      λ enough. fills-nothing came.0 rest left f f' c.read_rest.result (omega (arith, rest_len, least, enough)) came.2,
     )

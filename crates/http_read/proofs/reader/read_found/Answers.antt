@@ -1,4 +1,4 @@
-use Rattle.std.proofs.Common.{ap, sym, subst, ◌≡◌, ◌∙◌, ◌++◌, [], drop, length, arith}
+use Rattle.std.proofs.Common.{ap, sym, subst, refl, ◌≡◌, ◌∙◌, ◌++◌, [], drop, length, append-nil, arith}
 use Rattle.std.specs.Prelude.{Ok, Err}
 use Rattle.std.proofs.lemmas.List.{with_items_is}
 use Rattle.edge_io.proofs.ToldLemmas.{prepended-nil}
@@ -6,6 +6,7 @@ use Rattle.httparse.specs.Spans.{IsRequestAt}
 use Rattle.http_read.specs.Requests.{front}
 use Rattle.http_read.specs.Steps.{FillsBody}
 use Rattle.http_read.proofs.BodyLemmas.{has-head, head-within, refuses-body, breaks-off, reads-one}
+use Rattle.http_read.proofs.IdleLemmas.{body-stands, head-here}
 use Rattle.http_read.proofs.reader.read_found.Goals as goal
 
 pub returns-in-Err-clause-reads : goal.returns-in-Err-clause-reads
@@ -18,6 +19,7 @@ returns-in-Err-clause-reads g c =
       sym (prepended-nil _),
       refuses-body (kept ++ []) f.head (drop c.args.found.len kept ++ []) c.in-Err.why kept (g.S.Source.left c.args.source.now) faults faults
           (has-head kept [] c.args.spans.now c.args.found f) (sym (c.in-Err.ensures f.head at)),
+      λ finished. refl,
     )
 
 pub consume-requires : goal.consume-requires
@@ -41,6 +43,9 @@ returns-in-Ok-read_body-clause-reads g c =
           (ap (λ l. l ++ came.0) (sym c.consume.ensures) ∙ came.2 ∙ ap (λ l. l ++ c.read_body.new.kept) (sym body))
           (sym (c.in-Ok.ensures f.head at) ∙ ap Ok long)
           (c.in-Ok-request_in.ensures f.head at-2),
+      λ finished.
+          let stands = body-stands kept f.head (drop c.args.found.len kept) c.in-Ok.length (head-here kept c.args.spans.now c.args.found f) (sym (c.in-Ok.ensures f.head at)) finished in
+          came.3 (omega (arith, stands, ap length c.consume.ensures, ap length c.as_mut_slice.ensures.value, c.in-Ok-zeros.ensures)),
     )
 
 pub returns-in-Err-read_body-clause-reads : goal.returns-in-Err-read_body-clause-reads
@@ -60,4 +65,45 @@ returns-in-Err-read_body-clause-reads g c =
           (has-head kept came.0 c.args.spans.now c.args.found f)
           (sym (c.in-Ok.ensures f.head at) ∙ ap Ok long)
           (subst (λ l. FillsBody (l ++ came.0) c.read_body.new.body c.read_body.new.kept left old_faults new_faults (Err c.in-Err-read_body.why)) c.consume.ensures came.2),
+      λ finished.
+          let stands = body-stands kept f.head (drop c.args.found.len kept) c.in-Ok.length (head-here kept c.args.spans.now c.args.found f) (sym (c.in-Ok.ensures f.head at)) finished in
+          came.3 (omega (arith, stands, ap length c.consume.ensures, ap length c.as_mut_slice.ensures.value, c.in-Ok-zeros.ensures)),
+    )
+
+pub returns-in-Ok-read_body-clause-idle : goal.returns-in-Ok-read_body-clause-idle
+returns-in-Ok-read_body-clause-idle g c = λ finished.
+    let kept = c.args.kept.now in
+    let f = c.requires in
+    let at = subst (λ b. IsRequestAt (front b) c.args.spans.now c.args.found f.head) (sym c.bytes.ensures) f.at in
+    let stands = body-stands kept f.head (drop c.args.found.len kept) c.in-Ok.length (head-here kept c.args.spans.now c.args.found f) (sym (c.in-Ok.ensures f.head at)) finished in
+    c.in-Ok-read_body.ensures.idle (omega (arith, stands, ap length c.consume.ensures, ap length c.as_mut_slice.ensures.value, c.in-Ok-zeros.ensures))
+
+pub returns-in-Err-read_body-clause-idle : goal.returns-in-Err-read_body-clause-idle
+returns-in-Err-read_body-clause-idle g c = λ finished.
+    let kept = c.args.kept.now in
+    let f = c.requires in
+    let at = subst (λ b. IsRequestAt (front b) c.args.spans.now c.args.found f.head) (sym c.bytes.ensures) f.at in
+    let stands = body-stands kept f.head (drop c.args.found.len kept) c.in-Ok.length (head-here kept c.args.spans.now c.args.found f) (sym (c.in-Ok.ensures f.head at)) finished in
+    c.in-Err-read_body.ensures.idle (omega (arith, stands, ap length c.consume.ensures, ap length c.as_mut_slice.ensures.value, c.in-Ok-zeros.ensures))
+
+pub returns-in-Err-request_in-clause-reads : goal.returns-in-Err-request_in-clause-reads
+returns-in-Err-request_in-clause-reads g c =
+    let kept = c.args.kept.now in
+    let f = c.requires in
+    let at = subst (λ b. IsRequestAt (front b) c.args.spans.now c.args.found f.head) (sym c.bytes.ensures) f.at in (
+      [],
+      sym (prepended-nil _),
+      (sym (append-nil kept), (f.head, drop c.args.found.len kept ++ [], c.in-Ok.length, has-head kept [] c.args.spans.now c.args.found f, sym (c.in-Ok.ensures f.head at))),
+      λ finished. refl,
+    )
+
+pub returns-in-Err-zeros-clause-reads : goal.returns-in-Err-zeros-clause-reads
+returns-in-Err-zeros-clause-reads g c =
+    let kept = c.args.kept.now in
+    let f = c.requires in
+    let at = subst (λ b. IsRequestAt (front b) c.args.spans.now c.args.found f.head) (sym c.bytes.ensures) f.at in (
+      [],
+      sym (prepended-nil _),
+      (sym (append-nil kept), (f.head, drop c.args.found.len kept ++ [], c.in-Ok.length, has-head kept [] c.args.spans.now c.args.found f, sym (c.in-Ok.ensures f.head at))),
+      λ finished. refl,
     )

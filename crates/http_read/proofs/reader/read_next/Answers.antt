@@ -4,6 +4,8 @@ use Rattle.edge_io.specs.Told.{prepended}
 use Rattle.edge_io.proofs.ToldLemmas.{prepended-prepended}
 use Rattle.http_read.specs.Answers.{Reads}
 use Rattle.http_read.proofs.BodyLemmas.{no-head, reads-later}
+use Rattle.http_read.proofs.IdleLemmas.{none-taken}
+use Rattle.http_read.specs.Requests.{IsUnfinished}
 use Rattle.http_read.proofs.reader.read_next.Goals as goal
 
 pub returns-in-Ok-Some-clause-reads : goal.returns-in-Ok-Some-clause-reads
@@ -18,6 +20,10 @@ returns-in-Ok-Some-clause-reads g c =
       subst (λ b. Reads b c.read_found.result c.read_found.new.kept left old_faults new_faults)
           (ap (λ l. l ++ more.0) first.2 ∙ append_assoc c.args.kept.now first.0 more.0)
           (reads-later _ c.read_found.result c.read_found.new.kept left old_faults _ new_faults c.read_head.ensures.never_falls c.read_found.ensures.never_falls more.2),
+      λ finished.
+          let same = (c.in-Ok-Some.ensures.idle finished).0 in
+          ap (λ l. l ++ more.0) (none-taken c.args.kept.now c.read_head.new.kept first.0 first.2 same)
+          ∙ more.3 (λ u. finished (subst IsUnfinished same u)),
     )
 
 pub returns-in-Err-clause-reads : goal.returns-in-Err-clause-reads
@@ -30,4 +36,10 @@ returns-in-Err-clause-reads g c =
       came.1,
       subst (λ b. Reads b (Err c.in-Err.why) c.read_head.new.kept left old_faults new_faults) came.2
           (no-head c.read_head.new.kept c.read_head.new.spans left old_faults new_faults c.in-Err.why came.3),
+      λ finished. none-taken c.args.kept.now c.read_head.new.kept came.0 came.2 (c.in-Err.ensures.idle finished).0,
     )
+
+pub returns-in-Ok-Some-clause-idle : goal.returns-in-Ok-Some-clause-idle
+returns-in-Ok-Some-clause-idle g c = λ finished.
+    let same = c.in-Ok-Some.ensures.idle finished in
+    c.read_found.ensures.idle (λ u. finished (subst IsUnfinished same.0 u)) ∙ same.1

@@ -15,5 +15,6 @@ loop-at-preserved g c =
           c.loop-at.invariant.taken ∙ ap (prepended (take at body)) c.in-Ok.ensures.taken
           ∙ prepended-prepended (take at body) (take c.in-Ok.n new) _
           ∙ ap (λ l. prepended l (g.S.Source.left c.read.new.self)) (sym (take-part body new _ at c.in-Ok.n c.loop-at.invariant.within c.in-Ok.ensures.within));
-      never_falls = omega arith;
+      idle = λ none. absurd (omega (arith, c.loop-at-test.true, none, c.read.auto.buf, same_len_mid at (length body - at) body new c.read.auto.buf, length-take (length body - at) (drop at body), length-drop at body));
+      quiet = c.in-Ok.ensures.quiet ∙ c.loop-at.invariant.quiet;
     }

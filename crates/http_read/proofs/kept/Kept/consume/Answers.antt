@@ -2,8 +2,8 @@ use Rattle.std.proofs.Common.{◌∙◌, ap, drop}
 use Rattle.http_read.proofs.WindowLemmas.{window-consume, window-length}
 use Rattle.http_read.proofs.kept.Kept.consume.Goals as goal
 
-pub returns : goal.returns
-returns c =
+pub returns-else-self : goal.returns-else-self
+returns-else-self c =
     let b = c.self.inside in
     window-consume b.buffer.items b.start b.end c.args.n
     (window-length _ _ _ _ c.self.view_is c.self.invariant.1 c.requires)
