@@ -12,7 +12,7 @@ use Rattle.up_api.specs.Sections.{Learns}
 
 -- what two sections learn, one after the other
 pub learns-on : (p q r : Pass RevisionData) → Learns p q → Learns q r → Learns p r
-learns-on p q r one two = record { extends = extends_trans p q r one.extends two.extends; loads_stay = two.loads_stay ∙ one.loads_stay }
+learns-on p q r one two = record { extends = extends_trans p q r one.extends two.extends; loads_stay = two.loads_stay ∙ one.loads_stay; last_stays = two.last_stays ∙ one.last_stays }
 
 nothing-between : (log : Log) (a : ℕ) → between log a a ≡ []
 nothing-between log a = nil_from_length (between log a a) (omega (arith, length-drop (a - log.first) (take (a - log.first) log.revisions), length-take (a - log.first) log.revisions))

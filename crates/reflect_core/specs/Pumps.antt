@@ -3,8 +3,11 @@ use Rattle.std.specs.Prelude.{◌≡◌, ℕ, zero, suc, ◌<◌, ◌≤◌, ◌
 use Rattle.kube_meta.specs.declared.resources.Resource.{Resource}
 use Rattle.rev_front.specs.Passes.{Pass}
 use Rattle.rev_log.specs.Changes.{RevisionData}
+use Rattle.rev_log.specs.Logs.{Log}
+use Rattle.up_api.specs.Feeds.{PolledData, IsPoll, feed_at}
 use Rattle.up_api.specs.Sections.{counted}
 use Rattle.up_api.specs.declared.feeds.Feed.{Feed}
+use Rattle.reflect_core.specs.declared.pump.Pumped.{Pumped}
 
 -- a reflector: the resource, how many changes it polls at a time, and the feed that it follows
 pub record ReflectorState : Type 0 where
@@ -33,6 +36,31 @@ generation_of None p = p.gen
 abbrev pub IsKnown : Option Feed → Pass RevisionData → Type 0
 IsKnown (Some feed) p = feed.gen_ ≤ p.gen
 IsKnown None p = Unit {0}
+
+-- what a pump answers that had nothing to do
+abbrev pub unmoved : ℕ → Pumped
+unmoved end = record { end = end; cuts = 0; rebuilds = 0 }
+
+-- there is a feed, and it is complete up to this revision
+abbrev pub IsCompleteTo : ℕ → Option Feed → Type 0
+IsCompleteTo at (Some feed) = feed.upto ≡ at
+IsCompleteTo at None = ⊥
+
+-- the last poll of a pump: it began below what was asked, at the cache's end or behind it, and gave all up to the cache's new end
+pub record LastPoll (log : Log) (resource : Resource) (batch old until new : ℕ) : Type 0 where
+  pub from : ℕ
+  pub polled : PolledData
+  pub behind : old ≤ from
+  pub short : from < until
+  pub poll : IsPoll log resource from batch polled
+  pub reached : polled.upto ≡ new
+
+-- what a pump did that had to poll and didn't build the cache anew: the feed stands at the cache's new end, in the generation
+-- that the pass knows. Where it stood at the old end and no cut was met, it is the same feed, moved on
+pub record GoesOn (log : Log) (r s : ReflectorState) (p q : Pass RevisionData) (old until new cuts : ℕ) : Type 0 where
+  pub feed : s.feed ≡ Some (feed_at r.resource new q.gen)
+  pub uncut : IsCompleteTo old r.feed → cuts ≡ 0 → q.gen ≡ generation_of r.feed p
+  pub last_poll : LastPoll log r.resource r.batch old until new
 
 -- a count that goes up by so many
 abbrev pub raised : ℕ → ℕ → ℕ

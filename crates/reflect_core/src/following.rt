@@ -1,6 +1,9 @@
+//! Following a feed until it is cut, compacted or far enough.
+
 ghost use Rattle.std.specs.Prelude.{◌≡◌, ◌≤◌, ◌<◌, ℕ, None, Ok, Some, IfOk, IfErr, OnErr, OnOk, IfSome};
-ghost use Rattle.up_api.specs.Sections.{Learns, StandsAt, Knows, HasSeenAll, RefusesAt, Sections, StaysOrKnows};
-ghost use Rattle.reflect_core.specs.Pumps.{generation_of, IsKnown, FeedsFrom};
+ghost use Rattle.up_api.specs.Feeds.{feed_at};
+ghost use Rattle.up_api.specs.Sections.{log_of, Learns, StaysOrSeesAll, StandsAt, Knows};
+ghost use Rattle.reflect_core.specs.Pumps.{generation_of, GoesOn, IsCompleteTo, IsKnown, FeedsFrom, LastPoll};
 ghost use Rattle.reflect_core.specs.declared.following.Followed.TheVariants as followed;
 
 use crate::reflector::Reflector;
@@ -30,9 +33,12 @@ impl Reflector {
         requires within { end ≤ told.old.shown }
         ensures forgets { self.new ≡ record self.old { feed = None } }
         ensures learns { Learns told.old told.new }
+        ensures seen { StaysOrSeesAll told.old told.new }
         ensures own { U.own up.new ≡ U.own up.old }
+        ensures history { U.history up.new ≡ U.history up.old }
         ensures reads { U.reads up.new ≡ U.reads up.old }
         ensures knows { IfSome (U.own up.old) (λ w. Knows w told.old → Knows w told.new) }
+        ensures kept { IsCompleteTo end self.old.feed → result ≡ Ok self.old.feed }
         ensures feed { IfOk result (λ found. IfSome found (FeedsFrom self.old.resource end (generation_of self.old.feed told.old) told.new.gen)) }
         ensures compacted { result ≡ Ok None → end < told.new.floor }
     {
@@ -47,8 +53,8 @@ impl Reflector {
         }
     }
 
-    /// Polls the feed until the cache stands for the log at least up to `until`, or the feed can't go on. A feed that can't
-    /// go on is forgotten.
+    /// Polls the feed until the cache stands for the log at least up to `until`, or the feed can't go on. A feed that
+    /// can't go on is forgotten.
     pub(crate) fn follow<N: LogFacts, H: Held<N>, U: Upstream<N>>(
         &mut self,
         held: &mut H,
@@ -69,10 +75,17 @@ impl Reflector {
         ensures window { H.window held.new ≡ H.window held.old }
         ensures base { H.base held.new ≡ H.base held.old }
         ensures rebuilds { H.rebuilds held.new ≡ H.rebuilds held.old }
+        ensures seen { StaysOrSeesAll told.old told.new }
         ensures own { U.own up.new ≡ U.own up.old }
+        ensures history { U.history up.new ≡ U.history up.old }
         ensures reads { U.reads up.new ≡ U.reads up.old }
         ensures knows { IfSome (U.own up.old) (λ w. Knows w told.old → Knows w told.new) }
+        ensures idle { until ≤ H.ends_at held.old → (result ≡ Ok followed.Reached) × (self.new ≡ self.old) ×
+            (held.new ≡ held.old) × (up.new ≡ up.old) × (told.new ≡ told.old) }
         ensures reached { result ≡ Ok followed.Reached → until ≤ H.ends_at held.new }
+        ensures goes_on { result ≡ Ok followed.Reached → H.ends_at held.old < until →
+            GoesOn (log_of N.base told.new) self.old self.new told.old told.new (H.ends_at held.old) until (H.ends_at held.new) 0 }
+        ensures short { result ≡ Ok followed.Cut → H.ends_at held.new < until }
         ensures cut { result ≡ Ok followed.Cut → (self.new.feed ≡ None) × (generation_of self.old.feed told.old < told.new.gen) }
         ensures compacted { result ≡ Ok followed.Compacted → (self.new.feed ≡ None) × (H.ends_at held.old < told.new.floor) }
         ensures fresh { OnErr result (self.new.feed ≡ None) }
@@ -106,6 +119,7 @@ fn poll_until<N: LogFacts, H: Held<N>, U: Upstream<N>>(
     requires resource { H.resource held.old ≡ feed.old.resource }
     requires stands { StandsAt (H.stands_for held.old) N.base told.old (H.ends_at held.old) }
     requires from { feed.old.upto ≡ H.ends_at held.old }
+    requires short { feed.old.upto < until }
     requires known { feed.old.gen_ ≤ told.old.gen }
     ensures feed { (feed.new.resource ≡ feed.old.resource) × (feed.new.gen_ ≡ feed.old.gen_) }
     ensures onward { H.ends_at held.old ≤ H.ends_at held.new }
@@ -116,10 +130,16 @@ fn poll_until<N: LogFacts, H: Held<N>, U: Upstream<N>>(
     ensures window { H.window held.new ≡ H.window held.old }
     ensures base { H.base held.new ≡ H.base held.old }
     ensures rebuilds { H.rebuilds held.new ≡ H.rebuilds held.old }
+    ensures seen { StaysOrSeesAll told.old told.new }
     ensures own { U.own up.new ≡ U.own up.old }
+    ensures history { U.history up.new ≡ U.history up.old }
     ensures reads { U.reads up.new ≡ U.reads up.old }
     ensures knows { IfSome (U.own up.old) (λ w. Knows w told.old → Knows w told.new) }
     ensures reached { result ≡ Ok followed.Reached → until ≤ H.ends_at held.new }
+    ensures goes_on { result ≡ Ok followed.Reached → feed.new ≡ feed_at feed.old.resource (H.ends_at held.new) told.new.gen }
+    ensures last_poll { result ≡ Ok followed.Reached →
+        LastPoll (log_of N.base told.new) feed.old.resource batch (H.ends_at held.old) until (H.ends_at held.new) }
+    ensures short { result ≡ Ok followed.Cut → H.ends_at held.new < until }
     ensures cut { result ≡ Ok followed.Cut → feed.old.gen_ < told.new.gen }
     ensures compacted { result ≡ Ok followed.Compacted → H.ends_at held.new < told.new.floor }
 {

@@ -1,3 +1,5 @@
+//! The reflector, and the feed that it keeps.
+
 ghost use Rattle.std.specs.Prelude.{◌≡◌, ◌≤◌, None};
 
 use kube_meta::Resource;

@@ -1,11 +1,16 @@
 -- What stays of a cache's log as the pass beside it learns.
-use Rattle.std.proofs.Common.{◌≡◌, ℕ, ◌-◌, ◌≤◌, List, take, length, length-take, length-append, sym, ap, subst, ◌∙◌, arith}
+use Rattle.std.proofs.Common.{◌≡◌, ℕ, ◌-◌, ◌≤◌, List, ◌++◌, take, length, length-take, length-append, sym, ap, subst, ◌∙◌, arith}
 use Rattle.std.proofs.lemmas.List.{take-append-le}
 use Rattle.kube_meta.specs.Rows.{RowData}
 use Rattle.rev_front.specs.Passes.{Pass, Extends, end_from}
 use Rattle.rev_log.specs.Changes.{RevisionData}
 use Rattle.rev_log.specs.Logs.{Log, end_of}
-use Rattle.up_api.specs.Sections.{log_upto, StandsAt}
+use Rattle.up_api.specs.Sections.{log_upto, LogsGrow, StandsAt}
+
+-- the log of a pass that goes on grows
+pub logs_grow_on : LogsGrow
+logs_grow_on base p q later =
+    ap (λ (z : ℕ × List RevisionData). record { first = z.0; base = base; revisions = z.1 }) {x = (q.first, q.seen)} {y = (p.first, p.seen ++ later.seen_on.0)} (λ i. (later.log_is i, sym later.seen_on.1 i))
 
 -- what was seen up to a revision stays
 pub log_upto-later : (base : List RowData) (p q : Pass RevisionData) (at : ℕ) → Extends p q → at ≤ end_from p.first p.seen → log_upto base p at ≡ log_upto base q at

@@ -3,7 +3,7 @@ use Rattle.std.specs.Prelude.{◌≡◌, ℕ, ◌+◌, ◌^◌, ◌<◌, ◌≤�
 use Rattle.kube_meta.specs.Rows.{RowData}
 use Rattle.rev_front.specs.Passes.{Pass, Whole, Extends, end_from}
 use Rattle.rev_log.specs.Changes.{RevisionData}
-use Rattle.rev_log.specs.Logs.{Log, upto}
+use Rattle.rev_log.specs.Logs.{Log, upto, grown}
 use Rattle.up_api.specs.declared.feeds.Feed.{Feed}
 use Rattle.up_api.specs.declared.refusals.UpNo.{UpNo}
 use Rattle.up_api.specs.declared.refusals.UpNo.TheVariants.{Compacted, Future, Cut, Memory}
@@ -16,6 +16,10 @@ log_of base p = record { first = p.first; base = base; revisions = p.seen }
 abbrev pub log_upto : List RowData → Pass RevisionData → ℕ → Log
 log_upto base p at = record (log_of base p) { revisions = upto (log_of base p) at }
 
+-- the log of a pass that goes on from another is the other's log, grown
+abbrev pub LogsGrow : Type 0
+LogsGrow = (base : List RowData) (p q : Pass RevisionData) (later : Extends p q) → log_of base q ≡ grown (log_of base p) later.seen_on.0
+
 -- a cache of which this is told stands for the log up to a revision that the pass has seen
 pub record StandsAt (stands_for : Log → Type 0) (base : List RowData) (p : Pass RevisionData) (at : ℕ) : Type 0 where
   pub begun : p.first ≤ at
@@ -26,19 +30,29 @@ pub record StandsAt (stands_for : Log → Type 0) (base : List RowData) (p : Pas
 pub record Learns (p q : Pass RevisionData) : Type 0 where
   pub extends : Extends p q
   pub loads_stay : q.loads ≡ p.loads
+  pub last_stays : q.last ≡ p.last
 
 -- it has seen all that it was told of: the log of the section, whole
 abbrev pub HasSeenAll : Pass RevisionData → Type 0
 HasSeenAll p = p.shown ≡ end_from p.first p.seen
 
--- so after each answer but want of memory
-abbrev pub Sections : {A : Type 0} → Result A UpNo → Pass RevisionData → Type 0
-Sections (Ok answer) q = HasSeenAll q
-Sections (Err Memory) q = Unit {0}
-Sections (Err fault) q = HasSeenAll q
+-- it is as before, or it has seen all that it was told of
+abbrev pub StaysOrSeesAll : Pass RevisionData → Pass RevisionData → Type 0
+StaysOrSeesAll p q = (q ≡ p) ⊎ HasSeenAll q
+
+-- after each answer it has seen all; after want of memory it may be as before
+abbrev pub Sections : {A : Type 0} → Result A UpNo → Pass RevisionData → Pass RevisionData → Type 0
+Sections (Ok answer) p q = HasSeenAll q
+Sections (Err Memory) p q = StaysOrSeesAll p q
+Sections (Err fault) p q = HasSeenAll q
+
+abbrev pub SectionsAll : {A E : Type 0} → Result A E → Pass RevisionData → Pass RevisionData → Type 0
+SectionsAll (Ok answer) p q = HasSeenAll q
+SectionsAll (Err memory) p q = StaysOrSeesAll p q
 
 -- it knows this log, its floor and its generation
 pub record Knows (w : Whole RevisionData) (p : Pass RevisionData) : Type 0 where
+  pub first : p.first ≡ w.first
   pub seen : p.seen ≡ w.log
   pub floor : p.floor ≡ w.floor
   pub gen : p.gen ≡ w.gen

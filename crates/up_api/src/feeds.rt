@@ -1,3 +1,5 @@
+//! What feeds and histories give.
+
 use kube_meta::{Resource, Row};
 use rev_log::Revision;
 use std::marker::Model;
@@ -10,8 +12,8 @@ pub struct Feed {
     pub gen_: u64,
 }
 
-/// What a poll gave: the revisions above `from` and up to `upto` that changed the resource, each with its changes of that
-/// resource alone. That the feed is complete up to `upto` is the progress notice, also where nothing changed.
+/// What a poll gave: the revisions above `from` and up to `upto` that changed the resource, each with its changes of
+/// that resource alone. That the feed is complete up to `upto` is the progress notice, also where nothing changed.
 #[derive(Debug, Drop)]
 pub struct Polled {
     pub from: u64,
@@ -27,8 +29,8 @@ impl Model for Polled {
     ghost view = { λ p. record { from = p.from; upto = p.upto; revisions = p.revisions.items } };
 }
 
-/// What upstream still has of a resource: its rows at the compaction floor, and the revisions after it up to `upto` that
-/// changed the resource, each with its changes of that resource alone.
+/// What upstream still has of a resource: its rows at the compaction floor, and the revisions after it up to `upto`
+/// that changed the resource, each with its changes of that resource alone.
 #[derive(Debug, Drop)]
 pub struct History {
     pub floor: u64,

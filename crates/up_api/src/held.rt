@@ -1,3 +1,5 @@
+//! The cache that is fed.
+
 ghost use Rattle.std.specs.Prelude.{◌≡◌, ◌≤◌, ℕ, OnOk, OnErr};
 ghost use Rattle.kube_meta.specs.declared.resources.Resource.{Resource};
 ghost use Rattle.rev_log.specs.Logs.{Log};
@@ -9,8 +11,8 @@ use crate::named::LogFacts;
 use crate::upstream::Pass;
 use kube_meta::Memory;
 
-/// The cache of one resource, as what follows upstream fills it. It stands for a beginning of the log; the revision up to
-/// which it does is its end.
+/// The cache of one resource, as what follows upstream fills it. It stands for a beginning of the log; the revision
+/// up to which it does is its end.
 pub trait Held<N: LogFacts> {
     // the one resource that it holds
     ghost resource: { Self → Resource };

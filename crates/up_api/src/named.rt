@@ -1,3 +1,5 @@
+//! What the name of a log tells in contracts.
+
 use rev_front::LogName;
 use std::marker::Brand;
 

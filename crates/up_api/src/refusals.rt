@@ -1,3 +1,5 @@
+//! Why upstream refuses a call.
+
 use kube_meta::Memory;
 
 /// Why upstream refuses a call. The numbers are those of the section in which it was refused.

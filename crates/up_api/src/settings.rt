@@ -1,3 +1,5 @@
+//! How a server is set.
+
 ghost use Rattle.std.specs.Prelude.{◌≡◌};
 ghost use Rattle.up_api.specs.Settings.{usual, AreInRange};
 
