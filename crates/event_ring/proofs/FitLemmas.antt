@@ -2,7 +2,7 @@
 use Rattle.std.proofs.Common.{◌≡◌, ℕ, zero, suc, ◌-◌, ◌*◌, ◌/◌, ◌<◌, ◌≤◌, min, max, Bool, true, false, not, cond, ltb, List, [], ◌∷◌, length, take, arith}
 use Rattle.std.specs.Prelude.{◌&&◌, Some, None, slice_get}
 use Rattle.std.proofs.lemmas.List.Elements.{All-nil}
-use Rattle.event_ring.specs.Rings.{RingData, IsRing, fitted_capacity, is_aged, event_cmp, last_revision}
+use Rattle.event_ring.specs.Rings.{RingData, IsRing, fitted_capacity, room_for, is_aged, event_cmp, last_revision}
 use Rattle.event_ring.specs.declared.stamped.Stamped.{Stamped}
 use Rattle.event_ring.proofs.OrderLemmas.{sorted-none}
 
@@ -25,28 +25,32 @@ fitted_within ring now is =
     (within_if grows (min (2 * c) ring.window_max) (cond shrinks (max (c / 2) ring.window) c) ring.window ring.window_max grown
     (within_if shrinks (max (c / 2) ring.window) c ring.window ring.window_max shrunk now_is))
 
--- a ring of another capacity between the bounds
-pub refitted : (ring : RingData) (capacity : ℕ) → IsRing ring → ring.window ≤ capacity → capacity ≤ ring.window_max → IsRing (record ring { capacity = capacity })
+-- a ring of another capacity between the bounds, with room for it
+pub refitted : (ring : RingData) (capacity : ℕ) → IsRing ring → ring.window ≤ capacity → capacity ≤ ring.window_max → IsRing (record ring { capacity = capacity; room = max ring.room (room_for capacity) })
 refitted ring capacity is low high = record {
   some = is.some;
   least = low;
   most = high;
   bounded = is.bounded;
   few = is.few;
+  roomy = omega arith;
+  sized = omega (arith, is.sized, high);
   rising = is.rising;
   above = is.above;
   whole = is.whole;
 }
 
 -- a ring without events
-pub emptied : (window window_max fresh_ms capacity floor : ℕ) → 1 ≤ window → window ≤ capacity → capacity ≤ window_max → window_max ≤ 102400 →
-    IsRing (record { window = window; window_max = window_max; fresh_ms = fresh_ms; capacity = capacity; floor = floor; held = [] })
-emptied window window_max fresh_ms capacity floor some least most bounded = record {
+pub emptied : (window window_max fresh_ms capacity floor room : ℕ) → 1 ≤ window → window ≤ capacity → capacity ≤ window_max → window_max ≤ 102400 → room_for capacity ≤ room → room ≤ room_for window_max →
+    IsRing (record { window = window; window_max = window_max; fresh_ms = fresh_ms; capacity = capacity; floor = floor; held = []; room = room })
+emptied window window_max fresh_ms capacity floor room some least most bounded roomy sized = record {
   some = some;
   least = least;
   most = most;
   bounded = bounded;
   few = omega arith;
+  roomy = roomy;
+  sized = sized;
   rising = sorted-none event_cmp;
   above = All-nil (λ x. floor < x.event.rev);
   whole = λ rev. omega arith;

@@ -10,7 +10,7 @@ use Rattle.event_ring.specs.Events.{EventRows}
 use Rattle.event_ring.specs.declared.stamped.Stamped.{Stamped}
 
 -- The capacity lies between window and window_max, and follows the age of the events, of which those younger
--- than fresh_ms are fresh. What was dropped is up to the floor.
+-- than fresh_ms are fresh. What was dropped is up to the floor. The block has room for so many events.
 pub record RingData : Type 0 where
   pub window : ℕ
   pub window_max : ℕ
@@ -18,6 +18,7 @@ pub record RingData : Type 0 where
   pub capacity : ℕ
   pub floor : ℕ
   pub held : List Stamped
+  pub room : ℕ
 
 -- ---- what is lent
 
@@ -94,8 +95,13 @@ fitted_capacity ring now =
     else (if nat_lt ring.window ring.capacity && is_aged ring now (length ring.held - ring.capacity / 2) then max (ring.capacity / 2) ring.window
     else ring.capacity))
 
+-- the events of a capacity, and those of one revision but for one
+abbrev pub room_for : ℕ → ℕ
+room_for capacity = capacity + 63
+
+-- the ring of that capacity; its block grows where it hasn't the room
 abbrev pub fitted : RingData → ℕ → RingData
-fitted ring now = record ring { capacity = fitted_capacity ring now }
+fitted ring now = record ring { capacity = fitted_capacity ring now; room = max ring.room (room_for (fitted_capacity ring now)) }
 
 -- ---- what a ring keeps
 
@@ -114,6 +120,8 @@ pub record IsRing (ring : RingData) : Type 0 where
   pub most : ring.capacity ≤ ring.window_max
   pub bounded : ring.window_max ≤ 102400
   pub few : length ring.held ≤ ring.window_max + 63
+  pub roomy : room_for ring.capacity ≤ ring.room
+  pub sized : ring.room ≤ room_for ring.window_max
   pub rising : IsStrictlySortedBy event_cmp (events_of ring.held)
   pub above : All (λ x. ring.floor < x.event.rev) ring.held
   pub whole : (rev : ℕ) → count_of rev ring.held ≤ 64

@@ -1,4 +1,6 @@
-ghost use Rattle.std.specs.Prelude.{◌≡◌, IfOk, IfSome, option_map};
+//! What one change of an object was.
+
+ghost use Rattle.std.specs.Prelude.{◌≡◌, IfOk, OnErr, IfSome, IsSome, option_map};
 ghost use Rattle.kube_meta.specs.Rows.{key_of};
 ghost use Rattle.event_ring.specs.Events.{event_of, at_revision};
 
@@ -40,7 +42,7 @@ impl Model for Event {
 
 impl Event {
     /// The event of a change at `rev` of the object `key`, from the object before it and the one now,
-    /// which is the one that was written.
+    /// which is the one that was written. An object that wasn't there before takes no memory.
     pub fn new(
         alloc: Global,
         rev: u64,
@@ -51,7 +53,8 @@ impl Event {
         requires before_keyed { IfSome before (λ shown. key_of shown.value ≡ key) }
         requires now_keyed { IfSome now (λ shown. key_of shown.value ≡ key) }
         requires now_numbered { IfSome now (λ shown. shown.value.rev ≡ rev) }
-        ensures { IfOk result (λ event. event ≡ event_of rev key (option_map (λ shown. shown.value) before) (option_map (λ shown. shown.value) now)) }
+        ensures event { IfOk result (λ event. event ≡ event_of rev key (option_map (λ shown. shown.value) before) (option_map (λ shown. shown.value) now)) }
+        ensures first { OnErr result (IsSome before) }
     {
         let left = match &before {
             Some(shown) => Some(renumbered(alloc, shown, rev)?),

@@ -1,3 +1,5 @@
+//! Laws of pushes.
+
 ghost use Rattle.event_ring.specs.Laws.{PushesAreBounded, PushesLoseNothing, PushesDropWholeRevisions, PushesKeepRings};
 
 /// After a push a ring holds at most 63 events more than its capacity.

@@ -1,6 +1,8 @@
-ghost use Rattle.std.specs.Prelude.{◌≡◌, ℕ, ◌+◌, ◌<◌, ◌≤◌, ◌==◌, [], ◌++◌, length, take, drop, map, IfOk, IfErr, OnOk, OnErr, All};
+//! The ring: pushes, its capacity, and what it lends.
+
+ghost use Rattle.std.specs.Prelude.{◌≡◌, ℕ, ◌+◌, ◌<◌, ◌≤◌, ◌==◌, max, [], ◌++◌, length, take, drop, map, IfOk, IfErr, OnOk, OnErr, All};
 ghost use Rattle.circular_buffer.specs.Buffer.{buffer};
-ghost use Rattle.event_ring.specs.Rings.{IsRing, IsNext, since, pushed, dropped, AreDropped, last_revision, with_events, fitted, fitted_capacity, is_aged, stamped, events_of};
+ghost use Rattle.event_ring.specs.Rings.{IsRing, IsNext, since, pushed, dropped, AreDropped, last_revision, with_events, fitted, fitted_capacity, room_for, is_aged, stamped, events_of};
 
 use crate::search::place_above;
 use crate::stamped::Stamped;
@@ -27,14 +29,13 @@ pub struct Ring {
 }
 
 impl Model for Ring {
-    ghost use Rattle.std.specs.Prelude.{◌+◌, ◌≤◌};
     ghost use Rattle.event_ring.specs.Rings.{RingData, IsRing};
 
     ghost Value = { RingData };
 
-    ghost view = { λ r. record { window = r.window; window_max = r.window_max; fresh_ms = r.fresh_ms; capacity = r.capacity; floor = r.floor; held = r.held.items } };
+    ghost view = { λ r. record { window = r.window; window_max = r.window_max; fresh_ms = r.fresh_ms; capacity = r.capacity; floor = r.floor; held = r.held.items; room = r.held.capacity } };
 
-    ghost invariant = { λ r. IsRing (record { window = r.window; window_max = r.window_max; fresh_ms = r.fresh_ms; capacity = r.capacity; floor = r.floor; held = r.held.items }) × (r.capacity + 63 ≤ r.held.capacity) };
+    ghost invariant = { λ r. IsRing (record { window = r.window; window_max = r.window_max; fresh_ms = r.fresh_ms; capacity = r.capacity; floor = r.floor; held = r.held.items; room = r.held.capacity }) };
 }
 
 /// Why a position isn't served: it is below the ring's floor. Both are revisions.
@@ -48,7 +49,7 @@ impl Ring {
     ghost use Rattle.event_ring.specs.Rings.{RingData};
 
     /// A ring without events, of the capacity `window`, which may grow to `window_max`, with a floor.
-    /// An event is fresh while its age is below `fresh_ms`.
+    /// An event is fresh while its age is below `fresh_ms`. Memory is taken for `window` + 63 events.
     pub fn new(
         alloc: Global,
         window: usize,
@@ -59,7 +60,7 @@ impl Ring {
         requires some { 1 ≤ window }
         requires order { window ≤ window_max }
         requires bounded { window_max ≤ 102400 }
-        ensures { IfOk result (λ ring. ring ≡ record { window = window; window_max = window_max; fresh_ms = fresh_ms; capacity = window; floor = floor; held = [] }) }
+        ensures { IfOk result (λ ring. ring ≡ record { window = window; window_max = window_max; fresh_ms = fresh_ms; capacity = window; floor = floor; held = []; room = room_for window }) }
     {
         let held = HeapCircularBuffer::with_capacity(alloc, window + SLACK)?;
         Ok(Ring {
@@ -76,12 +77,12 @@ impl Ring {
     /// than the capacity are held, it stays. Else, where it is below `window_max` and the oldest event
     /// is fresh, it doubles, up to `window_max`. Else, where it is above `window` and the first of the
     /// last half a capacity of events is no longer fresh, it halves, down to `window`. No event is
-    /// dropped. Memory is taken only where the capacity grows, and a ring for which there is none
-    /// stays as it was.
+    /// dropped. Memory is taken only where the block hasn't the room, and a ring for which there is
+    /// none stays as it was.
     pub fn fit(&mut self, now: u64) -> Result<(), Memory>
         ensures ok { OnOk result (self.new ≡ fitted self.old now) }
         ensures err { OnErr result (self.new ≡ self.old) }
-        ensures growing { OnErr result (self.old.capacity < (fitted self.old now).capacity) }
+        ensures growing { OnErr result (self.old.room < (fitted self.old now).room) }
     {
         let capacity = self.fitting(now);
         make_room(&mut self.held, capacity + SLACK)?;
@@ -226,8 +227,7 @@ impl Ring {
 
 // Makes the block as large as this, if it isn't.
 fn make_room(held: &mut HeapCircularBuffer<Stamped>, room: usize) -> Result<(), Memory>
-    ensures items { OnOk result (held.new.items ≡ held.old.items) }
-    ensures room { OnOk result (room ≤ held.new.capacity) }
+    ensures ok { OnOk result (held.new ≡ buffer held.old.items (max held.old.capacity room)) }
     ensures err { OnErr result (held.new ≡ held.old) }
     ensures short { OnErr result (held.old.capacity < room) }
 {

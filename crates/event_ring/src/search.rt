@@ -1,3 +1,5 @@
+//! Places in a ring, by binary search.
+
 ghost use Rattle.std.specs.Prelude.{◌≡◌, ◌<◌, length, nat_lt};
 ghost use Rattle.std.specs.List.{slice_index_or};
 ghost use Rattle.event_ring.specs.declared.stamped.Stamped.{Stamped as StampedData};

@@ -1,3 +1,5 @@
+//! Events that are lent in order.
+
 ghost use Rattle.std.specs.Prelude.{◌≡◌, ◌≤◌, ◌==◌, length, drop, slice_get, option_copied};
 ghost use Rattle.event_ring.specs.Rings.{events_of};
 

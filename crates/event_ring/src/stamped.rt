@@ -1,3 +1,5 @@
+//! Events with the time of their push.
+
 use crate::Event;
 
 /// An event and the time at which it was pushed, in milliseconds.

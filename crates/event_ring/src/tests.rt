@@ -1,3 +1,5 @@
+//! What no contract says, tried.
+
 ghost use Rattle.std.specs.Prelude.{◌≡◌, true, IfOk};
 ghost use Rattle.std.specs.Cmp.Lexicographic.{slice_cmp};
 ghost use Rattle.std.specs.Ordering.{nat_cmp};
@@ -204,8 +206,8 @@ fn revision(shown: &Option<Arc<Shown>>) -> Option<u64> {
     }
 }
 
-// Of some events, told by their revisions, those that fewer than `capacity` events have a revision above: the plain slow
-// body of a push.
+// Of some events, told by their revisions, those that fewer than `capacity` events have a revision above: the plain
+// slow body of a push.
 fn kept(alloc: Global, held: &[u64], capacity: usize) -> Result<Vec<u64>, Fail> {
     let mut kept = Vec::new(alloc);
     for rev in held {

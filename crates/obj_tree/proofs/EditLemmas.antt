@@ -37,7 +37,7 @@ module _ (pages : List (List RowData)) (at : ℕ) (page : List RowData) (inside 
         (touches_skip pages at (page_at pages at) (drop (suc at) pages) (omega arith) (sized-drop pages (suc at) sized) (touches_page pages at full inside)));
   }
 
-  pub stays : 0 < length page → (FitsBefore pages at page → ⊥) → (FitsAfter pages at page → ⊥) → ArePagesOf (replaced pages at (at + 1) (page ∷ [])) (joined (replaced pages at (at + 1) (page ∷ [])))
+  pub stays : 0 < length page → (FitsBefore pages at (length page) → ⊥) → (FitsAfter pages at (length page) → ⊥) → ArePagesOf (replaced pages at (at + 1) (page ∷ [])) (joined (replaced pages at (at + 1) (page ∷ [])))
   stays some not_before not_after = record {
     rows_are = refl;
     sized = sized_with pages at (at + 1) (page ∷ []) sized (some, omega (arith, sized_at pages at sized inside), tt);
@@ -54,7 +54,7 @@ module _ (pages : List (List RowData)) (at : ℕ) (page : List RowData) (inside 
               let more : suc at < length pages = omega (arith, length-drop (suc at) pages, ap length e) in
               let cons = sym e ∙ drop-cons pages (suc at) [] more in
               let is : next ≡ page_at pages (suc at) = ap first cons in
-              let big : length page + length (page_at pages (suc at)) ≤ 32 → ⊥ = λ few. not_after (omega arith, rw add-one few) in
+              let big : length (page_at pages (suc at)) + length page ≤ 32 → ⊥ = λ few. not_after (omega arith, rw add-one few) in
               let long : 32 < length page + length (page_at pages (suc at)) = omega (arith, big) in
               rw is long
             where
@@ -70,12 +70,12 @@ module _ (pages : List (List RowData)) (at : ℕ) (page : List RowData) (inside 
           let few_not : length (page_at pages n) + length page ≤ 32 → ⊥ = λ few. not_before (omega arith, rw same few) in
           touches_at pages n (page ∷ drop (suc at) pages) (omega arith) (omega (arith, few_not))
 
-  pub with_next : 0 < length page → FitsAfter pages at page → ArePagesOf (replaced pages at (at + 2) ((page ++ page_at pages (at + 1)) ∷ [])) (joined (replaced pages at (at + 1) (page ∷ [])))
+  pub with_next : 0 < length page → FitsAfter pages at (length page) → ArePagesOf (replaced pages at (at + 2) ((page ++ page_at pages (at + 1)) ∷ [])) (joined (replaced pages at (at + 1) (page ∷ [])))
   with_next some fits =
       let two : at + 2 ≡ suc (suc at) = omega arith in
       let next = page_at pages (suc at) in
       let more : suc at < length pages = omega (arith, fits.0) in
-      let few : length page + length next ≤ 32 = rw add-one at fits.1 in
+      let few : length next + length page ≤ 32 = rw add-one at fits.1 in
       let long : length (page ++ next) ≡ length page + length next = length-append page next in
       let cons = full_page pages at full inside in
       let pair : AreFull (page_at pages at ∷ next ∷ drop (suc (suc at)) pages) = subst (λ (r : List (List RowData)). AreFull (page_at pages at ∷ r)) (drop-cons pages (suc at) [] more) cons in
@@ -95,7 +95,7 @@ module _ (pages : List (List RowData)) (at : ℕ) (page : List RowData) (inside 
       regroup : (a b c : List RowData) → ((a ++ b) ++ []) ++ c ≡ (a ++ []) ++ (b ++ c)
       regroup a b c = simp (append_assoc, append-nil)
 
-pub with_before : (pages : List (List RowData)) (at : ℕ) (page : List RowData) → at < length pages → AreSized pages → AreFull pages → length page + 1 ≡ length (page_at pages at) → 0 < length page → FitsBefore pages at page → ArePagesOf (replaced pages (at - 1) (at - 1 + 2) ((page_at pages (at - 1) ++ page) ∷ [])) (joined (replaced pages at (at + 1) (page ∷ [])))
+pub with_before : (pages : List (List RowData)) (at : ℕ) (page : List RowData) → at < length pages → AreSized pages → AreFull pages → length page + 1 ≡ length (page_at pages at) → 0 < length page → FitsBefore pages at (length page) → ArePagesOf (replaced pages (at - 1) (at - 1 + 2) ((page_at pages (at - 1) ++ page) ∷ [])) (joined (replaced pages at (at + 1) (page ∷ [])))
 with_before pages zero page inside sized full smaller some fits = absurd (omega (arith, fits.0))
 with_before pages (suc n) page inside sized full smaller some fits =
     let one : suc n - 1 ≡ n = omega arith in

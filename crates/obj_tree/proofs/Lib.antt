@@ -3,3 +3,4 @@ pub mod PageLemmas
 pub mod SearchLemmas
 pub mod EditLemmas
 pub mod MapEdits
+pub mod FillLemmas

@@ -5,8 +5,8 @@ use Rattle.std.specs.List.{list_all}
 use Rattle.std.proofs.Math.Seq.{drop-cons}
 use Rattle.std.proofs.lemmas.Bool.{cases_Bool, ltb-true, ltb-false}
 use Rattle.std.proofs.lemmas.List.{append-nil, take-append-drop, get_or-map, length-map}
-use Rattle.kube_meta.specs.Rows.{RowData, key_of, row_with}
-use Rattle.obj_tree.specs.Maps.{is_below, is_above, above, with_row, without}
+use Rattle.kube_meta.specs.Rows.{RowData, key_of, row_with, is_behind}
+use Rattle.obj_tree.specs.Maps.{is_below, above, with_row, without}
 use Rattle.obj_tree.specs.Pages.{joined, AreSized, AreFull, IsPaged, ArePagesOf, page_at, replaced, row_put, row_gone, divided, IsPageFor, IsRowAt, IsGapAt, IsWithin}
 use Rattle.obj_tree.specs.Places.{IsPlace}
 use Rattle.obj_tree.specs.declared.search.Place.{Place}
@@ -94,8 +94,8 @@ module _ (pages : List (List RowData)) (key : List ℕ) (at : ℕ) (for_key : Is
   front_below : (n : ℕ) → list_all (is_below key) (take n page) ≡ true → list_all (is_below key) (front n) ≡ true
   front_below n low = all_append (is_below key) (joined (take at pages)) (take n page) for_key.before low
 
-  back_above : (n : ℕ) → list_all (is_above key) (drop n page) ≡ true → list_all (is_above key) (back n) ≡ true
-  back_above n high = all_append (is_above key) (drop n page) (joined (drop (suc at) pages)) high for_key.after
+  back_above : (n : ℕ) → list_all (is_behind key) (drop n page) ≡ true → list_all (is_behind key) (back n) ≡ true
+  back_above n high = all_append (is_behind key) (drop n page) (joined (drop (suc at) pages)) high for_key.after
 
   -- where the key has no row
   pub gap_cut : (n : ℕ) → IsGapAt page key n → Cut (joined pages) key (front n) (back n)
@@ -110,6 +110,13 @@ module _ (pages : List (List RowData)) (key : List ℕ) (at : ℕ) (for_key : Is
 
   pub row_some : (n : ℕ) (row : RowData) → IsRowAt page key n → row_with (joined pages) key ≡ Some (get_or page n row)
   row_some n row is = rw (row_is n row is.inside) (row_row (front n) (back (suc n)) (get_or page n row) key (is.has_key row) (front_below n is.before))
+
+-- then it isn't absent
+pub some_row : (pages : List (List RowData)) (key : List ℕ) (at : ℕ) → IsPageFor pages key at → (n : ℕ) → IsRowAt (page_at pages at) key n → row_with (joined pages) key ≡ None → ⊥
+some_row pages key at for_key n is none =
+    let row = first_row (page_at pages at) (omega (arith, is.inside)) in
+    let some : Some (get_or (page_at pages at) n row) ≡ None = sym (row_some pages key at for_key n row is) ∙ none in
+    cc
 
 -- ---- a put
 
@@ -210,12 +217,9 @@ row_read f xs rows n x d inside same is =
 pub one_paged : (row : RowData) → IsPaged ((row ∷ []) ∷ [])
 one_paged row = record { sized = (omega arith, omega arith, tt); full = (tt, tt); rising = are_rising (row ∷ []) (refl, tt) }
 
--- a first page
-pub first_page : {X : Type 0} (f : X → List RowData) (xs new : List X) (x : X) (row : RowData) → map f xs ≡ [] → new ≡ xs ++ (x ∷ []) → f x ≡ row ∷ [] → IsPaged (map f new)
-first_page f [] new x row none is one =
-    let same : map f new ≡ (row ∷ []) ∷ [] = ap (map f) is ∙ ap (λ (p : List RowData). p ∷ []) one in
-    rw same (one_paged row)
-first_page f (y ∷ xs) new x row none is one = absurd (cc)
+-- the first page
+pub sole_page : (pages : List (List RowData)) (row : RowData) → pages ≡ (row ∷ []) ∷ [] → IsPaged pages
+sole_page pages row is = rw is (one_paged row)
 
 -- ---- what is lent
 

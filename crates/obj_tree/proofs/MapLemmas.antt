@@ -13,8 +13,8 @@ use Rattle.std.proofs.lemmas.Map.Keys.{sorted_head, sorted_tail}
 use Rattle.std.proofs.lemmas.List.{append-nil}
 use Rattle.std.proofs.lemmas.List.Elements.{filter-append}
 use Rattle.std.proofs.lemmas.List.Folds.{list_all-append}
-use Rattle.kube_meta.specs.Rows.{RowData, key_of, AreRising, row_with}
-use Rattle.obj_tree.specs.Maps.{is_below, is_above, below, above, with_row, without}
+use Rattle.kube_meta.specs.Rows.{RowData, key_of, AreRising, row_with, is_behind}
+use Rattle.obj_tree.specs.Maps.{is_below, below, above, with_row, without}
 
 -- ---- keys in order
 
@@ -128,17 +128,17 @@ module _ {X : Type 0} where
 
 -- ---- rows below a key and above it
 
-below_not_above : (key : List ℕ) (row : RowData) → is_above key row ≡ true → is_below key row ≡ false
+below_not_above : (key : List ℕ) (row : RowData) → is_behind key row ≡ true → is_below key row ≡ false
 below_not_above key row passes = lt_not_back key (key_of row) passes
 
-above_not_below : (key : List ℕ) (row : RowData) → is_below key row ≡ true → is_above key row ≡ false
+above_not_below : (key : List ℕ) (row : RowData) → is_below key row ≡ true → is_behind key row ≡ false
 above_not_below key row passes = lt_not_back (key_of row) key passes
 
 -- a row with the key
 at_key_not_below : (key : List ℕ) (row : RowData) → key_of row ≡ key → is_below key row ≡ false
 at_key_not_below key row same = ap (λ (k : List ℕ). is_lt (slice_cmp nat_cmp k key)) same ∙ lt_not_self key
 
-at_key_not_above : (key : List ℕ) (row : RowData) → key_of row ≡ key → is_above key row ≡ false
+at_key_not_above : (key : List ℕ) (row : RowData) → key_of row ≡ key → is_behind key row ≡ false
 at_key_not_above key row same = ap (λ (k : List ℕ). is_lt (slice_cmp nat_cmp key k)) same ∙ lt_not_self key
 
 differs : (a b : List ℕ) → is_lt (slice_cmp nat_cmp a b) ≡ true → bytes_eq a b ≡ false
@@ -154,7 +154,7 @@ differs_back a b less = false_from_ne_true (bytes_eq a b) (λ passes.
 below_differs : (key : List ℕ) (row : RowData) → is_below key row ≡ true → bytes_eq key (key_of row) ≡ false
 below_differs key row passes = differs_back key (key_of row) passes
 
-above_differs : (key : List ℕ) (row : RowData) → is_above key row ≡ true → bytes_eq key (key_of row) ≡ false
+above_differs : (key : List ℕ) (row : RowData) → is_behind key row ≡ true → bytes_eq key (key_of row) ≡ false
 above_differs key row passes = differs key (key_of row) passes
 
 -- rows cut where a key would go
@@ -162,37 +162,37 @@ pub record Cut (rows : List RowData) (key : List ℕ) (front back : List RowData
   pub below_is : below key rows ≡ front
   pub above_is : above key rows ≡ back
 
-pub cut_gap : (front back : List RowData) (key : List ℕ) → list_all (is_below key) front ≡ true → list_all (is_above key) back ≡ true → Cut (front ++ back) key front back
+pub cut_gap : (front back : List RowData) (key : List ℕ) → list_all (is_below key) front ≡ true → list_all (is_behind key) back ≡ true → Cut (front ++ back) key front back
 cut_gap front back key low high = record {
   below_is =
       filter-append (is_below key) front back
       ∙ ap (λ (r : List RowData). r ++ below key back) (filter_all (is_below key) front low)
-      ∙ ap (λ (r : List RowData). front ++ r) (filter_none (is_below key) (is_above key) (below_not_above key) back high)
+      ∙ ap (λ (r : List RowData). front ++ r) (filter_none (is_below key) (is_behind key) (below_not_above key) back high)
       ∙ append-nil front;
   above_is =
-      filter-append (is_above key) front back
-      ∙ ap (λ (r : List RowData). r ++ above key back) (filter_none (is_above key) (is_below key) (above_not_below key) front low)
-      ∙ filter_all (is_above key) back high;
+      filter-append (is_behind key) front back
+      ∙ ap (λ (r : List RowData). r ++ above key back) (filter_none (is_behind key) (is_below key) (above_not_below key) front low)
+      ∙ filter_all (is_behind key) back high;
 }
 
-pub gap_row : (front back : List RowData) (key : List ℕ) → list_all (is_below key) front ≡ true → list_all (is_above key) back ≡ true → row_with (front ++ back) key ≡ None
+pub gap_row : (front back : List RowData) (key : List ℕ) → list_all (is_below key) front ≡ true → list_all (is_behind key) back ≡ true → row_with (front ++ back) key ≡ None
 gap_row front back key low high =
     let test : RowData → Bool = λ row. bytes_eq key (key_of row) in
     find-append test front back
     ∙ ap (λ (r : Option RowData). first_some r (find test back)) (find_none test (is_below key) (below_differs key) front low)
-    ∙ find_none test (is_above key) (above_differs key) back high
+    ∙ find_none test (is_behind key) (above_differs key) back high
 
-pub cut_row : (front back : List RowData) (row : RowData) (key : List ℕ) → key_of row ≡ key → list_all (is_below key) front ≡ true → list_all (is_above key) back ≡ true → Cut (front ++ row ∷ back) key front back
+pub cut_row : (front back : List RowData) (row : RowData) (key : List ℕ) → key_of row ≡ key → list_all (is_below key) front ≡ true → list_all (is_behind key) back ≡ true → Cut (front ++ row ∷ back) key front back
 cut_row front back row key same low high = record {
   below_is =
       filter-append (is_below key) front (row ∷ back)
       ∙ ap (λ (r : List RowData). r ++ below key (row ∷ back)) (filter_all (is_below key) front low)
-      ∙ ap (λ (r : List RowData). front ++ r) (rw (at_key_not_below key row same) (filter_none (is_below key) (is_above key) (below_not_above key) back high))
+      ∙ ap (λ (r : List RowData). front ++ r) (rw (at_key_not_below key row same) (filter_none (is_below key) (is_behind key) (below_not_above key) back high))
       ∙ append-nil front;
   above_is =
-      filter-append (is_above key) front (row ∷ back)
-      ∙ ap (λ (r : List RowData). r ++ above key (row ∷ back)) (filter_none (is_above key) (is_below key) (above_not_below key) front low)
-      ∙ rw (at_key_not_above key row same) (filter_all (is_above key) back high);
+      filter-append (is_behind key) front (row ∷ back)
+      ∙ ap (λ (r : List RowData). r ++ above key (row ∷ back)) (filter_none (is_behind key) (is_below key) (above_not_below key) front low)
+      ∙ rw (at_key_not_above key row same) (filter_all (is_behind key) back high);
 }
 
 pub row_row : (front back : List RowData) (row : RowData) (key : List ℕ) → key_of row ≡ key → list_all (is_below key) front ≡ true → row_with (front ++ row ∷ back) key ≡ Some row
@@ -212,14 +212,14 @@ same_key key row passes = sym ((bytes_eq-Decides key (key_of row)).0 passes)
 kept_below : (gone key : List ℕ) → is_lt (slice_cmp nat_cmp key gone) ≡ true → (row : RowData) → bytes_eq key (key_of row) ≡ true → is_below gone row ≡ true
 kept_below gone key less row passes = ap (λ (k : List ℕ). is_lt (slice_cmp nat_cmp k gone)) (same_key key row passes) ∙ less
 
-kept_above : (gone key : List ℕ) → is_lt (slice_cmp nat_cmp gone key) ≡ true → (row : RowData) → bytes_eq key (key_of row) ≡ true → is_above gone row ≡ true
+kept_above : (gone key : List ℕ) → is_lt (slice_cmp nat_cmp gone key) ≡ true → (row : RowData) → bytes_eq key (key_of row) ≡ true → is_behind gone row ≡ true
 kept_above gone key less row passes = ap (λ (k : List ℕ). is_lt (slice_cmp nat_cmp gone k)) (same_key key row passes) ∙ less
 
 dropped_below : (gone key : List ℕ) → is_lt (slice_cmp nat_cmp key gone) ≡ false → (row : RowData) → is_below gone row ≡ true → bytes_eq key (key_of row) ≡ false
 dropped_below gone key not_less row passes = false_from_ne_true (bytes_eq key (key_of row)) (λ here.
     true≢false (sym passes ∙ ap (λ (k : List ℕ). is_lt (slice_cmp nat_cmp k gone)) (same_key key row here) ∙ not_less))
 
-dropped_above : (gone key : List ℕ) → is_lt (slice_cmp nat_cmp gone key) ≡ false → (row : RowData) → is_above gone row ≡ true → bytes_eq key (key_of row) ≡ false
+dropped_above : (gone key : List ℕ) → is_lt (slice_cmp nat_cmp gone key) ≡ false → (row : RowData) → is_behind gone row ≡ true → bytes_eq key (key_of row) ≡ false
 dropped_above gone key not_less row passes = false_from_ne_true (bytes_eq key (key_of row)) (λ here.
     true≢false (sym passes ∙ ap (λ (k : List ℕ). is_lt (slice_cmp nat_cmp gone k)) (same_key key row here) ∙ not_less))
 
@@ -256,13 +256,13 @@ found_other rows middle gone key other none = by (stand key gone)
     by (lower less) =
         let test : RowData → Bool = λ x. bytes_eq key (key_of x) in
         let low : row_with (below gone rows) key ≡ row_with rows key = find_kept test (is_below gone) (kept_below gone key less) rows in
-        let high : row_with (above gone rows) key ≡ None = find_dropped test (is_above gone) (dropped_above gone key (lt_not_back key gone less)) rows in
+        let high : row_with (above gone rows) key ≡ None = find_dropped test (is_behind gone) (dropped_above gone key (lt_not_back key gone less)) rows in
         rw (found rows middle gone key, low, none, high) (none_after (row_with rows key))
     by (same e) = absurd (true≢false (sym ((bytes_eq-Decides key gone).1 e) ∙ other))
     by (higher less) =
         let test : RowData → Bool = λ x. bytes_eq key (key_of x) in
         let low : row_with (below gone rows) key ≡ None = find_dropped test (is_below gone) (dropped_below gone key (lt_not_back gone key less)) rows in
-        let high : row_with (above gone rows) key ≡ row_with rows key = find_kept test (is_above gone) (kept_above gone key less) rows in
+        let high : row_with (above gone rows) key ≡ row_with rows key = find_kept test (is_behind gone) (kept_above gone key less) rows in
         rw (found rows middle gone key, low, none, high) refl
 
 -- the key's own
@@ -270,7 +270,7 @@ pub found_here : (rows middle : List RowData) (gone : List ℕ) → row_with (be
 found_here rows middle gone =
     let test : RowData → Bool = λ x. bytes_eq gone (key_of x) in
     let low : row_with (below gone rows) gone ≡ None = find_dropped test (is_below gone) (dropped_below gone gone (lt_not_self gone)) rows in
-    let high : row_with (above gone rows) gone ≡ None = find_dropped test (is_above gone) (dropped_above gone gone (lt_not_self gone)) rows in
+    let high : row_with (above gone rows) gone ≡ None = find_dropped test (is_behind gone) (dropped_above gone gone (lt_not_self gone)) rows in
     rw (found rows middle gone gone, low, high) (none_after (row_with middle gone))
 
 pub put_is_update : (rows : List RowData) (row : RowData) (key : List ℕ) → row_with (with_row rows row) key ≡ (if bytes_eq key (key_of row) then Some row else row_with rows key)
@@ -295,16 +295,16 @@ removal_is_update rows gone key = elim (cases_Bool (bytes_eq key gone)) [
 -- each row is above those before it
 abbrev pub Rising : List RowData → Type 0
 Rising [] = Unit {0}
-Rising (x ∷ xs) = (list_all (is_above (key_of x)) xs ≡ true) × Rising xs
+Rising (x ∷ xs) = (list_all (is_behind (key_of x)) xs ≡ true) × Rising xs
 
-all_above : (key : List ℕ) (xs : List RowData) → AllByRecursion (λ y. slice_cmp nat_cmp key y ≡ Less) (map key_of xs) → list_all (is_above key) xs ≡ true
+all_above : (key : List ℕ) (xs : List RowData) → AllByRecursion (λ y. slice_cmp nat_cmp key y ≡ Less) (map key_of xs) → list_all (is_behind key) xs ≡ true
 all_above key [] all = refl
 all_above key (x ∷ xs) all = rw (all.0) (all_above key xs all.1)
 
-each_above : (key : List ℕ) (xs : List RowData) → list_all (is_above key) xs ≡ true → AllByRecursion (λ y. slice_cmp nat_cmp key y ≡ Less) (map key_of xs)
+each_above : (key : List ℕ) (xs : List RowData) → list_all (is_behind key) xs ≡ true → AllByRecursion (λ y. slice_cmp nat_cmp key y ≡ Less) (map key_of xs)
 each_above key [] all = tt
 each_above key (x ∷ xs) all =
-    let both = and_parts (is_above key x) (list_all (is_above key) xs) all in
+    let both = and_parts (is_behind key x) (list_all (is_behind key) xs) all in
     (lt_of key (key_of x) both.0, each_above key xs both.1)
 
 pub rising : (xs : List RowData) → AreRising xs → Rising xs
@@ -321,52 +321,52 @@ are_rising (x ∷ xs) is = (each_above (key_of x) xs is.0, are_rising xs is.1)
 
 -- a list all of which is below a key, and one all of which is above it
 abbrev pub above_each : RowData → List RowData → Bool
-above_each x ys = list_all (is_above (key_of x)) ys
+above_each x ys = list_all (is_behind (key_of x)) ys
 
-above_all_of : (key : List ℕ) (x : RowData) (ys : List RowData) → is_below key x ≡ true → list_all (is_above key) ys ≡ true → above_each x ys ≡ true
-above_all_of key x ys low high = all_weaker (is_above key) (is_above (key_of x)) (λ y passes. lt_trans (key_of x) key (key_of y) low passes) ys high
+above_all_of : (key : List ℕ) (x : RowData) (ys : List RowData) → is_below key x ≡ true → list_all (is_behind key) ys ≡ true → above_each x ys ≡ true
+above_all_of key x ys low high = all_weaker (is_behind key) (is_behind (key_of x)) (λ y passes. lt_trans (key_of x) key (key_of y) low passes) ys high
 
-pub rising_append : (xs ys : List RowData) (key : List ℕ) → Rising xs → Rising ys → list_all (is_below key) xs ≡ true → list_all (is_above key) ys ≡ true → Rising (xs ++ ys)
+pub rising_append : (xs ys : List RowData) (key : List ℕ) → Rising xs → Rising ys → list_all (is_below key) xs ≡ true → list_all (is_behind key) ys ≡ true → Rising (xs ++ ys)
 rising_append [] ys key these those low high = those
 rising_append (x ∷ xs) ys key these those low high =
     let both = and_parts (is_below key x) (list_all (is_below key) xs) low in
-    (all_append (is_above (key_of x)) xs ys these.0 (above_all_of key x ys both.0 high), rising_append xs ys key these.1 those both.1 high)
+    (all_append (is_behind (key_of x)) xs ys these.0 (above_all_of key x ys both.0 high), rising_append xs ys key these.1 those both.1 high)
 
 -- a row between
-rising_around : (xs ys : List RowData) (row : RowData) → Rising xs → Rising ys → list_all (is_below (key_of row)) xs ≡ true → list_all (is_above (key_of row)) ys ≡ true → Rising (xs ++ row ∷ ys)
+rising_around : (xs ys : List RowData) (row : RowData) → Rising xs → Rising ys → list_all (is_below (key_of row)) xs ≡ true → list_all (is_behind (key_of row)) ys ≡ true → Rising (xs ++ row ∷ ys)
 rising_around [] ys row these those low high = (high, those)
 rising_around (x ∷ xs) ys row these those low high =
     let both = and_parts (is_below (key_of row) x) (list_all (is_below (key_of row)) xs) low in
-    let last : list_all (is_above (key_of x)) (row ∷ ys) ≡ true = rw (both.0) (above_all_of (key_of row) x ys both.0 high) in
-    (all_append (is_above (key_of x)) xs (row ∷ ys) these.0 last, rising_around xs ys row these.1 those both.1 high)
+    let last : list_all (is_behind (key_of x)) (row ∷ ys) ≡ true = rw (both.0) (above_all_of (key_of row) x ys both.0 high) in
+    (all_append (is_behind (key_of x)) xs (row ∷ ys) these.0 last, rising_around xs ys row these.1 those both.1 high)
 
 pub rising_parts : (xs ys : List RowData) → Rising (xs ++ ys) → Rising xs × Rising ys
 rising_parts [] ys is = (tt, is)
 rising_parts (x ∷ xs) ys is =
     let rest = rising_parts xs ys is.1 in
-    ((((all_parts (is_above (key_of x)) xs ys is.0).0), rest.0), rest.1)
+    ((((all_parts (is_behind (key_of x)) xs ys is.0).0), rest.0), rest.1)
 
 -- what stands before a row is below it
 pub before_row : (xs ys : List RowData) (row : RowData) → Rising (xs ++ row ∷ ys) → list_all (is_below (key_of row)) xs ≡ true
 before_row [] ys row is = refl
 before_row (x ∷ xs) ys row is =
-    let both = all_parts (is_above (key_of x)) xs (row ∷ ys) is.0 in
-    let here = and_parts (is_above (key_of x) row) (list_all (is_above (key_of x)) ys) both.1 in
+    let both = all_parts (is_behind (key_of x)) xs (row ∷ ys) is.0 in
+    let here = and_parts (is_behind (key_of x) row) (list_all (is_behind (key_of x)) ys) both.1 in
     rw (here.0) (before_row xs ys row is.1)
 
 rising_filter : (q : RowData → Bool) (xs : List RowData) → Rising xs → Rising (filter q xs)
 rising_filter q [] is = tt
 rising_filter q (x ∷ xs) is = elim (cases_Bool (q x)) [
-  | inl pass ↦ rw pass (still_pass (is_above (key_of x)) q xs is.0, rising_filter q xs is.1)
+  | inl pass ↦ rw pass (still_pass (is_behind (key_of x)) q xs is.0, rising_filter q xs is.1)
   | inr fail ↦ rw fail (rising_filter q xs is.1)
 ]
 
 pub put_stays_rising : (rows : List RowData) (row : RowData) → AreRising rows → AreRising (with_row rows row)
 put_stays_rising rows row is =
     let before = rising rows is in
-    are_rising (with_row rows row) (rising_around (below (key_of row) rows) (above (key_of row) rows) row (rising_filter (is_below (key_of row)) rows before) (rising_filter (is_above (key_of row)) rows before) (kept_pass (is_below (key_of row)) rows) (kept_pass (is_above (key_of row)) rows))
+    are_rising (with_row rows row) (rising_around (below (key_of row) rows) (above (key_of row) rows) row (rising_filter (is_below (key_of row)) rows before) (rising_filter (is_behind (key_of row)) rows before) (kept_pass (is_below (key_of row)) rows) (kept_pass (is_behind (key_of row)) rows))
 
 pub removal_stays_rising : (rows : List RowData) (gone : List ℕ) → AreRising rows → AreRising (without rows gone)
 removal_stays_rising rows gone is =
     let before = rising rows is in
-    are_rising (without rows gone) (rising_append (below gone rows) (above gone rows) gone (rising_filter (is_below gone) rows before) (rising_filter (is_above gone) rows before) (kept_pass (is_below gone) rows) (kept_pass (is_above gone) rows))
+    are_rising (without rows gone) (rising_append (below gone rows) (above gone rows) gone (rising_filter (is_below gone) rows before) (rising_filter (is_behind gone) rows before) (kept_pass (is_below gone) rows) (kept_pass (is_behind gone) rows))

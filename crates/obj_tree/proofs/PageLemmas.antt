@@ -1,9 +1,9 @@
 -- Pages as a list of lists: their edits, their sizes, and the rows of all.
 use Rattle.std.proofs.Common.{◌≡◌, ℕ, zero, suc, ◌+◌, ◌*◌, ◌<◌, ◌≤◌, List, [], ◌∷◌, ◌++◌, length, map, take, drop, get_or, set, refl, sym, ap, ◌∙◌, subst, arith, inl, inr, append_assoc, add-one, length-append}
-use Rattle.std.specs.Prelude.{nat_lt}
+use Rattle.std.specs.Prelude.{nat_lt, not, true, false, Result, Ok, Err, OnErr}
 use Rattle.std.specs.List.{insert, remove}
 use Rattle.std.proofs.Math.Seq.{drop-cons}
-use Rattle.std.proofs.lemmas.Bool.{cases_Bool}
+use Rattle.std.proofs.lemmas.Bool.{cases_Bool, true≢false}
 use Rattle.std.proofs.lemmas.List.{append-nil, take-append-drop, get_or-map}
 use Rattle.kube_meta.specs.Rows.{RowData, AreRising}
 use Rattle.obj_tree.specs.Pages.{joined, AreSized, FullWith, AreFull, page_at, replaced, divided}
@@ -33,6 +33,17 @@ module _ {X Y : Type 0} (f : X → Y) where
   joined_cut (y ∷ z ∷ xs) zero x inside = refl
   joined_cut (y ∷ z ∷ xs) (suc i) x inside = ap (λ rest. f y ∷ rest) (joined_cut (z ∷ xs) i x (omega arith))
 
+  -- a write that isn't seen
+  pub set_same : (xs : List X) (i : ℕ) (x y : X) → i < length xs → y ≡ get_or xs i y → f x ≡ f y → map f (set xs i x) ≡ map f xs
+  set_same [] i x y inside is same = absurd (omega arith)
+  set_same (z ∷ xs) zero x y inside is same = ap (λ v. v ∷ map f xs) (same ∙ ap f is)
+  set_same (z ∷ xs) (suc i) x y inside is same = ap (λ rest. f z ∷ rest) (set_same xs i x y (omega arith) is same)
+
+  pub insert_row : (xs : List X) (i : ℕ) (x : X) → i ≤ length xs → map f (insert xs i x) ≡ take i (map f xs) ++ (f x ∷ drop i (map f xs))
+  insert_row xs zero x within = refl
+  insert_row [] (suc i) x within = absurd (omega arith)
+  insert_row (y ∷ xs) (suc i) x within = ap (λ rest. f y ∷ rest) (insert_row xs i x (omega arith))
+
   pub set_page : (xs : List X) (i : ℕ) (x : X) (y : Y) → i < length xs → f x ≡ y → map f (set xs i x) ≡ take i (map f xs) ++ ((y ∷ []) ++ drop (i + 1) (map f xs))
   set_page xs i x y inside is =
       rw add-one (set_cut xs i x inside ∙ ap (λ v. take i (map f xs) ++ (v ∷ drop (suc i) (map f xs))) is)
@@ -48,6 +59,11 @@ module _ {X Y : Type 0} (f : X → Y) where
 
   pub set_none : (xs : List X) (i : ℕ) → i < length xs → map f (remove xs i) ≡ take i (map f xs) ++ drop (i + 1) (map f xs)
   set_none xs i inside = rw add-one (remove_cut xs i inside)
+
+-- what holds of any refusal
+pub OnErr-always : {A E : Type 0} (r : Result A E) (P : Type 0) → P → OnErr r P
+OnErr-always (Ok x) P p = tt
+OnErr-always (Err e) P p = p
 
 -- ---- the rows of all pages
 
@@ -71,6 +87,18 @@ pub joined_divided : (page : List RowData) → joined (divided page) ≡ page
 joined_divided page = elim (cases_Bool (nat_lt 64 (length page))) [
   | inl pass ↦ rw pass (ap (λ (r : List RowData). take 32 page ++ r) (append-nil (drop 32 page)) ∙ take-append-drop 32 page)
   | inr fail ↦ rw fail (append-nil page)
+]
+
+pub undivided : (page : List RowData) → true ≡ not (nat_lt 64 (length page)) → divided page ≡ page ∷ []
+undivided page small = elim (cases_Bool (nat_lt 64 (length page))) [
+  | inl pass ↦ absurd (true≢false (small ∙ ap not pass))
+  | inr fail ↦ rw fail refl
+]
+
+pub two_halves : (page : List RowData) → false ≡ not (nat_lt 64 (length page)) → divided page ≡ take 32 page ∷ drop 32 page ∷ []
+two_halves page long = elim (cases_Bool (nat_lt 64 (length page))) [
+  | inl pass ↦ rw pass refl
+  | inr fail ↦ absurd (true≢false (sym (long ∙ ap not fail)))
 ]
 
 -- ---- sizes

@@ -8,8 +8,8 @@ use Rattle.std.specs.Ordering.{nat_cmp, is_lt, ordering_index}
 use Rattle.std.proofs.Math.Seq.{drop-cons}
 use Rattle.std.proofs.lemmas.Bool.{cases_Bool, and_parts, true≢false}
 use Rattle.std.proofs.lemmas.List.{take-append-drop, length-map}
-use Rattle.kube_meta.specs.Rows.{RowData, key_of, AreRising}
-use Rattle.obj_tree.specs.Maps.{is_below, is_above}
+use Rattle.kube_meta.specs.Rows.{RowData, key_of, AreRising, is_behind}
+use Rattle.obj_tree.specs.Maps.{is_below}
 use Rattle.obj_tree.specs.Pages.{joined, AreSized, IsPaged, page_at, begins_by, IsPageFor, IsRowAt, IsGapAt}
 use Rattle.obj_tree.proofs.MapLemmas.{same_text, turned, flipped, of_lt, lt_of, lt_trans, Stand, lower, same, higher, stand, all_weaker, all_parts, Rising, rising, rising_parts, before_row}
 use Rattle.obj_tree.proofs.PageLemmas.{joined_at, sized_at}
@@ -68,7 +68,7 @@ module _ {A : Type 0} (v : A → RowData) where
   comparisons_rise [] key is i j d order inside = absurd (omega arith)
   comparisons_rise (x ∷ xs) key is zero zero d order inside = omega arith
   comparisons_rise (x ∷ xs) key is zero (suc j) d order inside =
-      rises (key_of (v x)) (key_of (v (get_or xs j d))) key (all_at v (is_above (key_of (v x))) xs j d is.0 (omega arith))
+      rises (key_of (v x)) (key_of (v (get_or xs j d))) key (all_at v (is_behind (key_of (v x))) xs j d is.0 (omega arith))
   comparisons_rise (x ∷ xs) key is (suc i) zero d order inside = absurd (omega arith)
   comparisons_rise (x ∷ xs) key is (suc i) (suc j) d order inside = comparisons_rise xs key is.1 i j d (omega arith) (omega arith)
 
@@ -82,10 +82,10 @@ before_at : (rows : List RowData) (at : ℕ) (row : RowData) (key : List ℕ) �
 before_at rows at row key inside is has =
     subst (λ (k : List ℕ). list_all (is_below k) (take at rows) ≡ true) has (before_row (take at rows) (drop (suc at) rows) (get_or rows at row) (around rows at row inside is))
 
-after_at : (rows : List RowData) (at : ℕ) (row : RowData) (key : List ℕ) → at < length rows → Rising rows → key_of (get_or rows at row) ≡ key → list_all (is_above key) (drop (suc at) rows) ≡ true
+after_at : (rows : List RowData) (at : ℕ) (row : RowData) (key : List ℕ) → at < length rows → Rising rows → key_of (get_or rows at row) ≡ key → list_all (is_behind key) (drop (suc at) rows) ≡ true
 after_at rows at row key inside is has =
     let later = rising_parts (take at rows) (get_or rows at row ∷ drop (suc at) rows) (around rows at row inside is) in
-    subst (λ (k : List ℕ). list_all (is_above k) (drop (suc at) rows) ≡ true) has later.1.0
+    subst (λ (k : List ℕ). list_all (is_behind k) (drop (suc at) rows) ≡ true) has later.1.0
 
 -- some row, where there is one
 pub first_row : (rows : List RowData) → 0 < length rows → RowData
@@ -115,7 +115,7 @@ module _ {A : Type 0} (v : A → RowData) (xs : List A) (key : List ℕ) (is : A
         absent = record {
           inside = omega (arith, length-map xs v);
           before = take_passes v (is_below key) xs at (λ k d low high. of_lt (key_of (v (get_or xs k d))) key (cut.0 k d low high));
-          after = drop_passes v (is_above key) xs at (λ k d low high. of_lt key (key_of (v (get_or xs k d))) (flipped (key_of (v (get_or xs k d))) key (cut.1 k d low high)));
+          after = drop_passes v (is_behind key) xs at (λ k d low high. of_lt key (key_of (v (get_or xs k d))) (flipped (key_of (v (get_or xs k d))) key (cut.1 k d low high)));
         };
       }
 
@@ -130,18 +130,18 @@ not_false true e = cc
 not_false false e = refl
 
 -- a page that begins above a key stands above it whole, and so do those after it
-begins_above : (key : List ℕ) (page : List RowData) (back : List RowData) → begins_by key page ≡ false → Rising (page ++ back) → list_all (is_above key) (page ++ back) ≡ true
+begins_above : (key : List ℕ) (page : List RowData) (back : List RowData) → begins_by key page ≡ false → Rising (page ++ back) → list_all (is_behind key) (page ++ back) ≡ true
 begins_above key [] back above is = absurd (cc)
 begins_above key (row ∷ rows) back above is =
-    let here : is_above key row ≡ true = true_of (is_above key row) above in
-    let rest = all_weaker (is_above (key_of row)) (is_above key) (λ x passes. lt_trans key (key_of row) (key_of x) here passes) (rows ++ back) is.0 in
+    let here : is_behind key row ≡ true = true_of (is_behind key row) above in
+    let rest = all_weaker (is_behind (key_of row)) (is_behind key) (λ x passes. lt_trans key (key_of row) (key_of x) here passes) (rows ++ back) is.0 in
     rw here rest
   where
     true_of : (b : Bool) → not b ≡ false → b ≡ true
     true_of true e = refl
     true_of false e = cc
 
-pub all_after : (key : List ℕ) (pages : List (List RowData)) → Rising (joined pages) → list_all (λ page. not (begins_by key page)) pages ≡ true → list_all (is_above key) (joined pages) ≡ true
+pub all_after : (key : List ℕ) (pages : List (List RowData)) → Rising (joined pages) → list_all (λ page. not (begins_by key page)) pages ≡ true → list_all (is_behind key) (joined pages) ≡ true
 all_after key [] is above = refl
 all_after key (page ∷ pages) is above =
     let both = and_parts (not (begins_by key page)) (list_all (λ p. not (begins_by key p)) pages) above in
@@ -159,7 +159,7 @@ lt_le a b key less not_above = by (stand b key)
 all_before : (key : List ℕ) (front page back : List RowData) → 0 < length page → Rising (front ++ (page ++ back)) → begins_by key page ≡ true → list_all (is_below key) front ≡ true
 all_before key front [] back some is begins = absurd (omega arith)
 all_before key front (row ∷ rows) back some is begins =
-    all_weaker (is_below (key_of row)) (is_below key) (λ x passes. lt_le (key_of x) (key_of row) key passes (not_true (is_above key row) begins)) front (before_row front (rows ++ back) row is)
+    all_weaker (is_below (key_of row)) (is_below key) (λ x passes. lt_le (key_of x) (key_of row) key passes (not_true (is_behind key row) begins)) front (before_row front (rows ++ back) row is)
 
 rising_drop : (pages : List (List RowData)) (n : ℕ) → Rising (joined pages) → Rising (joined (drop n pages))
 rising_drop pages zero is = is
@@ -173,7 +173,7 @@ page_found (page ∷ pages) key zero within some paged begun later =
     record {
       inside = omega arith;
       before = refl;
-      after = (all_parts (is_above key) page (joined pages) all).1;
+      after = (all_parts (is_behind key) page (joined pages) all).1;
     }
 page_found (page ∷ pages) key (suc n) within some paged begun later =
     let every = page ∷ pages in
@@ -190,14 +190,14 @@ page_found (page ∷ pages) key (suc n) within some paged begun later =
     subst (λ (k : ℕ). IsPageFor every key k) (sym same) found
 
 -- where one page doesn't begin above a key, those before it don't
-later_above : (key : List ℕ) (pages : List (List RowData)) (j : ℕ) → list_all (is_above key) (joined pages) ≡ true → AreSized pages → j < length pages → begins_by key (page_at pages j) ≡ false
+later_above : (key : List ℕ) (pages : List (List RowData)) (j : ℕ) → list_all (is_behind key) (joined pages) ≡ true → AreSized pages → j < length pages → begins_by key (page_at pages j) ≡ false
 later_above key [] j all sized inside = absurd (omega arith)
 later_above key ([] ∷ pages) zero all sized inside = let some : 0 < 0 = sized.0 in absurd (omega arith)
 later_above key ((row ∷ rows) ∷ pages) zero all sized inside =
-    let both = and_parts (is_above key row) (list_all (is_above key) (rows ++ joined pages)) all in
+    let both = and_parts (is_behind key row) (list_all (is_behind key) (rows ++ joined pages)) all in
     ap not both.0
 later_above key (page ∷ pages) (suc j) all sized inside =
-    later_above key pages j (all_parts (is_above key) page (joined pages) all).1 sized.2 (omega arith)
+    later_above key pages j (all_parts (is_behind key) page (joined pages) all).1 sized.2 (omega arith)
 
 pub begun_before : (key : List ℕ) (pages : List (List RowData)) (i j : ℕ) → Rising (joined pages) → AreSized pages → i ≤ j → j < length pages → begins_by key (page_at pages j) ≡ true → begins_by key (page_at pages i) ≡ true
 begun_before key [] i j is sized order inside begins = absurd (omega arith)
@@ -206,7 +206,7 @@ begun_before key (page ∷ pages) zero (suc j) is sized order inside begins = el
   | inl pass ↦ pass
   | inr fail ↦
       let all = begins_above key page (joined pages) fail is in
-      let not_there = later_above key pages j (all_parts (is_above key) page (joined pages) all).1 sized.2 (omega arith) in
+      let not_there = later_above key pages j (all_parts (is_behind key) page (joined pages) all).1 sized.2 (omega arith) in
       absurd (true≢false (sym begins ∙ not_there))
 ]
 begun_before key (page ∷ pages) (suc i) zero is sized order inside begins = absurd (omega arith)

@@ -2,8 +2,8 @@
 use Rattle.std.specs.Prelude.{◌≡◌, ℕ, suc, ◌+◌, ◌-◌, ◌<◌, ◌≤◌, Bool, true, not, List, [], ◌∷◌, ◌++◌, map, length, take, drop, nat_lt, if◌then◌else◌, slice_index_or}
 use Rattle.std.specs.List.{list_all}
 use Rattle.std.specs.declared.sync.Arc.{Arc}
-use Rattle.kube_meta.specs.Rows.{RowData, key_of, AreRising}
-use Rattle.obj_tree.specs.Maps.{is_below, is_above}
+use Rattle.kube_meta.specs.Rows.{RowData, key_of, AreRising, is_behind}
+use Rattle.obj_tree.specs.Maps.{is_below}
 
 -- what the shared pointers point to
 abbrev pub values_of : {X Z : Type 0} → List (Arc X Z) → List X
@@ -33,6 +33,11 @@ pub record IsPaged (pages : List (List RowData)) : Type 0 where
   pub full : AreFull pages
   pub rising : AreRising (joined pages)
 
+-- each page holds 48 rows, as those that are filled at once
+abbrev pub AreFilled : List (List RowData) → Type 0
+AreFilled [] = Unit {0}
+AreFilled (page ∷ pages) = (length page ≡ 48) × AreFilled pages
+
 -- pages that hold these rows
 pub record ArePagesOf (pages : List (List RowData)) (rows : List RowData) : Type 0 where
   pub rows_are : joined pages ≡ rows
@@ -59,36 +64,36 @@ row_gone rows at = take at rows ++ drop (at + 1) rows
 abbrev pub divided : List RowData → List (List RowData)
 divided page = if nat_lt 64 (length page) then take 32 page ∷ drop 32 page ∷ [] else page ∷ []
 
--- a page holds at most 32 rows together with the one before a place, and with the one after it
-abbrev pub FitsBefore : List (List RowData) → ℕ → List RowData → Type 0
-FitsBefore pages at page = (0 < at) × (length (page_at pages (at - 1)) + length page ≤ 32)
+-- a page of so many rows holds at most 32 together with the one before a place, and with the one after it
+abbrev pub FitsBefore : List (List RowData) → ℕ → ℕ → Type 0
+FitsBefore pages at rows = (0 < at) × (length (page_at pages (at - 1)) + rows ≤ 32)
 
-abbrev pub FitsAfter : List (List RowData) → ℕ → List RowData → Type 0
-FitsAfter pages at page = (at + 1 < length pages) × (length page + length (page_at pages (at + 1)) ≤ 32)
+abbrev pub FitsAfter : List (List RowData) → ℕ → ℕ → Type 0
+FitsAfter pages at rows = (at + 1 < length pages) × (length (page_at pages (at + 1)) + rows ≤ 32)
 
 -- a page doesn't begin above a key
 abbrev pub begins_by : List ℕ → List RowData → Bool
 begins_by key [] = true
-begins_by key (row ∷ rows) = not (is_above key row)
+begins_by key (row ∷ rows) = not (is_behind key row)
 
 -- the page at a place is the one in which a key stands, or would stand
 pub record IsPageFor (pages : List (List RowData)) (key : List ℕ) (at : ℕ) : Type 0 where
   pub inside : at < length pages
   pub before : list_all (is_below key) (joined (take at pages)) ≡ true
-  pub after : list_all (is_above key) (joined (drop (suc at) pages)) ≡ true
+  pub after : list_all (is_behind key) (joined (drop (suc at) pages)) ≡ true
 
 -- the row at a place has the key
 pub record IsRowAt (rows : List RowData) (key : List ℕ) (at : ℕ) : Type 0 where
   pub inside : at < length rows
   pub before : list_all (is_below key) (take at rows) ≡ true
   pub has_key : (row : RowData) → key_of (slice_index_or rows at row) ≡ key
-  pub after : list_all (is_above key) (drop (suc at) rows) ≡ true
+  pub after : list_all (is_behind key) (drop (suc at) rows) ≡ true
 
 -- no row has the key, and a place is where it would go
 pub record IsGapAt (rows : List RowData) (key : List ℕ) (at : ℕ) : Type 0 where
   pub inside : at ≤ length rows
   pub before : list_all (is_below key) (take at rows) ≡ true
-  pub after : list_all (is_above key) (drop at rows) ≡ true
+  pub after : list_all (is_behind key) (drop at rows) ≡ true
 
 -- a place in the first page, or the very beginning where there is none
 abbrev pub IsWithin : ℕ → List (List RowData) → Type 0

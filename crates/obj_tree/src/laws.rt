@@ -1,3 +1,5 @@
+//! Laws of puts and removals.
+
 ghost use Rattle.obj_tree.specs.Laws.{PutsAreUpdates, PutsStayRising, RemovalsAreUpdates, RemovalsStayRising};
 
 /// Rows with one more have it at its key, and what they had at every other.

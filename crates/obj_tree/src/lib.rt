@@ -1,12 +1,14 @@
 //! The current objects of one resource in the order of their keys, in shared pages: a snapshot shares
-//! the pages, and a change copies only the page that it changes.
+//! all of them, and a change copies only the page that it changes, and that only where it is shared.
 #![tactic(auto)]
 
+mod filled;
 mod laws;
 mod page;
 mod pages;
 mod rows;
 mod search;
+mod shared;
 mod snapshot;
 mod tree;
 

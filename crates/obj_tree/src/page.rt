@@ -1,4 +1,6 @@
-ghost use Rattle.std.specs.Prelude.{◌≡◌, ◌++◌, ◌∷◌, [], ◌≤◌, ◌<◌, length, take, drop, IfOk, OnOk};
+//! One page of rows.
+
+ghost use Rattle.std.specs.Prelude.{◌≡◌, ◌++◌, ◌∷◌, [], ◌≤◌, ◌<◌, ◌+◌, length, take, drop, IfOk, OnOk, OnErr};
 ghost use Rattle.kube_meta.specs.Rows.{key_of as row_key};
 ghost use Rattle.obj_tree.specs.Pages.{values_of, begins_by, row_put, row_gone};
 
@@ -56,6 +58,39 @@ impl Page {
         let mut rows = Vec::new(alloc);
         rows.push(shown)?;
         Ok(Page { rows })
+    }
+
+    // Puts a row at a place, before those that stand there.
+    pub(crate) fn insert(&mut self, place: usize, shown: Arc<Shown>) -> Result<(), Memory>
+        requires { place ≤ length self.old }
+        ensures ok { OnOk result (self.new ≡ row_put self.old place place shown.value) }
+        ensures err { OnErr result (self.new ≡ self.old) }
+    {
+        self.rows.insert(place, shown)?;
+        Ok(())
+    }
+
+    // Puts a row in place of the one at a place.
+    pub(crate) fn replace(&mut self, place: usize, shown: Arc<Shown>)
+        requires { place < length self.old }
+        ensures { self.new ≡ row_put self.old place (place + 1) shown.value }
+    {
+        self.rows[place] = shown;
+    }
+
+    // Removes the row at a place.
+    pub(crate) fn remove(&mut self, place: usize)
+        requires { place < length self.old }
+        ensures { self.new ≡ row_gone self.old place }
+    {
+        self.rows.remove(place);
+    }
+
+    // A page of these rows.
+    pub(crate) fn of(rows: Vec<Arc<Shown>>) -> Page
+        ensures { result ≡ values_of rows.items }
+    {
+        Page { rows }
     }
 
     // A copy with a row in place of those from a place up to another.

@@ -1,10 +1,13 @@
-ghost use Rattle.std.specs.Prelude.{◌≡◌, ◌↔◌, ◌+◌, ◌≤◌, ◌<◌, ◌++◌, ◌∷◌, [], length, IfOk, OnOk, OnErr, MatchOption, IsTrue, option_map};
-ghost use Rattle.kube_meta.specs.Rows.{key_of as row_key, row_with};
+//! Pages in the order of their keys.
+
+ghost use Rattle.std.specs.Prelude.{◌≡◌, ◌↔◌, ◌+◌, ◌≤◌, ◌<◌, ◌++◌, ◌∷◌, [], None, not, nat_lt, length, slice_index_or, IfOk, OnOk, OnErr, MatchOption, IsTrue, option_map};
+ghost use Rattle.kube_meta.specs.Rows.{RowData, key_of as row_key, row_with};
 ghost use Rattle.obj_tree.specs.Maps.{with_row, without};
 ghost use Rattle.obj_tree.specs.Pages.{values_of, joined, page_at, replaced, row_put, divided, row_gone, AreSized, AreFull, IsPaged, ArePagesOf, FitsBefore, FitsAfter};
 
 use crate::page::{Page, key_of};
 use crate::search::find;
+use crate::shared::{Pages, own, slice_of};
 use encode_once::Shown;
 use kube_meta::{Key, Memory};
 use std::alloc::Global;
@@ -13,56 +16,117 @@ use std::sync::Arc;
 /// Puts a row at its key, and answers the one that stood there.
 pub(crate) fn put(
     alloc: Global,
-    pages: &mut Vec<Arc<Page>>,
+    pages: &mut Pages,
     shown: Arc<Shown>,
 ) -> Result<Option<Arc<Shown>>, Memory>
-    requires { IsPaged (values_of pages.old.items) }
-    ensures rows { OnOk result (joined (values_of pages.new.items) ≡ with_row (joined (values_of pages.old.items)) shown.value) }
-    ensures answer { IfOk result (λ old. option_map (λ o. o.value) old ≡ row_with (joined (values_of pages.old.items)) (row_key shown.value)) }
-    ensures len { IfOk result (λ old. MatchOption old (length (joined (values_of pages.new.items)) ≡ length (joined (values_of pages.old.items)) + 1) (λ _. length (joined (values_of pages.new.items)) ≡ length (joined (values_of pages.old.items)))) }
-    ensures paged { IsPaged (values_of pages.new.items) }
-    ensures err { OnErr result (values_of pages.new.items ≡ values_of pages.old.items) }
+    requires { IsPaged (values_of pages.old.value.items) }
+    ensures rows { OnOk result (joined (values_of pages.new.value.items) ≡ with_row (joined (values_of pages.old.value.items)) shown.value) }
+    ensures answer { IfOk result (λ old. option_map (λ o. o.value) old ≡ row_with (joined (values_of pages.old.value.items)) (row_key shown.value)) }
+    ensures len { IfOk result (λ old. MatchOption old (length (joined (values_of pages.new.value.items)) ≡ length (joined (values_of pages.old.value.items)) + 1) (λ _. length (joined (values_of pages.new.value.items)) ≡ length (joined (values_of pages.old.value.items)))) }
+    ensures paged { IsPaged (values_of pages.new.value.items) }
+    ensures err { OnErr result (values_of pages.new.value.items ≡ values_of pages.old.value.items) }
 {
-    let Some(place) = find(pages, key_of(&shown)) else {
-        let page = Arc::new(alloc, Page::one(alloc, shown)?)?;
-        pages.push(page)?;
+    let Some(place) = find(slice_of(pages), key_of(&shown)) else {
+        put_first(alloc, pages, shown)?;
         return Ok(None);
     };
     match place.row {
         Ok(row) => {
-            let old = Arc::try_clone(&pages[place.page].rows()[row])?;
-            put_row(alloc, pages, place.page, row, row + 1, shown)?;
+            let old = shared_row(slice_of(pages), place.page, row)?;
+            put_owned(alloc, pages, place.page, row, row + 1, shown)?;
             Ok(Some(old))
         }
         Err(row) => {
-            put_row(alloc, pages, place.page, row, row, shown)?;
+            put_owned(alloc, pages, place.page, row, row, shown)?;
             Ok(None)
         }
     }
 }
 
-/// Removes the row with a key, and answers it.
+/// Removes the row with a key, and answers it. Where there is none nothing is changed, and no memory is
+/// taken.
 pub(crate) fn remove(
     alloc: Global,
-    pages: &mut Vec<Arc<Page>>,
+    pages: &mut Pages,
     key: &Key,
 ) -> Result<Option<Arc<Shown>>, Memory>
-    requires { IsPaged (values_of pages.old.items) }
-    ensures rows { OnOk result (joined (values_of pages.new.items) ≡ without (joined (values_of pages.old.items)) key.now) }
-    ensures answer { IfOk result (λ old. option_map (λ o. o.value) old ≡ row_with (joined (values_of pages.old.items)) key.now) }
-    ensures len { IfOk result (λ old. MatchOption old (length (joined (values_of pages.new.items)) ≡ length (joined (values_of pages.old.items))) (λ _. length (joined (values_of pages.new.items)) + 1 ≡ length (joined (values_of pages.old.items)))) }
-    ensures paged { IsPaged (values_of pages.new.items) }
-    ensures err { OnErr result (values_of pages.new.items ≡ values_of pages.old.items) }
+    requires { IsPaged (values_of pages.old.value.items) }
+    ensures rows { OnOk result (joined (values_of pages.new.value.items) ≡ without (joined (values_of pages.old.value.items)) key.now) }
+    ensures answer { IfOk result (λ old. option_map (λ o. o.value) old ≡ row_with (joined (values_of pages.old.value.items)) key.now) }
+    ensures len { IfOk result (λ old. MatchOption old (length (joined (values_of pages.new.value.items)) ≡ length (joined (values_of pages.old.value.items))) (λ _. length (joined (values_of pages.new.value.items)) + 1 ≡ length (joined (values_of pages.old.value.items)))) }
+    ensures paged { IsPaged (values_of pages.new.value.items) }
+    ensures absent { row_with (joined (values_of pages.old.value.items)) key.now ≡ None → (result ≡ Ok None) × (pages.new ≡ pages.old) }
+    ensures err { OnErr result (values_of pages.new.value.items ≡ values_of pages.old.value.items) }
 {
-    let Some(place) = find(pages, key) else {
+    let Some(place) = find(slice_of(pages), key) else {
         return Ok(None);
     };
     let Ok(row) = place.row else {
         return Ok(None);
     };
-    let old = Arc::try_clone(&pages[place.page].rows()[row])?;
-    remove_row(alloc, pages, place.page, row)?;
+    let old = shared_row(slice_of(pages), place.page, row)?;
+    remove_owned(alloc, pages, place.page, row)?;
     Ok(Some(old))
+}
+
+// The row at a place of a page, shared.
+fn shared_row(pages: &[Arc<Page>], at: usize, place: usize) -> Result<Arc<Shown>, Memory>
+    requires inside { at < length pages.now }
+    requires place { place < length (page_at (values_of pages.now) at) }
+    ensures { IfOk result (λ shown. (d : RowData) → shown.value ≡ slice_index_or (page_at (values_of pages.now) at) place d) }
+{
+    Ok(Arc::try_clone(&pages[at].rows()[place])?)
+}
+
+// The first page, of one row.
+fn put_first(alloc: Global, pages: &mut Pages, shown: Arc<Shown>) -> Result<(), Memory>
+    ensures ok { OnOk result (values_of pages.new.value.items ≡ (shown.value ∷ []) ∷ []) }
+    ensures err { OnErr result (pages.new ≡ pages.old) }
+{
+    let page = Arc::new(alloc, Page::one(alloc, shown)?)?;
+    let mut first = Vec::new(alloc);
+    first.push(page)?;
+    *pages = Arc::new(alloc, first)?;
+    Ok(())
+}
+
+// As `put_row`, once nobody shares the vector.
+fn put_owned(
+    alloc: Global,
+    pages: &mut Pages,
+    at: usize,
+    from: usize,
+    to: usize,
+    shown: Arc<Shown>,
+) -> Result<(), Memory>
+    requires inside { at < length pages.old.value.items }
+    requires order { from ≤ to }
+    requires near { to ≤ from + 1 }
+    requires place { to ≤ length (page_at (values_of pages.old.value.items) at) }
+    ensures ok { OnOk result (values_of pages.new.value.items ≡ replaced (values_of pages.old.value.items) at (at + 1) (divided (row_put (page_at (values_of pages.old.value.items) at) from to shown.value))) }
+    ensures err { OnErr result (values_of pages.new.value.items ≡ values_of pages.old.value.items) }
+{
+    own(alloc, pages)?;
+    match Arc::get_mut(pages) {
+        Some(pages) => put_row(alloc, pages, at, from, to, shown),
+        None => Err(Memory),
+    }
+}
+
+// As `remove_row`, once nobody shares the vector.
+fn remove_owned(alloc: Global, pages: &mut Pages, at: usize, place: usize) -> Result<(), Memory>
+    requires inside { at < length pages.old.value.items }
+    requires place { place < length (page_at (values_of pages.old.value.items) at) }
+    requires sized { AreSized (values_of pages.old.value.items) }
+    requires full { AreFull (values_of pages.old.value.items) }
+    ensures ok { OnOk result (ArePagesOf (values_of pages.new.value.items) (joined (replaced (values_of pages.old.value.items) at (at + 1) (row_gone (page_at (values_of pages.old.value.items) at) place ∷ [])))) }
+    ensures err { OnErr result (values_of pages.new.value.items ≡ values_of pages.old.value.items) }
+{
+    own(alloc, pages)?;
+    match Arc::get_mut(pages) {
+        Some(pages) => remove_row(alloc, pages, at, place),
+        None => Err(Memory),
+    }
 }
 
 // Puts a row into a page in place of those from one place up to another. A page of 65 rows is split.
@@ -76,16 +140,54 @@ fn put_row(
 ) -> Result<(), Memory>
     requires inside { at < length pages.old.items }
     requires order { from ≤ to }
+    requires near { to ≤ from + 1 }
     requires place { to ≤ length (page_at (values_of pages.old.items) at) }
     ensures ok { OnOk result (values_of pages.new.items ≡ replaced (values_of pages.old.items) at (at + 1) (divided (row_put (page_at (values_of pages.old.items) at) from to shown.value))) }
     ensures err { OnErr result (values_of pages.new.items ≡ values_of pages.old.items) }
 {
+    if has_room(pages, at, from, to) {
+        put_in(alloc, &mut pages[at], from, to, shown)?;
+        return Ok(());
+    }
     let page = pages[at].with(alloc, from, to, shown)?;
-    if page.len() > 64 {
-        let (first, second) = page.split(alloc, 32)?;
-        put_two(alloc, pages, at, first, second)
-    } else {
-        put_page(alloc, pages, at, page)
+    let (first, second) = page.split(alloc, 32)?;
+    put_two(alloc, pages, at, first, second)
+}
+
+// Whether a page holds at most 64 rows with one in place of those from one place up to another.
+fn has_room(pages: &[Arc<Page>], at: usize, from: usize, to: usize) -> bool
+    requires inside { at < length pages.now }
+    requires order { from ≤ to }
+    requires place { to ≤ length (page_at (values_of pages.now) at) }
+    ensures { (row : RowData) → result ≡ not (nat_lt 64 (length (row_put (page_at (values_of pages.now) at) from to row))) }
+{
+    pages[at].len() - (to - from) < 64
+}
+
+// Puts a row into a page: where nobody shares the page there, and else into a copy.
+fn put_in(
+    alloc: Global,
+    page: &mut Arc<Page>,
+    from: usize,
+    to: usize,
+    shown: Arc<Shown>,
+) -> Result<(), Memory>
+    requires order { from ≤ to }
+    requires near { to ≤ from + 1 }
+    requires place { to ≤ length page.old.value }
+    ensures ok { OnOk result (page.new.value ≡ row_put page.old.value from to shown.value) }
+    ensures err { OnErr result (page.new.value ≡ page.old.value) }
+{
+    match Arc::get_mut(page) {
+        Some(own) if from == to => own.insert(from, shown),
+        Some(own) => {
+            own.replace(from, shown);
+            Ok(())
+        }
+        None => {
+            *page = Arc::new(alloc, page.with(alloc, from, to, shown)?)?;
+            Ok(())
+        }
     }
 }
 
@@ -103,13 +205,47 @@ fn remove_row(
     ensures ok { OnOk result (ArePagesOf (values_of pages.new.items) (joined (replaced (values_of pages.old.items) at (at + 1) (row_gone (page_at (values_of pages.old.items) at) place ∷ [])))) }
     ensures err { OnErr result (values_of pages.new.items ≡ values_of pages.old.items) }
 {
-    let page = pages[at].except(alloc, place)?;
-    if page.len() == 0 {
+    let left = pages[at].len() - 1;
+    if left == 0 {
         drop_page(pages, at);
         return Ok(());
     }
-    put_smaller(alloc, pages, at, page)?;
-    Ok(())
+    if stays(pages, at, left) {
+        remove_in(alloc, &mut pages[at], place)?;
+        return Ok(());
+    }
+    let page = pages[at].except(alloc, place)?;
+    put_smaller(alloc, pages, at, page)
+}
+
+// Removes a row from a page: where nobody shares the page there, and else in a copy.
+fn remove_in(alloc: Global, page: &mut Arc<Page>, place: usize) -> Result<(), Memory>
+    requires { place < length page.old.value }
+    ensures ok { OnOk result (page.new.value ≡ row_gone page.old.value place) }
+    ensures err { OnErr result (page.new.value ≡ page.old.value) }
+{
+    match Arc::get_mut(page) {
+        Some(own) => {
+            own.remove(place);
+            Ok(())
+        }
+        None => {
+            *page = Arc::new(alloc, page.except(alloc, place)?)?;
+            Ok(())
+        }
+    }
+}
+
+// Whether a page of so many rows at a place stays apart from its neighbours.
+fn stays(pages: &[Arc<Page>], at: usize, left: usize) -> bool
+    requires { at < length pages.now }
+    ensures before { IsTrue result → FitsBefore (values_of pages.now) at left → ⊥ }
+    ensures after { IsTrue result → FitsAfter (values_of pages.now) at left → ⊥ }
+{
+    if fits_before(pages, at, left) {
+        return false;
+    }
+    !fits_after(pages, at, left)
 }
 
 // Puts a page in place of one that held one row more. If it holds at most 32 rows together with a
@@ -128,12 +264,12 @@ fn put_smaller(
     ensures ok { OnOk result (ArePagesOf (values_of pages.new.items) (joined (replaced (values_of pages.old.items) at (at + 1) (page ∷ [])))) }
     ensures err { OnErr result (values_of pages.new.items ≡ values_of pages.old.items) }
 {
-    if fits_before(pages, at, &page) {
+    if fits_before(pages, at, page.len()) {
         let both = pages[at - 1].joined(alloc, &page)?;
         put_joined(alloc, pages, at - 1, both)?;
         return Ok(());
     }
-    if fits_after(pages, at, &page) {
+    if fits_after(pages, at, page.len()) {
         let both = page.joined(alloc, &pages[at + 1])?;
         put_joined(alloc, pages, at, both)?;
         return Ok(());
@@ -142,27 +278,27 @@ fn put_smaller(
     Ok(())
 }
 
-// Whether a page holds at most 32 rows together with the one before a place.
-fn fits_before(pages: &[Arc<Page>], at: usize, page: &Page) -> bool
+// Whether a page of so many rows holds at most 32 together with the one before a place.
+fn fits_before(pages: &[Arc<Page>], at: usize, rows: usize) -> bool
     requires { at < length pages.now }
-    ensures { IsTrue result ↔ FitsBefore (values_of pages.now) at page.now }
+    ensures { IsTrue result ↔ FitsBefore (values_of pages.now) at rows }
 {
-    at > 0 && fit(&pages[at - 1], page)
+    at > 0 && fit(&pages[at - 1], rows)
 }
 
 // Whether it does so with the one after the place.
-fn fits_after(pages: &[Arc<Page>], at: usize, page: &Page) -> bool
+fn fits_after(pages: &[Arc<Page>], at: usize, rows: usize) -> bool
     requires { at < length pages.now }
-    ensures { IsTrue result ↔ FitsAfter (values_of pages.now) at page.now }
+    ensures { IsTrue result ↔ FitsAfter (values_of pages.now) at rows }
 {
-    at + 1 < pages.len() && fit(page, &pages[at + 1])
+    at + 1 < pages.len() && fit(&pages[at + 1], rows)
 }
 
-// Whether two pages hold at most 32 rows together.
-fn fit(page: &Page, next: &Page) -> bool
-    ensures { IsTrue result ↔ (length page.now + length next.now ≤ 32) }
+// Whether a page holds at most 32 rows together with so many.
+fn fit(page: &Page, rows: usize) -> bool
+    ensures { IsTrue result ↔ (length page.now + rows ≤ 32) }
 {
-    page.len() <= 32 && next.len() <= 32 - page.len()
+    page.len() <= 32 && rows <= 32 - page.len()
 }
 
 fn put_page(alloc: Global, pages: &mut Vec<Arc<Page>>, at: usize, page: Page) -> Result<(), Memory>

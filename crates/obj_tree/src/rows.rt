@@ -1,3 +1,5 @@
+//! Rows that are lent one after the other.
+
 ghost use Rattle.std.specs.Prelude.{◌≡◌, ◌≤◌, ◌∷◌, [], length, drop, MatchOption};
 ghost use Rattle.std.specs.Iterator.{YieldsFirstBy, item_count};
 ghost use Rattle.obj_tree.specs.Pages.{values_of, joined, page_at, AreSized, IsWithin};

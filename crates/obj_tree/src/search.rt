@@ -1,6 +1,8 @@
-ghost use Rattle.std.specs.Prelude.{◌≡◌, [], MatchOption, IfOk, IfErr};
-ghost use Rattle.kube_meta.specs.Rows.{AreRising};
-ghost use Rattle.obj_tree.specs.Pages.{values_of, IsPaged, IsPageFor, IsRowAt, IsGapAt};
+//! Places among pages, by binary search.
+
+ghost use Rattle.std.specs.Prelude.{◌≡◌, [], MatchOption, IfOk, IfErr, option_map, option_copied};
+ghost use Rattle.kube_meta.specs.Rows.{AreRising, row_with};
+ghost use Rattle.obj_tree.specs.Pages.{values_of, joined, IsPaged, IsPageFor, IsRowAt, IsGapAt};
 ghost use Rattle.obj_tree.specs.Places.{IsPlace};
 
 use crate::page::{Page, key_of};
@@ -13,6 +15,18 @@ use std::sync::Arc;
 pub(crate) struct Place {
     pub page: usize,
     pub row: Result<usize, usize>,
+}
+
+/// The row with a key, if there is one.
+pub(crate) fn row_of<'a>(pages: &'a [Arc<Page>], key: &Key) -> Option<&'a Arc<Shown>>
+    requires { IsPaged (values_of pages.now) }
+    ensures { option_map (λ o. o.value) (option_copied result) ≡ row_with (joined (values_of pages.now)) key.now }
+{
+    let place = find(pages, key)?;
+    match place.row {
+        Ok(row) => Some(&pages[place.page].rows()[row]),
+        Err(_) => None,
+    }
 }
 
 /// Where a key stands or would stand, by binary search over the pages and in one; `None` where there is

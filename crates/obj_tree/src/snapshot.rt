@@ -1,13 +1,14 @@
-ghost use Rattle.std.specs.Prelude.{◌≡◌, ◌++◌, option_copied, IfOk, OnOk};
-ghost use Rattle.kube_meta.specs.Rows.{AreRising};
-ghost use Rattle.obj_tree.specs.Maps.{behind};
+//! The objects of a tree at one time.
+
+ghost use Rattle.std.specs.Prelude.{◌≡◌, ◌==◌, length, option_map, option_copied};
+ghost use Rattle.kube_meta.specs.Rows.{AreRising, behind, row_with};
 ghost use Rattle.obj_tree.specs.Pages.{values_of, joined, IsPaged};
 
 use crate::Rows;
-use crate::page::Page;
-use crate::search::find;
-use kube_meta::{Key, Memory};
-use std::alloc::Global;
+use crate::search::{find, row_of};
+use crate::shared::{Pages, slice_of};
+use encode_once::Shown;
+use kube_meta::Key;
 use std::marker::Model;
 use std::sync::Arc;
 
@@ -15,30 +16,52 @@ use std::sync::Arc;
 /// contracts as the list of its rows, whose keys rise byte by byte.
 #[derive(Drop)]
 pub struct Snapshot {
-    pages: Vec<Arc<Page>>,
+    pages: Pages,
+    len: usize,
 }
 
 impl Model for Snapshot {
-    ghost use Rattle.std.specs.Prelude.{List};
+    ghost use Rattle.std.specs.Prelude.{◌≡◌, List, length};
     ghost use Rattle.kube_meta.specs.Rows.{RowData};
     ghost use Rattle.obj_tree.specs.Pages.{values_of, joined, IsPaged};
 
     ghost Value = { List RowData };
 
-    ghost view = { λ s. joined (values_of s.pages.items) };
+    ghost view = { λ s. joined (values_of s.pages.value.items) };
 
-    ghost invariant = { λ s. IsPaged (values_of s.pages.items) };
+    ghost invariant = { λ s. IsPaged (values_of s.pages.value.items) × (s.len ≡ length (joined (values_of s.pages.value.items))) };
 }
 
 impl Snapshot {
-    // The rows of pages, which are shared.
-    pub(crate) fn of(alloc: Global, pages: &[Arc<Page>]) -> Result<Snapshot, Memory>
-        requires { IsPaged (values_of pages.now) }
-        ensures { IfOk result (λ snapshot. snapshot ≡ joined (values_of pages.now)) }
+    // The rows of pages, and how many there are.
+    pub(crate) fn of(pages: Pages, len: usize) -> Snapshot
+        requires paged { IsPaged (values_of pages.value.items) }
+        requires count { len ≡ length (joined (values_of pages.value.items)) }
+        ensures { result ≡ joined (values_of pages.value.items) }
     {
-        let mut copies = Vec::with_capacity(alloc, pages.len())?;
-        share(&mut copies, pages)?;
-        Ok(Snapshot { pages: copies })
+        Snapshot { pages, len }
+    }
+
+    /// The object at a key, if there is one.
+    pub fn get(&self, key: &Key) -> Option<&Arc<Shown>>
+        ensures { option_map (λ o. o.value) (option_copied result) ≡ row_with self.now key.now }
+    {
+        row_of(slice_of(&self.pages), key)
+    }
+
+    /// How many objects there are.
+    pub fn len(&self) -> usize
+        ensures count { result ≡ length self.now }
+        ensures rising { AreRising self.now }
+    {
+        self.len
+    }
+
+    /// Whether there are none.
+    pub fn is_empty(&self) -> bool
+        ensures { result ≡ (length self.now == 0) }
+    {
+        self.len == 0
     }
 
     /// Lends the objects whose keys are above `after`, or all where that is `None`, in the order of their
@@ -47,26 +70,17 @@ impl Snapshot {
         ensures rows { result ≡ behind (option_copied after.entry) self.now }
         ensures rising { AreRising self.now }
     {
+        let pages = slice_of(&self.pages);
         let Some(key) = after else {
-            return Rows::from(&self.pages, 0);
+            return Rows::from(pages, 0);
         };
-        let Some(place) = find(&self.pages, key) else {
-            return Rows::from(&self.pages, 0);
+        let Some(place) = find(pages, key) else {
+            return Rows::from(pages, 0);
         };
-        let (_, pages) = self.pages.split_at(place.page);
+        let (_, pages) = pages.split_at(place.page);
         match place.row {
             Ok(row) => Rows::from(pages, row + 1),
             Err(row) => Rows::from(pages, row),
         }
     }
-}
-
-// Puts shared pages behind others.
-fn share(copies: &mut Vec<Arc<Page>>, pages: &[Arc<Page>]) -> Result<(), Memory>
-    ensures { OnOk result (values_of copies.new.items ≡ values_of copies.old.items ++ values_of pages.now) }
-{
-    for page in pages {
-        copies.push(Arc::try_clone(page)?)?;
-    }
-    Ok(())
 }

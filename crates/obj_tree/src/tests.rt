@@ -1,3 +1,5 @@
+//! What no contract says, tried.
+
 use crate::{Rows, Tree};
 use encode_once::Shown;
 use kube_meta::{Fields, Key, Labels, Obj, Row, Text};
@@ -109,7 +111,7 @@ fn agree(alloc: Global, tree: &Tree, plain: &[(u64, u64)], number: u64) -> Resul
 
 // Puts the numbers in turn into both, then removes them in another order.
 fn run(alloc: Global, puts: &[u64], removals: &[u64]) -> Result<bool, Fail> {
-    let mut tree = Tree::new(alloc);
+    let mut tree = Tree::new(alloc)?;
     let mut plain = Vec::new(alloc);
     let mut rev = 1u64;
     for number in puts {
@@ -169,7 +171,7 @@ fn mixed_puts_and_removals(rt: HostRuntime) -> Result<(), Fail> {
 #[test]
 fn an_empty_tree_has_nothing(rt: HostRuntime) -> Result<(), Fail> {
     let alloc = rt.alloc();
-    let mut tree = Tree::new(alloc);
+    let mut tree = Tree::new(alloc)?;
     let key = key(alloc, 1000)?;
     assert_eq!(rt; tree.len(), 0);
     assert!(rt; tree.is_empty());
@@ -184,7 +186,7 @@ fn an_empty_tree_has_nothing(rt: HostRuntime) -> Result<(), Fail> {
 
 // The even numbers from 1100 on, so many, each with its number as its revision.
 fn evens(alloc: Global, count: u64) -> Result<Tree, Fail> {
-    let mut tree = Tree::new(alloc);
+    let mut tree = Tree::new(alloc)?;
     for i in 0..count {
         let number = even(i);
         tree.put(shown(alloc, number, number)?)?;

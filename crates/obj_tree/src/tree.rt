@@ -1,11 +1,14 @@
-ghost use Rattle.std.specs.Prelude.{◌≡◌, ◌+◌, ◌*◌, ◌/◌, ◌≤◌, ◌==◌, [], length, IfOk, OnOk, OnErr, option_map, option_copied};
+//! The tree of a resource's current objects.
+
+ghost use Rattle.std.specs.Prelude.{◌≡◌, ◌+◌, ◌*◌, ◌/◌, ◌≤◌, ◌==◌, [], None, length, IfOk, OnOk, OnErr, option_map, option_copied};
 ghost use Rattle.kube_meta.specs.Rows.{key_of, row_with, AreRising};
 ghost use Rattle.obj_tree.specs.Maps.{with_row, without};
 ghost use Rattle.obj_tree.specs.Pages.{values_of};
 
-use crate::page::Page;
+use crate::filled::filled;
 use crate::pages;
-use crate::search::find;
+use crate::search::row_of;
+use crate::shared::{Pages, slice_of};
 use crate::snapshot::Snapshot;
 use encode_once::Shown;
 use kube_meta::{Key, Memory};
@@ -15,11 +18,12 @@ use std::sync::Arc;
 
 /// The current objects of one resource: a finite map from keys to objects, each with the revision at
 /// which it was written. Seen in contracts as the list of its rows, whose keys rise byte by byte. It is
-/// held in pages of 1 to 64 rows, of which any two neighbours hold more than 32 rows together.
+/// held in pages of 1 to 64 rows, of which any two neighbours hold more than 32 rows together. A change
+/// takes place in the page itself, or in a copy where another tree or a snapshot shares it.
 #[derive(Drop)]
 pub struct Tree {
     alloc: Global,
-    pages: Vec<Arc<Page>>,
+    pages: Pages,
     len: usize,
 }
 
@@ -30,21 +34,31 @@ impl Model for Tree {
 
     ghost Value = { List RowData };
 
-    ghost view = { λ t. joined (values_of t.pages.items) };
+    ghost view = { λ t. joined (values_of t.pages.value.items) };
 
-    ghost invariant = { λ t. IsPaged (values_of t.pages.items) × (t.len ≡ length (joined (values_of t.pages.items))) };
+    ghost invariant = { λ t. IsPaged (values_of t.pages.value.items) × (t.len ≡ length (joined (values_of t.pages.value.items))) };
 }
 
 impl Tree {
     /// No objects.
-    pub fn new(alloc: Global) -> Tree
-        ensures { result ≡ [] }
+    pub fn new(alloc: Global) -> Result<Tree, Memory>
+        ensures { IfOk result (λ tree. tree ≡ []) }
     {
-        Tree {
+        Ok(Tree {
             alloc,
-            pages: Vec::new(alloc),
+            pages: Arc::new(alloc, Vec::new(alloc))?,
             len: 0,
-        }
+        })
+    }
+
+    /// The tree of objects whose keys rise, in one pass over them.
+    pub fn of_rows(alloc: Global, rows: Vec<Arc<Shown>>) -> Result<Tree, Memory>
+        requires { AreRising (values_of rows.items) }
+        ensures { IfOk result (λ tree. tree ≡ values_of rows.items) }
+    {
+        let len = rows.len();
+        let pages = Arc::new(alloc, filled(alloc, rows)?)?;
+        Ok(Tree { alloc, pages, len })
     }
 
     /// Puts an object at its key, and answers the one that stood there. A tree of 2^64 - 1 objects, which no
@@ -64,10 +78,12 @@ impl Tree {
         Ok(old)
     }
 
-    /// Removes the object at a key, and answers it, if there was one.
+    /// Removes the object at a key, and answers it, if there was one. Where there was none nothing is
+    /// changed, and no memory is taken.
     pub fn remove(&mut self, key: &Key) -> Result<Option<Arc<Shown>>, Memory>
         ensures rows { OnOk result (self.new ≡ without self.old key.now) }
         ensures answer { IfOk result (λ old. option_map (λ o. o.value) old ≡ row_with self.old key.now) }
+        ensures absent { row_with self.old key.now ≡ None → (result ≡ Ok None) × (self.new ≡ self.old) }
         ensures err { OnErr result (self.new ≡ self.old) }
     {
         let old = pages::remove(self.alloc, &mut self.pages, key)?;
@@ -81,11 +97,7 @@ impl Tree {
     pub fn get(&self, key: &Key) -> Option<&Arc<Shown>>
         ensures { option_map (λ o. o.value) (option_copied result) ≡ row_with self.now key.now }
     {
-        let place = find(&self.pages, key)?;
-        match place.row {
-            Ok(row) => Some(&self.pages[place.page].rows()[row]),
-            Err(_) => None,
-        }
+        row_of(slice_of(&self.pages), key)
     }
 
     /// How many objects there are.
@@ -108,13 +120,34 @@ impl Tree {
         ensures few { result ≤ length self.now / 16 + 1 }
         ensures enough { length self.now ≤ 64 * result }
     {
-        self.pages.len()
+        slice_of(&self.pages).len()
     }
 
-    /// The objects as they are now. The pages are shared, and later changes don't show in it.
+    /// Another tree of the same objects. The pages are shared, and changes of one don't show in the other.
+    pub fn copy(&self) -> Result<Tree, Memory>
+        ensures { IfOk result (λ tree. tree ≡ self.now) }
+    {
+        let pages = Arc::try_clone(&self.pages)?;
+        Ok(Tree {
+            alloc: self.alloc,
+            pages,
+            len: self.len,
+        })
+    }
+
+    /// The objects of this tree, which is given up.
+    pub fn into_snapshot(self) -> Snapshot
+        ensures { result ≡ self }
+    {
+        Snapshot::of(self.pages, self.len)
+    }
+
+    /// The objects as they are now. The pages are shared, and later changes don't show in it. It costs the
+    /// same for any number of objects.
     pub fn snapshot(&self) -> Result<Snapshot, Memory>
         ensures { IfOk result (λ snapshot. snapshot ≡ self.now) }
     {
-        Snapshot::of(self.alloc, &self.pages)
+        let pages = Arc::try_clone(&self.pages)?;
+        Ok(Snapshot::of(pages, self.len))
     }
 }

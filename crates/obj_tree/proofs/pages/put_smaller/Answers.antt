@@ -1,4 +1,4 @@
-use Rattle.std.proofs.Common.{◌≡◌, ◌+◌, ◌-◌, ◌++◌, List, ap, sym, ◌∙◌, arith}
+use Rattle.std.proofs.Common.{◌≡◌, ◌+◌, ◌-◌, ◌++◌, List, length, ap, sym, ◌∙◌, subst, arith}
 use Rattle.std.proofs.lemmas.Bool.{true≢false}
 use Rattle.std.proofs.lemmas.List.{length-map}
 use Rattle.kube_meta.specs.Rows.{RowData}
@@ -11,7 +11,9 @@ pub returns-then-fits_before-clause-ok : goal.returns-then-fits_before-clause-ok
 returns-then-fits_before-clause-ok c =
     let items = c.args.pages.now.items in
     let before = c.args.at - 1 in
-    let fits : FitsBefore (values_of items) c.args.at c.args.page = rw c.deref.ensures.value at (c.fits_before.ensures.0 c.if-fits_before.true) in
+    let counted : c.len.result ≡ length c.args.page = c.len.ensures in
+    let told : FitsBefore (values_of items) c.args.at c.len.result = rw c.deref.ensures.value at (c.fits_before.ensures.0 c.if-fits_before.true) in
+    let fits : FitsBefore (values_of items) c.args.at (length c.args.page) = subst (λ n. FitsBefore (values_of items) c.args.at n) counted told in
     let read = indexed (λ p. p.value) items before c.index.result.now (omega (arith, fits.0, c.requires.inside)) c.index.ensures in
     let both : c.in_ok-both.both ≡ page_at (values_of items) before ++ c.args.page =
     c.in_ok-both.ensures ∙ ap (λ (p : List RowData). p ++ c.args.page) (c.deref-then-fits_before.ensures ∙ sym read) in
@@ -22,7 +24,9 @@ pub returns-then-fits_after-clause-ok : goal.returns-then-fits_after-clause-ok
 returns-then-fits_after-clause-ok c =
     let items = c.args.pages.now.items in
     let after = c.args.at + 1 in
-    let fits : FitsAfter (values_of items) c.args.at c.args.page = rw c.deref-2.ensures.value at (c.fits_after.ensures.0 c.if-fits_after.true) in
+    let counted : c.len-2.result ≡ length c.args.page = c.len-2.ensures in
+    let told : FitsAfter (values_of items) c.args.at c.len-2.result = rw c.deref-2.ensures.value at (c.fits_after.ensures.0 c.if-fits_after.true) in
+    let fits : FitsAfter (values_of items) c.args.at (length c.args.page) = subst (λ n. FitsAfter (values_of items) c.args.at n) counted told in
     let read = indexed (λ p. p.value) items after c.index-then-fits_after.result.now (omega (arith, fits.0, length-map items (λ p. p.value))) c.index-then-fits_after.ensures in
     let both : c.in_ok-both-2.both ≡ c.args.page ++ page_at (values_of items) after =
     c.in_ok-both-2.ensures ∙ ap (λ (p : List RowData). c.args.page ++ p) (c.deref-then-fits_after.ensures ∙ sym read) in
@@ -32,9 +36,13 @@ returns-then-fits_after-clause-ok c =
 pub returns-clause-ok : goal.returns-clause-ok
 returns-clause-ok c =
     let items = c.args.pages.now.items in
-    let not_before : FitsBefore (values_of items) c.args.at c.args.page → ⊥ = λ fits.
-    true≢false (sym (c.fits_before.ensures.1 (rw c.deref.ensures.value fits)) ∙ c.if-fits_before.false) in
-    let not_after : FitsAfter (values_of items) c.args.at c.args.page → ⊥ = λ fits.
-    true≢false (sym (c.fits_after.ensures.1 (rw c.deref-2.ensures.value fits)) ∙ c.if-fits_after.false) in
+    let not_before : FitsBefore (values_of items) c.args.at (length c.args.page) → ⊥ = λ fits.
+    let counted : length c.args.page ≡ c.len.result = sym c.len.ensures in
+    let told : FitsBefore (values_of items) c.args.at c.len.result = subst (λ n. FitsBefore (values_of items) c.args.at n) counted fits in
+    true≢false (sym (c.fits_before.ensures.1 (rw c.deref.ensures.value told)) ∙ c.if-fits_before.false) in
+    let not_after : FitsAfter (values_of items) c.args.at (length c.args.page) → ⊥ = λ fits.
+    let counted : length c.args.page ≡ c.len-2.result = sym c.len-2.ensures in
+    let told : FitsAfter (values_of items) c.args.at c.len-2.result = subst (λ n. FitsAfter (values_of items) c.args.at n) counted fits in
+    true≢false (sym (c.fits_after.ensures.1 (rw c.deref-2.ensures.value told)) ∙ c.if-fits_after.false) in
     let now = stays (values_of items) c.args.at c.args.page (omega (arith, length-map items (λ p. p.value), c.requires.inside)) c.requires.sized c.requires.full c.requires.smaller c.requires.some not_before not_after in
     rw c.in_ok-put_page.ensures.ok now

@@ -9,7 +9,7 @@ use Rattle.event_ring.proofs.ring.Ring.last.Goals as goal
 
 pub returns : goal.returns
 returns c =
-    let is = subst IsRing c.self.view_is c.self.invariant.0 in
+    let is = subst IsRing c.self.view_is c.self.invariant in
     let ring = c.args.self.now in
     let long : length ring.held ≤ c.len.result = omega (arith, ap (λ (r : RingData). length r.held) c.self.view_is) in
     let last : c.floor_after.result ≡ last_revision ring.floor ring.held = c.floor_after.ensures ∙ ap (last_revision ring.floor) (take_all c.len.result ring.held long) in

@@ -10,7 +10,7 @@ use Rattle.event_ring.proofs.ring.Ring.push_revision.Goals as goal
 pub append-requires : goal.append-requires
 append-requires c =
     let passed = c.passed-passed.result in
-    let is = subst IsRing c.self.view_is c.self.invariant.0 in
+    let is = subst IsRing c.self.view_is c.self.invariant in
     let are = subst (λ (xs : List EventRows). AreDropped c.args.self.now xs passed) c.deref.ensures.value c.passed-passed.ensures in
     let items = ap (λ (r : RingData). r.held) c.self.view_is in
     let within : passed ≤ length c.self.inside.held.items = omega (arith, are.within, ap (λ (xs : List Stamped). length xs) items) in
@@ -18,13 +18,13 @@ append-requires c =
     let left : c.truncate_front.new.self.items ≡ drop passed c.args.self.now.held =
     ap (λ (b : Buffer Stamped). b.items) c.truncate_front.ensures ∙ keep_last-drop c.self.inside.held.items passed (c.len.result - passed) within many ∙ ap (drop passed) items in
     let room = ap (λ (b : Buffer Stamped). b.capacity) c.truncate_front.ensures in
-    let enough : c.args.self.now.capacity + 63 ≤ c.self.inside.held.capacity = omega (arith, c.self.invariant.1, ap (λ (r : RingData). r.capacity) c.self.view_is) in
+    let enough : c.args.self.now.capacity + 63 ≤ c.self.inside.held.capacity = omega (arith, c.self.invariant.roomy, ap (λ (r : RingData). r.capacity) c.self.view_is) in
     omega (arith, with_room c.args.self.now c.args.events.items passed c.self.inside.held.capacity is c.requires are enough, ap (λ (xs : List Stamped). length xs) left, room)
 
 pub invariant_of-self : goal.invariant_of-self
 invariant_of-self c =
     let passed = c.passed-passed.result in
-    let is = subst IsRing c.self.view_is c.self.invariant.0 in
+    let is = subst IsRing c.self.view_is c.self.invariant in
     let are = subst (λ (xs : List EventRows). AreDropped c.args.self.now xs passed) c.deref.ensures.value c.passed-passed.ensures in
     let items = ap (λ (r : RingData). r.held) c.self.view_is in
     let within : passed ≤ length c.self.inside.held.items = omega (arith, are.within, ap (λ (xs : List Stamped). length xs) items) in
@@ -37,4 +37,5 @@ invariant_of-self c =
     let ring = subst IsRing same (keep_rings c.args.self.now c.args.events.items c.args.now is c.requires) in
     let room = ap (λ (b : Buffer Stamped). b.capacity) c.truncate_front.ensures in
     let room' = ap (λ (b : Buffer Stamped). b.capacity) c.append.ensures in
-    (subst (λ (r : RingData). IsRing (record r { floor = c.floor_after-self-inside.result; held = c.append.new.held.items })) (sym c.self.view_is) ring, omega (arith, room, room', c.self.invariant.1))
+    let stays : c.append.new.held.capacity ≡ c.self.inside.held.capacity = omega (arith, room, room') in
+    rw stays (subst (λ (r : RingData). IsRing (record r { floor = c.floor_after-self-inside.result; held = c.append.new.held.items })) (sym c.self.view_is) ring)

@@ -5,7 +5,7 @@ use Rattle.event_ring.proofs.PlaceLemmas.{lent}
 use Rattle.event_ring.proofs.ring.Ring.since.Goals as goal
 
 pub place_above-requires : goal.place_above-requires
-place_above-requires c = not_falling c.self.inside.held.items c.self.invariant.0.rising
+place_above-requires c = not_falling c.self.inside.held.items c.self.invariant.rising
 
 pub returns-clause-lent : goal.returns-clause-lent
 returns-clause-lent c =

@@ -3,4 +3,4 @@ use Rattle.obj_tree.proofs.MapEdits.{none_paged}
 use Rattle.obj_tree.proofs.tree.Tree.new.Goals as goal
 
 pub invariant_of-result : goal.invariant_of-result
-invariant_of-result c = rw c.new.ensures.items (none_paged, refl)
+invariant_of-result c = rw (c.in_ok-new.ensures.ok, c.new.ensures.items) (none_paged, refl)

@@ -1,6 +1,6 @@
 use Rattle.std.proofs.Common.{◌≡◌, ◌++◌, take}
 use Rattle.obj_tree.specs.Pages.{values_of}
-use Rattle.obj_tree.proofs.snapshot.share.Given as goal
+use Rattle.obj_tree.proofs.shared.share.Given as goal
 
 abbrev pub invariant-loop-page : goal.invariant-loop-page
 invariant-loop-page l = values_of l.copies.items ≡ values_of l.initial.copies.items ++ values_of (take l.page-index l.pages)

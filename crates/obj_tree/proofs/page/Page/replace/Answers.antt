@@ -1,0 +1,10 @@
+use Rattle.std.proofs.Common.{◌<◌, length, refl, ap, arith}
+use Rattle.std.proofs.lemmas.List.{length-map}
+use Rattle.obj_tree.proofs.PageLemmas.{set_page}
+use Rattle.obj_tree.proofs.page.Page.replace.Goals as goal
+
+pub returns : goal.returns
+returns c =
+    let items = c.self.inside.rows.items in
+    let inside : c.args.place < length items = omega (arith, c.requires, ap length c.self.view_is, length-map items (λ p. p.value)) in
+    rw (← c.self.view_is) (set_page (λ p. p.value) items c.args.place c.args.shown c.args.shown.value inside refl)
