@@ -5,11 +5,11 @@ use Rattle.kube_meta.specs.Rows.{RowData}
 use Rattle.kube_meta.specs.declared.resources.Resource.{Resource}
 use Rattle.kube_meta.specs.declared.resources.Resource.TheVariants.{Pods, ConfigMaps, Deployments}
 use Rattle.rev_log.specs.Changes.{RevisionData}
-use Rattle.rev_log.specs.Rows.{Follows}
+use Rattle.rev_log.specs.Rows.{Follows, HasBegun}
 use Rattle.rev_log.specs.States.{row_next, row_after}
 use Rattle.rev_log.proofs.MapLemmas.{Holds-same, take_all}
 use Rattle.std.proofs.Common.{ap, sym, arith}
-use Rattle.up_store.specs.Kept.{HaveMade, HaveBegun, HasBegun}
+use Rattle.up_store.specs.Kept.{HaveMade, HaveBegun}
 use Rattle.up_store.specs.declared.tables.Tables.{Tables}
 
 abbrev Made : Resource → RevisionData → BTreeMap (List ℕ) RowData → BTreeMap (List ℕ) RowData → Type 0

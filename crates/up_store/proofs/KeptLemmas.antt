@@ -175,6 +175,32 @@ row-kept log floor kept resource key whole keeps =
     ∙ ap (fold (row_next resource key) (keeps.last_rows.stands resource key)) (sym none)
     ∙ keeps.last_rows.replays resource key (end_of log) (omega arith) (omega arith)
 
+-- the rows at the log's end
+pub state-last : (log : Log) (floor : ℕ) (kept : Kept) (resource : Resource) (at : ℕ) (rows : List RowData) → kept.last_at ≡ kept.from + length kept.revisions.items → at ≡ kept.last_at →
+    rows ≡ values (rows_of kept.last_rows resource) → Keeps log floor kept → IsStateAt log resource at rows
+state-last log floor kept resource at rows whole is are keeps =
+    let long = kept-length log floor kept keeps in
+    let end : at ≡ end_of log = omega (arith, long, whole, is) in
+    let holds = keeps.last_rows.holds resource in
+    let m = rows_of kept.last_rows resource in
+    subst (IsStateAt log resource at) (sym are) (record {
+      rising = values_rise m (keeps.last_rows.stands resource) holds;
+      exact = λ key. row_with-values m (keeps.last_rows.stands resource) key holds ∙ sym (holds.reads key) ∙ row-kept log floor kept resource key whole keeps
+          ∙ ap (λ n. row_at log resource n key) (sym end);
+    })
+
+take-none : {A : Type 0} (xs : List A) → take 0 xs ≡ []
+take-none [] = refl
+take-none (x ∷ xs) = refl
+
+-- the floor's rows
+pub state-first : (log : Log) (floor : ℕ) (kept : Kept) (resource : Resource) (at : ℕ) (rows : List RowData) → at ≡ kept.from → floor ≤ at →
+    rows ≡ values (rows_of kept.floor_rows resource) → Keeps log floor kept → IsStateAt log resource at rows
+state-first log floor kept resource at rows is low are keeps =
+    let none : take (at - kept.from) kept.revisions.items ≡ [] = ap (λ n. take n kept.revisions.items) {x = at - kept.from} {y = 0} (omega (arith, is)) ∙ take-none kept.revisions.items in
+    state-kept log floor kept resource at (rows_of kept.floor_rows resource) rows keeps low (omega (arith, is, keeps.within, keeps.reached))
+    (Holds-same (rows_of kept.floor_rows resource) (keeps.floor_rows.stands resource) _ (λ key. ap (fold (row_next resource key) (keeps.floor_rows.stands resource key)) (sym none)) (keeps.floor_rows.holds resource)) are
+
 -- ---- the log and its floor grow
 
 grown-replay : (log : Log) (r : RevisionData) (from least next : ℕ) (tables : Tables) → log.first ≤ from → from ≤ end_of log → least ≤ end_of log → least ≤ next →

@@ -1,8 +1,10 @@
 pub mod ApplyLemmas
 pub mod KeptLemmas
+pub mod OrderLemmas
 pub mod PartLemmas
 pub mod PollLemmas
 pub mod Repeats
 pub mod ReplayLemmas
+pub mod ReplyLemmas
 pub mod StoreLemmas
 pub mod WriteLemmas

@@ -1,5 +1,5 @@
 -- Refusals of writes, and what accepted ones leave.
-use Rattle.std.proofs.Common.{◌≡◌, ℕ, ◌+◌, ◌^◌, ◌<◌, ◌⊎◌, inl, inr, Bool, true, false, ◌==◌, cond, List, [], ◌∷◌, Option, Some, None, Err, refl, sym, ap, ◌∙◌, subst, arith, eq-eqb, eqb-true}
+use Rattle.std.proofs.Common.{◌≡◌, ℕ, ◌+◌, ◌^◌, ◌<◌, ◌⊎◌, inl, inr, Bool, true, false, ◌==◌, cond, List, [], ◌∷◌, Option, Some, None, Result, Ok, Err, refl, sym, ap, ◌∙◌, subst, arith, eq-eqb, eqb-true}
 use Rattle.std.specs.Option.{option_or}
 use Rattle.std.proofs.lemmas.Bool.{cases_Bool}
 use Rattle.kube_meta.specs.Rows.{RowData}
@@ -11,12 +11,11 @@ use Rattle.up_store.specs.declared.kept.Kept.{Kept}
 use Rattle.up_store.specs.Kept.{Keeps}
 use Rattle.up_store.specs.declared.writes.WriteAsk.TheVariants.{Create, Replace, Remove}
 use Rattle.up_store.specs.declared.writes.Written.{Written}
-use Rattle.up_store.proofs.StoreLemmas.{store-with}
 use Rattle.up_store.specs.declared.writes.WriteAsk.{WriteAsk}
 use Rattle.up_store.specs.declared.writes.WriteNo.{WriteNo}
 use Rattle.up_store.specs.declared.writes.WriteNo.TheVariants.{Exists, Absent, Stale, UsedUp, ReadOnly, Memory}
 use Rattle.up_store.specs.Stores.{IsStore, log_in, accepted}
-use Rattle.up_store.specs.Writes.{fault_at, fault_of, used_up, refusal_of, row_before, change_of, write_of, IsWritten, IsPrepared, IsWriteAnswer}
+use Rattle.up_store.specs.Writes.{fault_at, fault_of, used_up, refusal_of, row_before, change_of, write_of, IsPrepared, IsWriteAnswer}
 
 fault-there : (log : Log) (at : ℕ) (ask : WriteAsk) (row : Option RowData) (fault : Option WriteNo) → row ≡ row_before log ask → at ≡ end_of log → fault_at at ask row ≡ fault → fault_of log ask ≡ fault
 fault-there log at ask row fault found end is = ap (λ n. fault_at n ask (row_before log ask)) (sym end) ∙ ap (fault_at at ask) (sym found) ∙ is
@@ -49,7 +48,7 @@ unrefused log at ask row found end is below =
 -- a refusal leaves the log
 pub answer-refused : (base : List RowData) (mirror : Bool) (history : ℕ) (ask : WriteAsk) (w after : Whole RevisionData) (fault : WriteNo) → after ≡ w →
     (fault ≡ Memory) ⊎ (refusal_of mirror (log_in base w) ask ≡ Some fault) → IsWriteAnswer base mirror history ask w after (Err fault)
-answer-refused base mirror history ask w after Memory same why = inl same
+answer-refused base mirror history ask w after Memory same why = same
 answer-refused base mirror history ask w after (Exists at present) same why = elim why [ inl memory ↦ cc | inr refused ↦ (refused, same) ]
 answer-refused base mirror history ask w after (Absent at) same why = elim why [ inl memory ↦ cc | inr refused ↦ (refused, same) ]
 answer-refused base mirror history ask w after (Stale at given present) same why = elim why [ inl memory ↦ cc | inr refused ↦ (refused, same) ]
@@ -84,47 +83,31 @@ write-fits log at ask r is end =
 
 -- ---- the store's answers
 
-pub was-kept : (base : List RowData) (is_mirror mirror : Bool) (w met : Whole RevisionData) (kept : Kept) (history reads : ℕ) → met ≡ w → IsStore base is_mirror w kept mirror history reads → Keeps (log_in base met) met.floor kept
-was-kept base is_mirror mirror w met kept history reads same is = subst (λ (v : Whole RevisionData). Keeps (log_in base v) v.floor kept) (sym same) is.keeps
-
--- what is kept changed, and the log didn't
-pub store-prepared : (base : List RowData) (is_mirror mirror : Bool) (w met : Whole RevisionData) (kept new : Kept) (history reads : ℕ) → met ≡ w →
-    ((log : Log) (floor : ℕ) → Keeps log floor kept → Keeps log floor new) → IsStore base is_mirror w kept mirror history reads → IsStore base is_mirror met new mirror history reads
-store-prepared base is_mirror mirror w met kept new history reads same keeps is =
-    store-with base is_mirror mirror w met kept new history reads (omega (arith, ap (λ v. v.gen) same, is.gen_fits))
-    (keeps (log_in base met) met.floor (was-kept base is_mirror mirror w met kept history reads same is)) is
-
--- the log got one more revision
-pub store-committed : (base : List RowData) (is_mirror mirror : Bool) (w met grown last : Whole RevisionData) (kept prepared new : Kept) (r : RevisionData) (history reads : ℕ) → met ≡ w → grown ≡ accepted history met r → last ≡ grown →
-    ((log : Log) (floor : ℕ) → Keeps log floor kept → Keeps log floor prepared) →
-    ((b : List RowData) → Keeps (log_in b met) met.floor prepared → Keeps (log_in b grown) grown.floor new) → IsStore base is_mirror w kept mirror history reads → IsStore base is_mirror last new mirror history reads
-store-committed base is_mirror mirror w met grown last kept prepared new r history reads same more after keeps commits is =
-    let now : Keeps (log_in base grown) grown.floor new = commits base (keeps (log_in base met) met.floor (was-kept base is_mirror mirror w met kept history reads same is)) in
-    store-with base is_mirror mirror w last kept new history reads (omega (arith, ap (λ v. v.gen) after, ap (λ v. v.gen) more, ap (λ v. v.gen) same, is.gen_fits))
-    (subst (λ (v : Whole RevisionData). Keeps (log_in base v) v.floor new) (sym after) now) is
-
 -- a write that isn't prepared is refused, and the log stays
-pub answer-unprepared : (base : List RowData) (is_mirror mirror : Bool) (ask : WriteAsk) (told w met : Whole RevisionData) (kept : Kept) (history span reads at : ℕ) (fault : WriteNo) → w ≡ told → met ≡ w → IsStore base is_mirror w kept mirror history reads →
-    mirror ≡ false → at ≡ revision met → (fault ≡ Memory) ⊎ ((log : Log) (floor : ℕ) → Keeps log floor kept → at ≡ end_of log → refusal_of false log ask ≡ Some fault) →
-    IsWriteAnswer base is_mirror span ask told met (Err fault)
-answer-unprepared base is_mirror mirror ask told w met kept history span reads at fault view same is own end why =
-    answer-refused base is_mirror span ask told met fault (same ∙ view) (elim why [
+pub unprepared : (base : List RowData) (mirror : Bool) (history at : ℕ) (ask : WriteAsk) (w : Whole RevisionData) (kept : Kept) (fault : WriteNo) → mirror ≡ false → at ≡ revision w → Keeps (log_in base w) w.floor kept →
+    (fault ≡ Memory) ⊎ ((log : Log) (floor : ℕ) → Keeps log floor kept → at ≡ end_of log → refusal_of false log ask ≡ Some fault) →
+    IsWriteAnswer base mirror history ask w w (Err fault)
+unprepared base mirror history at ask w kept fault own end keeps why =
+    answer-refused base mirror history ask w w fault refl (elim why [
       | inl memory ↦ inl memory
-      | inr refuses ↦ inr (subst (λ (v : Whole RevisionData). refusal_of is_mirror (log_in base v) ask ≡ Some fault) view
-          (subst (λ m. refusal_of m (log_in base w) ask ≡ Some fault) (sym own ∙ is.mirror_is)
-          (refuses (log_in base w) w.floor is.keeps (end ∙ ap revision same))))
+      | inr refuses ↦ inr (subst (λ m. refusal_of m (log_in base w) ask ≡ Some fault) (sym own) (refuses (log_in base w) w.floor keeps end))
     ])
 
--- what holds once it is prepared
-pub answer-prepared : (base : List RowData) (is_mirror mirror : Bool) (ask : WriteAsk) (told w met : Whole RevisionData) (kept : Kept) (history reads at : ℕ) (written : Written) (r : RevisionData) → w ≡ told → met ≡ w →
-    IsStore base is_mirror w kept mirror history reads → mirror ≡ false → at ≡ revision met → ((log : Log) (floor : ℕ) → Keeps log floor kept → at ≡ end_of log → IsPrepared log ask written r) →
-    (refusal_of is_mirror (log_in base told) ask ≡ None) × IsWritten (log_in base told) ask written × (r ≡ write_of (log_in base told) ask)
-answer-prepared base is_mirror mirror ask told w met kept history reads at written r view same is own end prepared =
-    let here : IsPrepared (log_in base w) ask written r = prepared (log_in base w) w.floor is.keeps (end ∙ ap revision same) in
-    subst (λ (v : Whole RevisionData). (refusal_of is_mirror (log_in base v) ask ≡ None) × IsWritten (log_in base v) ask written × (r ≡ write_of (log_in base v) ask)) view
-    (subst (λ m. refusal_of m (log_in base w) ask ≡ None) (sym own ∙ is.mirror_is) here.unrefused, here.written_is, here.revision_is)
+-- one that is prepared, and then committed
+pub committed-answer : (base : List RowData) (mirror : Bool) (history at : ℕ) (ask : WriteAsk) (w after : Whole RevisionData) (kept : Kept) (written : Written) (r : RevisionData) → mirror ≡ false → after ≡ accepted history w r →
+    at ≡ revision w → Keeps (log_in base w) w.floor kept → ((log : Log) (floor : ℕ) → Keeps log floor kept → at ≡ end_of log → IsPrepared log ask written r) →
+    IsWriteAnswer base mirror history ask w after (Ok written)
+committed-answer base mirror history at ask w after kept written r own more end keeps prepared =
+    let here : IsPrepared (log_in base w) ask written r = prepared (log_in base w) w.floor keeps end in
+    (subst (λ m. refusal_of m (log_in base w) ask ≡ None) (sym own) here.unrefused, here.written_is, more ∙ ap (accepted history w) here.revision_is)
 
--- the log after a write, in the store's terms
-pub accepted-is : (span history : ℕ) (met told grown last : Whole RevisionData) (r write : RevisionData) → last ≡ grown → grown ≡ accepted span met r → span ≡ history → met ≡ told → r ≡ write → last ≡ accepted history told write
-accepted-is span history met told grown last r write after more spans same is =
-    after ∙ more ∙ ap (λ n. accepted n met r) spans ∙ ap (λ (v : Whole RevisionData). accepted history v r) same ∙ ap (accepted history told) is
+-- what the store answers, in its own terms
+pub answer-told : (base : List RowData) (is_mirror mirror : Bool) (ask : WriteAsk) (told w met after last : Whole RevisionData) (kept : Kept) (span history reads : ℕ) (answer : Result Written WriteNo) → w ≡ told → met ≡ w → last ≡ after → span ≡ history →
+    IsStore base is_mirror w kept mirror span reads → ((b : List RowData) → Keeps (log_in b met) met.floor kept → IsWriteAnswer b mirror span ask met after answer) →
+    IsWriteAnswer base is_mirror history ask told last answer
+answer-told base is_mirror mirror ask told w met after last kept span history reads answer view same again spans is answers =
+    let here : IsWriteAnswer base mirror span ask met after answer = answers base (subst (λ (v : Whole RevisionData). Keeps (log_in base v) v.floor kept) (sym same) is.keeps) in
+    let own : IsWriteAnswer base is_mirror span ask met after answer = subst (λ m. IsWriteAnswer base m span ask met after answer) is.mirror_is here in
+    let long : IsWriteAnswer base is_mirror history ask met after answer = subst (λ n. IsWriteAnswer base is_mirror n ask met after answer) spans own in
+    let old : IsWriteAnswer base is_mirror history ask told after answer = subst (λ (v : Whole RevisionData). IsWriteAnswer base is_mirror history ask v after answer) (same ∙ view) long in
+    subst (λ (v : Whole RevisionData). IsWriteAnswer base is_mirror history ask told v answer) (sym again) old

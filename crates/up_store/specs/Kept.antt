@@ -1,5 +1,5 @@
 -- What a store keeps of its log: the rows of each resource at its compaction floor and at its end, and the revisions after the floor.
-use Rattle.std.specs.Prelude.{◌≡◌, ℕ, ◌+◌, ◌^◌, ◌<◌, ◌≤◌, List, length, take, fold, Option}
+use Rattle.std.specs.Prelude.{◌≡◌, ℕ, ◌+◌, ◌^◌, ◌<◌, ◌≤◌, List, length, fold, Option}
 use Rattle.std.specs.BTreeMap.{BTreeMap}
 use Rattle.std.specs.VecDeque.{deque_len, deque_capacity}
 use Rattle.kube_meta.specs.Rows.{RowData}
@@ -7,8 +7,8 @@ use Rattle.kube_meta.specs.declared.resources.Resource.{Resource}
 use Rattle.kube_meta.specs.declared.resources.Resource.TheVariants.{Pods, ConfigMaps, Deployments}
 use Rattle.rev_log.specs.Changes.{RevisionData}
 use Rattle.rev_log.specs.Logs.{Log, end_of, between, AreNumbered}
-use Rattle.rev_log.specs.Rows.{Holds, Follows}
-use Rattle.rev_log.specs.States.{row_after, row_next, row_at}
+use Rattle.rev_log.specs.Rows.{Holds, Follows, HasBegun}
+use Rattle.rev_log.specs.States.{row_next, row_at}
 use Rattle.up_store.specs.declared.kept.Kept.{Kept}
 use Rattle.up_store.specs.declared.tables.Tables.{Tables}
 
@@ -31,12 +31,7 @@ abbrev pub HaveMade : RevisionData → Tables → Tables → Type 0
 HaveMade revision old new =
     (resource : Resource) → Follows (rows_of old resource) (rows_of new resource) (λ key row. row_next resource key row revision)
 
--- one resource's rows have made the first of this revision's changes
-abbrev pub HasBegun : Resource → RevisionData → BTreeMap (List ℕ) RowData → BTreeMap (List ℕ) RowData → Type 0
-HasBegun resource revision old new =
-    (n : ℕ) × Follows old new (λ key row. fold (row_after resource key revision.rev) row (take n revision.changes))
-
--- each resource's rows have
+-- each resource's rows have made the first of this revision's changes
 abbrev pub HaveBegun : RevisionData → Tables → Tables → Type 0
 HaveBegun revision old new = (resource : Resource) → HasBegun resource revision (rows_of old resource) (rows_of new resource)
 

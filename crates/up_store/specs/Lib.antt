@@ -1,4 +1,6 @@
 pub mod Kept
+pub mod Replies
 pub mod Stores
 pub mod Transactions
+pub mod Transacting
 pub mod Writes

@@ -1,13 +1,13 @@
 -- What contracts see of a store: its log, and what operations leave of it.
-use Rattle.std.specs.Prelude.{◌≡◌, ℕ, ◌+◌, ◌-◌, ◌^◌, ◌<◌, ◌≤◌, ◌⊎◌, max, Bool, List, [], ◌∷◌, ◌++◌, Result, Ok, Err}
+use Rattle.std.specs.Prelude.{◌≡◌, ℕ, ◌+◌, ◌-◌, ◌^◌, ◌<◌, ◌≤◌, max, Bool, List, [], ◌∷◌, ◌++◌, Result, Ok, Err}
 use Rattle.kube_meta.specs.Rows.{RowData}
-use Rattle.rev_front.specs.Passes.{Pass, Whole, Extends, revision}
+use Rattle.rev_front.specs.Passes.{Pass, Whole, Covers, Extends, revision}
 use Rattle.rev_log.specs.Changes.{RevisionData}
 use Rattle.rev_log.specs.Logs.{Log}
 use Rattle.up_api.specs.Sections.{Knows, HasSeenAll}
 use Rattle.up_store.specs.declared.kept.Kept.{Kept}
 use Rattle.up_store.specs.declared.operations.OpNo.{OpNo}
-use Rattle.up_store.specs.declared.operations.OpNo.TheVariants.{Compacted, Future, UsedUp, Memory}
+use Rattle.up_store.specs.declared.operations.OpNo.TheVariants.{Compacted, Future, UsedUp}
 use Rattle.up_store.specs.Kept.{Keeps}
 
 -- the log with its floor and its generation, how many revisions the floor is behind the end at most, and how often states and histories were read
@@ -28,26 +28,24 @@ pub record IsStore (base : List RowData) (a_mirror : Bool) (w : Whole RevisionDa
   pub some_history : 1 ≤ history
   pub reads_fit : reads ≤ 2 ^ 62
 
--- a pass that the store met knows all that the store has, and has made no load
+-- a pass that the store met: the store knew all that it knew; now it knows all that the store has, and it has made no load
 pub record HasMet (w : Whole RevisionData) (p q : Pass RevisionData) : Type 0 where
+  pub covered : Covers w p
   pub is : q ≡ record p { seen = w.log; shown = revision w; floor = w.floor; gen = w.gen }
-  pub first_is : q.first ≡ w.first
   pub extends : Extends p q
 
 -- the log with one more revision: the floor follows the end, `history` behind it
 abbrev pub accepted : ℕ → Whole RevisionData → RevisionData → Whole RevisionData
 accepted history w r = record w { log = w.log ++ r ∷ []; floor = max w.floor (revision w + 1 - history) }
 
--- after each answer but want of memory the pass knows the store's log, whole
-abbrev pub OperationTells : Whole RevisionData → Pass RevisionData → Result ℕ OpNo → Type 0
-OperationTells w q (Err Memory) = Unit {0}
-OperationTells w q answer = Knows w q × HasSeenAll q
+-- it knows the log, its floor and its generation, and was told of nothing else
+abbrev pub KnowsAll : Whole RevisionData → Pass RevisionData → Type 0
+KnowsAll w q = Knows w q × HasSeenAll q
 
 -- what a cut of all feeds answers, and what it leaves
 abbrev pub IsCutAnswer : Whole RevisionData → Whole RevisionData → Result ℕ OpNo → Type 0
 IsCutAnswer w after (Ok gen) = (gen ≡ w.gen + 1) × (after ≡ record w { gen = gen })
 IsCutAnswer w after (Err (UsedUp at)) = (at ≡ 2 ^ 62) × (w.gen ≡ 2 ^ 62) × (after ≡ w)
-IsCutAnswer w after (Err Memory) = (after ≡ w) ⊎ (after ≡ record w { gen = w.gen + 1 })
 IsCutAnswer w after (Err other) = ⊥
 
 -- what a compaction answers, and what it leaves
@@ -55,5 +53,4 @@ abbrev pub IsCompactionAnswer : ℕ → Whole RevisionData → Whole RevisionDat
 IsCompactionAnswer at w after (Ok floor) = (floor ≡ at) × (w.floor ≤ at) × (at ≤ revision w) × (after ≡ record w { floor = at })
 IsCompactionAnswer at w after (Err (Compacted asked floor)) = (asked ≡ at) × (floor ≡ w.floor) × (asked < floor) × (after ≡ w)
 IsCompactionAnswer at w after (Err (Future asked current)) = (asked ≡ at) × (current ≡ revision w) × (current < asked) × (after ≡ w)
-IsCompactionAnswer at w after (Err Memory) = (after ≡ w) ⊎ ((w.floor ≤ at) × (at ≤ revision w) × (after ≡ record w { floor = at }))
-IsCompactionAnswer at w after (Err (UsedUp other)) = ⊥
+IsCompactionAnswer at w after (Err other) = ⊥

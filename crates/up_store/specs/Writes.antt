@@ -1,13 +1,12 @@
 -- What writes answer, and what they leave of the log.
-use Rattle.std.specs.Prelude.{◌≡◌, ℕ, ◌+◌, ◌^◌, ◌⊎◌, Bool, false, ◌==◌, List, [], ◌∷◌, Option, Some, None, option_map, Result, Ok, Err, if◌then◌else◌}
+use Rattle.std.specs.Prelude.{◌≡◌, ℕ, ◌+◌, ◌^◌, Bool, false, ◌==◌, List, [], ◌∷◌, Option, Some, None, option_map, Result, Ok, Err, if◌then◌else◌}
 use Rattle.std.specs.Option.{option_or}
 use Rattle.kube_meta.specs.Rows.{RowData}
 use Rattle.kube_meta.specs.declared.objects.Obj.{Obj}
-use Rattle.rev_front.specs.Passes.{Pass, Whole}
+use Rattle.rev_front.specs.Passes.{Whole}
 use Rattle.rev_log.specs.Changes.{ChangeData, RevisionData}
 use Rattle.rev_log.specs.Logs.{Log, end_of}
 use Rattle.rev_log.specs.States.{row_at}
-use Rattle.up_api.specs.Sections.{Knows, HasSeenAll}
 use Rattle.up_store.specs.declared.writes.WriteAsk.{WriteAsk}
 use Rattle.up_store.specs.declared.writes.WriteAsk.TheVariants.{Create, Replace, Remove}
 use Rattle.up_store.specs.declared.writes.WriteNo.{WriteNo}
@@ -51,11 +50,15 @@ change_of rev (Create resource obj) = record { rev = rev; resource = resource; k
 change_of rev (Replace resource obj given) = record { rev = rev; resource = resource; key = obj.key; new = Some obj }
 change_of rev (Remove resource key) = record { rev = rev; resource = resource; key = key; new = None }
 
+-- the new object of a write, if it has one
+abbrev pub new_object : WriteAsk → Option Obj
+new_object (Create resource obj) = Some obj
+new_object (Replace resource obj given) = Some obj
+new_object (Remove resource key) = None
+
 -- the object that a write answers: the new one, or the removed one
 abbrev pub object_of : WriteAsk → Option RowData → Option Obj
-object_of (Create resource obj) row = Some obj
-object_of (Replace resource obj given) row = Some obj
-object_of (Remove resource key) row = option_map (λ r. r.obj) row
+object_of ask row = option_or (new_object ask) (option_map (λ r. r.obj) row)
 
 -- the revision of this write alone, after this log
 abbrev pub write_of : Log → WriteAsk → RevisionData
@@ -67,12 +70,11 @@ pub record IsWritten (log : Log) (ask : WriteAsk) (written : Written) : Type 0 w
   pub row_number : written.row.rev ≡ written.rev
   pub object : Some written.row.obj ≡ object_of ask (row_before log ask)
 
--- what a write answers, and what it leaves: it is done as a whole, or nothing of it
+-- what a write answers, and what it leaves: it is done as a whole, or nothing of it; where there was no memory nothing is
 abbrev pub IsWriteAnswer : List RowData → Bool → ℕ → WriteAsk → Whole RevisionData → Whole RevisionData → Result Written WriteNo → Type 0
 IsWriteAnswer base mirror history ask w after (Ok written) =
     (refusal_of mirror (log_in base w) ask ≡ None) × IsWritten (log_in base w) ask written × (after ≡ accepted history w (write_of (log_in base w) ask))
-IsWriteAnswer base mirror history ask w after (Err Memory) =
-    (after ≡ w) ⊎ ((refusal_of mirror (log_in base w) ask ≡ None) × (after ≡ accepted history w (write_of (log_in base w) ask)))
+IsWriteAnswer base mirror history ask w after (Err Memory) = after ≡ w
 IsWriteAnswer base mirror history ask w after (Err fault) = (refusal_of mirror (log_in base w) ask ≡ Some fault) × (after ≡ w)
 
 -- an accepted write, before it is added to the log
@@ -80,8 +82,3 @@ pub record IsPrepared (log : Log) (ask : WriteAsk) (written : Written) (revision
   pub unrefused : refusal_of false log ask ≡ None
   pub written_is : IsWritten log ask written
   pub revision_is : revision ≡ write_of log ask
-
--- after each answer but want of memory the pass knows the store's log, whole
-abbrev pub WriteTells : Whole RevisionData → Pass RevisionData → Result Written WriteNo → Type 0
-WriteTells w q (Err Memory) = Unit {0}
-WriteTells w q answer = Knows w q × HasSeenAll q

@@ -1,25 +1,82 @@
-ghost use Rattle.std.specs.Prelude.{◌≡◌, ◌+◌, ◌^◌, ◌<◌, ◌≤◌, List};
+//! Commits, and the floor that follows them.
+
+ghost use Rattle.std.specs.Prelude.{◌≡◌, ◌+◌, ◌^◌, ◌<◌, ◌≤◌, List, OnOk};
 ghost use Rattle.kube_meta.specs.Rows.{RowData};
 ghost use Rattle.rev_front.specs.Passes.{revision as reached};
 ghost use Rattle.rev_log.specs.Logs.{Fits};
 ghost use Rattle.up_store.specs.Kept.{Keeps, HasRoom};
-ghost use Rattle.up_store.specs.Stores.{accepted, log_in};
+ghost use Rattle.up_store.specs.Stores.{accepted, log_in, IsCutAnswer, IsCompactionAnswer};
 
+use crate::OpNo;
 use crate::kept::Kept;
+use crate::store::LAST;
+use kube_meta::Memory;
 use rev_front::Pen;
 use rev_log::Revision;
 use up_api::LogFacts;
 
-/// Raises the floor to a revision that the log has reached. What falls below it is given up as far as there is memory for that.
-pub fn raise<N: LogFacts>(pen: &mut Pen<Revision, N>, kept: &mut Kept, floor: u64)
+/// Raises the generation of feeds, unless it is the last one.
+pub fn cut<N: LogFacts>(pen: &mut Pen<Revision, N>) -> Result<u64, OpNo>
+    requires { pen.old.gen ≤ 2 ^ 62 }
+    ensures answer { IsCutAnswer pen.old pen.new result }
+    ensures fits { pen.new.gen ≤ 2 ^ 62 }
+{
+    if pen.generation() == LAST {
+        return Err(OpNo::UsedUp { at: LAST });
+    }
+    Ok(pen.cut())
+}
+
+/// Raises the floor to this revision, unless it is below the floor or above the log's end.
+pub fn compact<N: LogFacts>(
+    pen: &mut Pen<Revision, N>,
+    kept: &mut Kept,
+    at: u64,
+) -> Result<u64, OpNo>
+    requires keeps { (base : List RowData) × Keeps (log_in base pen.old) pen.old.floor kept.old }
+    ensures answer { IsCompactionAnswer at pen.old pen.new result }
+    ensures generation { pen.new.gen ≡ pen.old.gen }
+    ensures keeps { (base : List RowData) → Keeps (log_in base pen.old) pen.old.floor kept.old → Keeps (log_in base pen.new) pen.new.floor kept.new }
+{
+    let floor = pen.floor();
+    if at < floor {
+        return Err(OpNo::Compacted { asked: at, floor });
+    }
+    let current = pen.revision();
+    if current < at {
+        return Err(OpNo::Future { asked: at, current });
+    }
+    let _ = raise(pen, kept, at);
+    Ok(at)
+}
+
+/// Raises the floor to a revision that the log has reached. What falls below it is given up as far as there is memory
+/// for that.
+pub fn raise<N: LogFacts>(
+    pen: &mut Pen<Revision, N>,
+    kept: &mut Kept,
+    floor: u64,
+) -> Result<(), Memory>
     requires above { pen.old.floor ≤ floor }
     requires reached { floor ≤ reached pen.old }
     requires keeps { (base : List RowData) × Keeps (log_in base pen.old) pen.old.floor kept.old }
     ensures floor { pen.new ≡ record pen.old { floor = floor } }
     ensures keeps { (base : List RowData) → Keeps (log_in base pen.old) pen.old.floor kept.old → Keeps (log_in base pen.new) floor kept.new }
+    ensures done { OnOk result (kept.new.from ≡ floor) }
 {
-    pen.compact(floor);
-    let _ = kept.settle(floor);
+    lift(pen, floor);
+    kept.settle(floor)
+}
+
+// Stores a floor that is a new one.
+fn lift<N: LogFacts>(pen: &mut Pen<Revision, N>, floor: u64)
+    requires above { pen.old.floor ≤ floor }
+    requires reached { floor ≤ reached pen.old }
+    ensures { pen.new ≡ record pen.old { floor = floor } }
+{
+    if pen.floor() < floor {
+        pen.compact(floor);
+    }
 }
 
 /// Adds a revision, for which there is room, to the log, and lets the floor follow.
@@ -28,7 +85,7 @@ pub fn commit<N: LogFacts>(
     kept: &mut Kept,
     history: u64,
     revision: Revision,
-)
+) -> Result<(), Memory>
     requires last { reached pen.old < 2 ^ 62 }
     requires fits { Fits (reached pen.old + 1) revision }
     requires history { 1 ≤ history }
@@ -36,9 +93,10 @@ pub fn commit<N: LogFacts>(
     requires keeps { (base : List RowData) × Keeps (log_in base pen.old) pen.old.floor kept.old }
     ensures log { pen.new ≡ accepted history pen.old revision }
     ensures keeps { (base : List RowData) → Keeps (log_in base pen.old) pen.old.floor kept.old → Keeps (log_in base pen.new) pen.new.floor kept.new }
+    ensures done { OnOk result (kept.new.from ≡ pen.new.floor) }
 {
     let end = pen.commit(&revision);
     kept.push(revision);
     let floor = pen.floor().max(end.saturating_sub(history));
-    raise(pen, kept, floor);
+    raise(pen, kept, floor)
 }

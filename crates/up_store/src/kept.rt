@@ -1,3 +1,5 @@
+//! What a store keeps of its log.
+
 ghost use Rattle.std.specs.Prelude.{◌≡◌, ℕ, ◌+◌, ◌^◌, ◌≤◌, ◌<◌, [], ◌∷◌, ◌++◌, IfOk, OnOk, OnErr, length, option_copied};
 ghost use Rattle.rev_log.specs.Logs.{Log, end_of};
 ghost use Rattle.rev_log.specs.States.{IsStateAt, row_at};
@@ -5,14 +7,15 @@ ghost use Rattle.up_api.specs.Feeds.{IsPoll, parts_between};
 ghost use Rattle.up_store.specs.Kept.{Keeps, AreBounded, HasRoom};
 
 use crate::parts::part;
-use crate::tables::{Tables, copy, in_order, make};
+use crate::tables::{Tables, copy, listed};
 use kube_meta::{Key, Memory, Resource, Row};
-use rev_log::Revision;
+use rev_log::{Revision, make_changes, rows_in_order};
 use std::alloc::Global;
 use std::collections::VecDeque;
 use up_api::Polled;
 
-/// What a store keeps of its log. Both tables follow the log, and may lag: what they lack is made upon them from the revisions.
+/// What a store keeps of its log. Both tables follow the log, and may lag: what they lack is made upon them from the
+/// revisions.
 #[derive(Drop)]
 pub struct Kept {
     /// The revision up to which `floor_rows` have followed the log.
@@ -43,14 +46,15 @@ impl Kept {
         Ok(())
     }
 
-    /// Brings the last rows to the log's end and the floor's rows to this floor. Revisions that the floor's rows have are kept no
-    /// longer.
+    /// Brings the last rows to the log's end and the floor's rows to this floor. Revisions that the floor's rows have
+    /// are kept no longer.
     pub fn settle(&mut self, floor: u64) -> Result<(), Memory>
         requires bounded { AreBounded self.old }
         requires within { self.old.from ≤ floor }
         requires reached { floor ≤ self.old.from + length self.old.revisions.items }
         ensures keeps { (log : Log) → Keeps log floor self.old → Keeps log floor self.new }
         ensures bounded { AreBounded self.new }
+        ensures done { OnOk result (self.new.from ≡ floor) }
     {
         self.catch_up()?;
         for _ in self.from..floor {
@@ -103,18 +107,38 @@ impl Kept {
         self.last_rows.of(resource).get(key)
     }
 
-    /// The rows of the resource at a revision from the floor to the log's end, in the order of their keys.
+    /// The rows of the resource at a revision from the floor to the log's end, in the order of their keys. At either
+    /// of them they are read off the table that stands there.
     pub fn rows_at(&self, alloc: Global, resource: Resource, at: u64) -> Result<Vec<Row>, Memory>
         requires from { self.now.from ≤ at }
         requires reached { at ≤ self.now.from + length self.now.revisions.items }
         ensures { IfOk result (λ rows. (log : Log) (floor : ℕ) → Keeps log floor self.now → floor ≤ at → IsStateAt log resource at rows.items) }
     {
-        let mut rows = copy(self.floor_rows.of(resource))?;
         let count = (at - self.from) as usize;
-        for i in 0..count {
-            make(&mut rows, &self.revisions[i], resource)?;
+        if count == 0 {
+            return listed(alloc, self.floor_rows.of(resource));
         }
-        in_order(alloc, rows)
+        if count == self.revisions.len() && self.last_at == at {
+            return listed(alloc, self.last_rows.of(resource));
+        }
+        self.rows_after(alloc, resource, count)
+    }
+
+    // The rows that this many revisions leave of the floor's.
+    fn rows_after(
+        &self,
+        alloc: Global,
+        resource: Resource,
+        count: usize,
+    ) -> Result<Vec<Row>, Memory>
+        requires { count ≤ length self.now.revisions.items }
+        ensures { IfOk result (λ rows. (log : Log) (floor : ℕ) → Keeps log floor self.now → floor ≤ self.now.from + count → IsStateAt log resource (self.now.from + count) rows.items) }
+    {
+        let mut rows = copy(self.floor_rows.of(resource))?;
+        for i in 0..count {
+            make_changes(&mut rows, &self.revisions[i], resource)?;
+        }
+        rows_in_order(alloc, rows)
     }
 
     /// What a poll behind the revision `from` gives.

@@ -15,8 +15,6 @@ mod writing;
 
 pub use operations::{OpNo, Operate};
 pub use store::Store;
-pub use transactions::{Transaction, TxNo, TxWriteNo};
+pub use transactions::{Transaction, TxNo, TxWriteNo, revisions_of_are_unique};
 pub use writes::{WriteAsk, WriteNo, Written};
-
-#[cfg(test)]
-mod tests;
+pub use writing::share;

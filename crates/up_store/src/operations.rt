@@ -1,3 +1,5 @@
+//! Operations on the log and its server.
+
 use kube_meta::Memory;
 
 /// An operation on the log and its server.

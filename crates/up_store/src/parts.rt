@@ -1,7 +1,8 @@
+//! The part of a revision that is of one resource.
+
 ghost use Rattle.std.specs.Prelude.{◌≡◌, IfOk};
 ghost use Rattle.up_api.specs.Feeds.{part_of};
 
-use crate::tables::is_of;
 use kube_meta::{Memory, Resource};
 use rev_log::{Change, Revision};
 use std::alloc::Global;
@@ -16,7 +17,7 @@ pub fn part(
 {
     let mut changes: Vec<Change> = Vec::new(alloc);
     for change in &revision.changes {
-        if is_of(change, resource) {
+        if change.is_of(resource) {
             changes.push(change.clone()?)?;
         }
     }

@@ -1,3 +1,5 @@
+//! The store as an upstream.
+
 ghost use Rattle.std.specs.Prelude.{◌≡◌, ◌≤◌, min};
 ghost use Rattle.up_api.specs.Sections.{counted};
 
@@ -13,6 +15,8 @@ impl<N: LogFacts> Upstream<N> for Store<N> {
 
     ghost reads = { λ s. Some s.reads };
 
+    ghost history = { λ s. Some s.history };
+
     fn list_at(
         &mut self,
         resource: Resource,
@@ -20,7 +24,7 @@ impl<N: LogFacts> Upstream<N> for Store<N> {
         told: &mut Pass<N>,
     ) -> Result<Vec<Row>, UpNo> {
         self.reads = self.reads.saturating_add(1).min(LAST);
-        meet(&mut self.pen, told)?;
+        meet(&mut self.pen, told);
         let floor = self.pen.floor();
         if at < floor {
             return Err(UpNo::Compacted { asked: at, floor });
@@ -33,7 +37,7 @@ impl<N: LogFacts> Upstream<N> for Store<N> {
     }
 
     fn begin(&mut self, resource: Resource, at: u64, told: &mut Pass<N>) -> Result<Feed, UpNo> {
-        meet(&mut self.pen, told)?;
+        meet(&mut self.pen, told);
         let floor = self.pen.floor();
         if at < floor {
             return Err(UpNo::Compacted { asked: at, floor });
@@ -50,7 +54,7 @@ impl<N: LogFacts> Upstream<N> for Store<N> {
     }
 
     fn poll(&mut self, feed: &mut Feed, max: usize, told: &mut Pass<N>) -> Result<Polled, UpNo> {
-        meet(&mut self.pen, told)?;
+        meet(&mut self.pen, told);
         let now = self.pen.generation();
         if feed.gen_ < now {
             return Err(UpNo::Cut {
@@ -72,7 +76,7 @@ impl<N: LogFacts> Upstream<N> for Store<N> {
 
     fn history(&mut self, resource: Resource, told: &mut Pass<N>) -> Result<History, Memory> {
         self.reads = self.reads.saturating_add(1).min(LAST);
-        meet(&mut self.pen, told)?;
+        meet(&mut self.pen, told);
         let floor = self.pen.floor();
         let upto = self.pen.revision();
         let rows = self.kept.rows_at(self.alloc, resource, floor)?;

@@ -1,10 +1,14 @@
-ghost use Rattle.std.specs.Prelude.{◌≡◌, ◌≤◌, [], false, IfOk, OnOk, OnErr};
-ghost use Rattle.rev_front.specs.Passes.{empty_log, pass_from, end_from};
+//! The store.
+
+ghost use Rattle.std.specs.Prelude.{◌≡◌, ◌≤◌, [], false, IfOk};
+ghost use Rattle.rev_front.specs.Passes.{Covers, IsWhole, empty_log, pass_from, revision};
+ghost use Rattle.rev_log.specs.Logs.{Fits};
 ghost use Rattle.up_api.specs.Sections.{Learns};
-ghost use Rattle.up_store.specs.Stores.{HasMet, IsCutAnswer, IsCompactionAnswer, OperationTells};
+ghost use Rattle.up_store.specs.Replies.{IsCutReply, IsCompactionReply};
+ghost use Rattle.up_store.specs.Stores.{HasMet, KnowsAll, IsCutAnswer, IsCompactionAnswer};
 
 use crate::OpNo;
-use crate::committing::raise;
+use crate::committing::{compact, cut};
 use crate::kept::Kept;
 use crate::tables::Tables;
 use kube_meta::Memory;
@@ -18,9 +22,9 @@ use up_api::{LogFacts, Pass};
 /// The greatest revision, and the greatest generation of feeds: 2 ^ 62.
 pub(crate) const LAST: u64 = 1 << 62;
 
-/// The store of an API server: one log of what was accepted. Contracts see the whole log; the code keeps the rows at the
-/// compaction floor and at the log's end, and the revisions after the floor. Each call that takes a pass is one section, after
-/// which the pass knows the whole log.
+/// The store of an API server: one log of what was accepted. Contracts see the whole log; the code keeps the rows at
+/// the compaction floor and at the log's end, and the revisions after the floor. Each call that takes a pass is one
+/// section, after which the pass knows the whole log.
 #[derive(Drop)]
 pub struct Store<N: LogFacts> {
     pub(crate) alloc: Global,
@@ -79,6 +83,15 @@ impl<N: LogFacts> Store<N> {
         Ok(self.pen.front()?)
     }
 
+    /// The revision that the log has reached.
+    pub fn revision(&self) -> u64
+        ensures answer { result ≡ revision self.now.whole }
+        ensures lawful { IsWhole Fits self.now.whole }
+        ensures name { self.now.whole.first ≡ N.log.first }
+    {
+        self.pen.revision()
+    }
+
     /// How many times states and histories were read, refused calls included, up to 2 ^ 62.
     pub fn reads(&self) -> u64
         ensures { result ≡ self.now.reads }
@@ -86,56 +99,42 @@ impl<N: LogFacts> Store<N> {
         self.reads
     }
 
-    /// Cuts all feeds: their next polls are refused. Answers the new generation of feeds.
+    /// Cuts all feeds: their next polls are refused. Answers the new generation of feeds. It takes no memory.
     pub fn drop_feeds(&mut self, told: &mut Pass<N>) -> Result<u64, OpNo>
+        ensures covered { Covers self.old.whole told.old }
         ensures learns { Learns told.old told.new }
+        ensures tells { KnowsAll self.new.whole told.new }
         ensures answer { IsCutAnswer self.old.whole self.new.whole result }
-        ensures tells { OperationTells self.new.whole told.new result }
+        ensures reply { IsCutReply told.old result told.new }
         ensures rest { self.new ≡ record self.old { whole = self.new.whole } }
     {
-        meet(&mut self.pen, told)?;
-        if self.pen.generation() == LAST {
-            return Err(OpNo::UsedUp { at: LAST });
-        }
-        let generation = self.pen.cut();
-        meet(&mut self.pen, told)?;
-        Ok(generation)
+        meet(&mut self.pen, told);
+        let answer = cut(&mut self.pen);
+        meet(&mut self.pen, told);
+        answer
     }
 
-    /// Compacts the log: states and feeds below the revision `at` are refused from then on. Answers the floor.
+    /// Compacts the log: states and feeds below the revision `at` are refused from then on. Answers the floor. That
+    /// needs no memory; what falls below the floor is given up as far as there is memory for that.
     pub fn compact(&mut self, at: u64, told: &mut Pass<N>) -> Result<u64, OpNo>
+        ensures covered { Covers self.old.whole told.old }
         ensures learns { Learns told.old told.new }
+        ensures tells { KnowsAll self.new.whole told.new }
         ensures answer { IsCompactionAnswer at self.old.whole self.new.whole result }
-        ensures tells { OperationTells self.new.whole told.new result }
+        ensures reply { IsCompactionReply at told.old result told.new }
         ensures rest { self.new ≡ record self.old { whole = self.new.whole } }
     {
-        meet(&mut self.pen, told)?;
-        let floor = self.pen.floor();
-        if at < floor {
-            return Err(OpNo::Compacted { asked: at, floor });
-        }
-        let current = self.pen.revision();
-        if current < at {
-            return Err(OpNo::Future { asked: at, current });
-        }
-        raise(&mut self.pen, &mut self.kept, at);
-        meet(&mut self.pen, told)?;
-        Ok(at)
+        meet(&mut self.pen, told);
+        let answer = compact(&mut self.pen, &mut self.kept, at);
+        meet(&mut self.pen, told);
+        answer
     }
 }
 
 /// One section's learning: the pen learns what the pass knows, and the pass what the pen does.
-pub(crate) fn meet<N: LogFacts>(
-    pen: &mut Pen<Revision, N>,
-    told: &mut Pass<N>,
-) -> Result<(), Memory>
+pub(crate) fn meet<N: LogFacts>(pen: &mut Pen<Revision, N>, told: &mut Pass<N>)
     ensures same { pen.new ≡ pen.old }
-    ensures met { OnOk result (HasMet pen.old told.old told.new) }
-    ensures kept { OnErr result (told.new ≡ told.old) }
+    ensures met { HasMet pen.old told.old told.new }
 {
-    let asked = told.split()?;
-    let _ = pen.learn(asked);
-    let fresh = pen.front()?;
-    let _ = told.meet(fresh);
-    Ok(())
+    pen.meet(told);
 }

@@ -1,6 +1,9 @@
+//! Writes that are accepted or refused together.
+
 ghost use Rattle.std.specs.Prelude.{◌≡◌, ℕ, ◌<◌, ◌≤◌, ◌↔◌, [], false, length, map, take, IfOk, OnOk, MatchOption};
 ghost use Rattle.std.specs.List.{list_any};
 ghost use Rattle.up_store.specs.Transactions.{target_of, same_target, stands_before, AreTransaction, IsFirstRepeat};
+ghost use Rattle.up_store.specs.Transacting.{RevisionsOfAreUnique};
 
 use crate::writes::{WriteAsk, WriteNo};
 use kube_meta::{Key, Memory, Resource};
@@ -50,7 +53,7 @@ pub enum TxWriteNo {
     UsedUp { at: u64 },
     /// The log is a mirror's, which takes its changes from its peer alone.
     ReadOnly { at: u64 },
-    /// There was no memory. The log is as it was, or longer by exactly this revision.
+    /// There was no memory. A store's log is then as it was.
     Memory,
 }
 
@@ -97,6 +100,11 @@ impl Transaction {
         self.items.as_slice()
     }
 }
+
+/// Writes of distinct objects have one revision after a log: the changes of a revision have one order.
+pub fn revisions_of_are_unique()
+    ensures { RevisionsOfAreUnique }
+{}
 
 // The place of the first write that is of an object of which an earlier one is.
 fn first_repeat(items: &[WriteAsk]) -> Option<usize>

@@ -1,3 +1,5 @@
+//! What a write asks for, and its answers.
+
 use kube_meta::{Key, Memory, Obj, Resource, Row};
 
 /// A write of one object, as `POST`, `PUT` and `DELETE` of the Kubernetes API ask for it.
@@ -44,7 +46,7 @@ pub enum WriteNo {
     UsedUp { at: u64 },
     /// The log is a mirror's, which takes its changes from its peer alone.
     ReadOnly { at: u64 },
-    /// There was no memory. The log is as it was, or longer by exactly this change.
+    /// There was no memory. A store's log is then as it was.
     Memory,
 }
 

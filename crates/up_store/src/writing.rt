@@ -1,9 +1,14 @@
-ghost use Rattle.std.specs.Prelude.{◌≡◌, ℕ, ◌⊎◌, ◌+◌, ◌<◌, ◌^◌, Option, Some, None, false, IfOk, IfErr, OnOk, option_copied};
+//! Writes and operations.
+
+ghost use Rattle.std.specs.Prelude.{◌≡◌, ℕ, ◌⊎◌, ◌+◌, ◌<◌, ◌≤◌, ◌^◌, Bool, Option, Some, None, List, false, IfOk, IfErr, OnOk, option_copied, option_map};
 ghost use Rattle.kube_meta.specs.Rows.{RowData};
+ghost use Rattle.rev_front.specs.Passes.{Covers};
 ghost use Rattle.rev_log.specs.Logs.{Log, end_of};
 ghost use Rattle.up_api.specs.Sections.{Learns};
 ghost use Rattle.up_store.specs.Kept.{Keeps, AreBounded, HasRoom};
-ghost use Rattle.up_store.specs.Writes.{fault_at, stale_at, change_of, object_of, refusal_of, IsPrepared, IsWriteAnswer, WriteTells};
+ghost use Rattle.up_store.specs.Replies.{IsWriteReply};
+ghost use Rattle.up_store.specs.Stores.{KnowsAll, log_in};
+ghost use Rattle.up_store.specs.Writes.{fault_at, stale_at, change_of, new_object, object_of, refusal_of, IsPrepared, IsWriteAnswer};
 
 use crate::committing::commit;
 use crate::kept::Kept;
@@ -11,30 +16,98 @@ use crate::store::{LAST, meet};
 use crate::transactions::{key_of, resource_of};
 use crate::{Store, WriteAsk, WriteNo, Written};
 use kube_meta::{Memory, Obj, Row};
+use rev_front::Pen;
 use rev_log::{Change, Revision};
 use std::alloc::Global;
 use std::sync::Arc;
 use up_api::{LogFacts, Pass};
 
 impl<N: LogFacts> Store<N> {
-    /// Makes a write, if nothing refuses it; the first refusal that holds is answered. An accepted write is one revision, which
-    /// the answer names.
+    /// Makes a write, if nothing refuses it; the first refusal that holds is answered. An accepted write is one
+    /// revision, which the answer names.
     pub fn write(&mut self, ask: &WriteAsk, told: &mut Pass<N>) -> Result<Written, WriteNo>
+        ensures covered { Covers self.old.whole told.old }
         ensures learns { Learns told.old told.new }
+        ensures tells { KnowsAll self.new.whole told.new }
         ensures answer { IsWriteAnswer N.base N.mirror self.old.history ask.now self.old.whole self.new.whole result }
-        ensures tells { WriteTells self.new.whole told.new result }
+        ensures reply { IsWriteReply N.base N.mirror told.old ask.now result told.new }
         ensures rest { self.new ≡ record self.old { whole = self.new.whole } }
     {
-        meet(&mut self.pen, told)?;
-        let at = self.pen.revision();
-        if self.mirror {
-            return Err(WriteNo::ReadOnly { at });
+        match share(self.alloc, ask) {
+            Ok(shared) => self.write_shared(ask, shared, told),
+            Err(_) => {
+                meet(&mut self.pen, told);
+                Err(WriteNo::Memory)
+            }
         }
-        let (written, revision) = prepare(self.alloc, &mut self.kept, ask, at)?;
-        commit(&mut self.pen, &mut self.kept, self.history, revision);
-        meet(&mut self.pen, told)?;
-        Ok(written)
     }
+
+    /// Makes a write whose new object is shared already, as by `share` before a lock is taken.
+    pub fn write_shared(
+        &mut self,
+        ask: &WriteAsk,
+        shared: Option<Arc<Obj>>,
+        told: &mut Pass<N>,
+    ) -> Result<Written, WriteNo>
+        requires { option_map (λ obj. obj.value) shared ≡ new_object ask.now }
+        ensures covered { Covers self.old.whole told.old }
+        ensures learns { Learns told.old told.new }
+        ensures tells { KnowsAll self.new.whole told.new }
+        ensures answer { IsWriteAnswer N.base N.mirror self.old.history ask.now self.old.whole self.new.whole result }
+        ensures reply { IsWriteReply N.base N.mirror told.old ask.now result told.new }
+        ensures rest { self.new ≡ record self.old { whole = self.new.whole } }
+    {
+        meet(&mut self.pen, told);
+        let answer = accept(
+            self.alloc,
+            &mut self.pen,
+            &mut self.kept,
+            self.mirror,
+            self.history,
+            ask,
+            shared,
+        );
+        meet(&mut self.pen, told);
+        answer
+    }
+}
+
+/// The new object of a write, behind a shared pointer. It is copied here, so that no lock need be held meanwhile.
+pub fn share(alloc: Global, ask: &WriteAsk) -> Result<Option<Arc<Obj>>, Memory>
+    ensures { IfOk result (λ shared. option_map (λ obj. obj.value) shared ≡ new_object ask.now) }
+{
+    match ask {
+        WriteAsk::Create { obj, .. } | WriteAsk::Replace { obj, .. } => {
+            Ok(Some(Arc::new(alloc, obj.clone()?)?))
+        }
+        WriteAsk::Remove { .. } => Ok(None),
+    }
+}
+
+// Adds the revision of a write to the log, if nothing refuses it.
+fn accept<N: LogFacts>(
+    alloc: Global,
+    pen: &mut Pen<Revision, N>,
+    kept: &mut Kept,
+    mirror: bool,
+    history: u64,
+    ask: &WriteAsk,
+    shared: Option<Arc<Obj>>,
+) -> Result<Written, WriteNo>
+    requires object { option_map (λ obj. obj.value) shared ≡ new_object ask.now }
+    requires history { 1 ≤ history }
+    requires keeps { (base : List RowData) × Keeps (log_in base pen.old) pen.old.floor kept.old }
+    ensures answer { (base : List RowData) → Keeps (log_in base pen.old) pen.old.floor kept.old → IsWriteAnswer base mirror history ask.now pen.old pen.new result }
+    ensures keeps { (base : List RowData) → Keeps (log_in base pen.old) pen.old.floor kept.old → Keeps (log_in base pen.new) pen.new.floor kept.new }
+    ensures generation { pen.new.gen ≡ pen.old.gen }
+{
+    let at = pen.revision();
+    if mirror {
+        return Err(WriteNo::ReadOnly { at });
+    }
+    let (written, revision) = prepare(alloc, kept, ask, shared, at)?;
+    let _ = commit(pen, kept, history, revision);
+    Ok(written)
 }
 
 /// The answer to a write and its revision, if nothing refuses it, and room for that revision.
@@ -42,9 +115,11 @@ pub fn prepare(
     alloc: Global,
     kept: &mut Kept,
     ask: &WriteAsk,
+    shared: Option<Arc<Obj>>,
     at: u64,
 ) -> Result<(Written, Revision), WriteNo>
-    requires { AreBounded kept.old }
+    requires object { option_map (λ obj. obj.value) shared ≡ new_object ask.now }
+    requires bounded { AreBounded kept.old }
     ensures keeps { (log : Log) (floor : ℕ) → Keeps log floor kept.old → Keeps log floor kept.new }
     ensures prepared { IfOk result (λ p. (log : Log) (floor : ℕ) → Keeps log floor kept.old → at ≡ end_of log → IsPrepared log ask.now p.0 p.1) }
     ensures room { OnOk result (HasRoom kept.new) }
@@ -53,12 +128,12 @@ pub fn prepare(
 {
     kept.catch_up()?;
     let row = kept.row_of(resource_of(ask), key_of(ask));
-    let obj = object(alloc, ask, at, row)?;
+    let obj = object(ask, &shared, at, row)?;
     if at >= LAST {
         return Err(WriteNo::UsedUp { at });
     }
     let rev = at + 1;
-    let revision = Revision::single(alloc, change(ask, rev, &obj)?)?;
+    let revision = Revision::single(alloc, change(ask, rev, shared)?)?;
     kept.reserve()?;
     let written = Written {
         rev,
@@ -67,29 +142,40 @@ pub fn prepare(
     Ok((written, revision))
 }
 
-/// The object that an accepted write answers which finds this row.
+/// The object that an accepted write answers which finds this row: the new one, or the removed one.
 pub fn object(
-    alloc: Global,
     ask: &WriteAsk,
+    shared: &Option<Arc<Obj>>,
     at: u64,
     row: Option<&Row>,
 ) -> Result<Arc<Obj>, WriteNo>
+    requires { option_map (λ obj. obj.value) shared.now ≡ new_object ask.now }
     ensures unrefused { OnOk result (fault_at at ask.now (option_copied row.entry) ≡ None) }
     ensures object { IfOk result (λ obj. Some obj.value ≡ object_of ask.now (option_copied row.entry)) }
     ensures refused { IfErr result (λ no. (no ≡ WriteNo.Memory) ⊎ (fault_at at ask.now (option_copied row.entry) ≡ Some no)) }
 {
+    if let Some(no) = fault(ask, at, row) {
+        return Err(no);
+    }
+    match (shared, row) {
+        (Some(obj), _) => Ok(obj.clone()?),
+        (None, Some(row)) => Ok(row.obj.clone()?),
+        (None, None) => Err(WriteNo::Absent { at }),
+    }
+}
+
+// Why the write is refused that finds this row.
+fn fault(ask: &WriteAsk, at: u64, row: Option<&Row>) -> Option<WriteNo>
+    ensures { result ≡ fault_at at ask.now (option_copied row.entry) }
+{
     match (ask, row) {
-        (WriteAsk::Create { obj, .. }, None) => Ok(share(alloc, obj)?),
-        (WriteAsk::Create { .. }, Some(row)) => Err(WriteNo::Exists {
+        (WriteAsk::Create { .. }, Some(row)) => Some(WriteNo::Exists {
             at,
             present: row.rev,
         }),
-        (WriteAsk::Replace { obj, given, .. }, Some(row)) => match stale(*given, at, row.rev) {
-            Some(no) => Err(no),
-            None => Ok(share(alloc, obj)?),
-        },
-        (WriteAsk::Remove { .. }, Some(row)) => Ok(row.obj.clone()?),
-        (WriteAsk::Replace { .. } | WriteAsk::Remove { .. }, None) => Err(WriteNo::Absent { at }),
+        (WriteAsk::Replace { given, .. }, Some(row)) => stale(*given, at, row.rev),
+        (WriteAsk::Create { .. }, None) | (WriteAsk::Remove { .. }, Some(_)) => None,
+        (WriteAsk::Replace { .. } | WriteAsk::Remove { .. }, None) => Some(WriteNo::Absent { at }),
     }
 }
 
@@ -103,25 +189,15 @@ fn stale(given: Option<u64>, at: u64, present: u64) -> Option<WriteNo>
     }
 }
 
-fn share(alloc: Global, obj: &Obj) -> Result<Arc<Obj>, Memory>
-    ensures { IfOk result (λ shared. shared.value ≡ obj.now) }
-{
-    Ok(Arc::new(alloc, obj.clone()?)?)
-}
-
-/// The change of a write at a revision, with this object.
-pub fn change(ask: &WriteAsk, rev: u64, obj: &Arc<Obj>) -> Result<Change, Memory>
-    requires { (row : Option RowData) × (Some obj.now.value ≡ object_of ask.now row) }
+/// The change of a write at a revision, with this new object.
+pub fn change(ask: &WriteAsk, rev: u64, shared: Option<Arc<Obj>>) -> Result<Change, Memory>
+    requires { option_map (λ obj. obj.value) shared ≡ new_object ask.now }
     ensures { IfOk result (λ change. change ≡ change_of rev ask.now) }
 {
-    let new = match ask {
-        WriteAsk::Create { .. } | WriteAsk::Replace { .. } => Some(obj.clone()?),
-        WriteAsk::Remove { .. } => None,
-    };
     Ok(Change {
         rev,
         resource: resource_of(ask),
         key: key_of(ask).clone()?,
-        new,
+        new: shared,
     })
 }

@@ -1,22 +1,22 @@
--- One more revision is one more step, and at the end they are all up to the number.
-use Rattle.std.proofs.Common.{◌≡◌, ◌<◌, ◌-◌, length, take, fold, subst, arith}
-use Rattle.rev_log.specs.Rows.{Holds}
-use Rattle.rev_log.specs.States.{row_next}
-use Rattle.rev_log.proofs.MapLemmas.{Holds-same, fold_step}
+-- At the floor and at the log's end a table is what stands there.
+use Rattle.std.proofs.Common.{◌≡◌, ◌+◌, ◌-◌, length, ap, ◌∙◌, subst, arith}
+use Rattle.std.specs.BTreeMap.{values}
+use Rattle.rev_log.specs.States.{IsStateAt}
 use Rattle.rev_log.proofs.StateLemmas.{if_ok}
-use Rattle.up_store.proofs.KeptLemmas.{kept-length, state-kept}
+use Rattle.up_store.proofs.KeptLemmas.{state-first, state-last}
 use Rattle.up_store.proofs.kept.Kept.rows_at.Goals as goal
 
-pub loop-i-preserved : goal.loop-i-preserved
-loop-i-preserved c = λ log floor keeps.
-    let inside : c.loop-i.i < length c.args.self.now.revisions.items = omega (arith, c.args.self.now.revisions.ok.0, c.loop-i-test.true, c.requires.reached) in
-    let step = c.in_ok-make.ensures.done (λ key. fold (row_next c.args.resource key) (keeps.floor_rows.stands c.args.resource key) (take c.loop-i.i c.args.self.now.revisions.items)) (c.loop-i.invariant log floor keeps) in
-    Holds-same c.make.new.rows _ _ (λ key. fold_step (row_next c.args.resource key) (keeps.floor_rows.stands c.args.resource key) c.args.self.now.revisions.items c.loop-i.i c.index.result.now inside c.index.ensures) step
+pub returns-then-count-eq0 : goal.returns-then-count-eq0
+returns-then-count-eq0 c = if_ok c.listed.result (λ list items log floor keeps later.
+    state-first log floor c.args.self.now c.args.resource c.args.at list.items (omega (arith, c.if-count-eq0.true, c.requires.from)) later (items ∙ ap values c.of.ensures) keeps) c.listed.ensures
+
+pub returns-then-self-at : goal.returns-then-self-at
+returns-then-self-at c = if_ok c.listed-then-self-at.result (λ list items log floor keeps later.
+    let len : c.len.result ≡ length c.args.self.now.revisions.items = c.len.ensures ∙ c.args.self.now.revisions.ok.0 in
+    state-last log floor c.args.self.now c.args.resource c.args.at list.items (omega (arith, len, c.if-count-len.true, c.if-self-at.true, c.requires.from)) (omega (arith, c.if-self-at.true))
+    (items ∙ ap values c.of-then-self-at.ensures) keeps) c.listed-then-self-at.ensures
 
 pub returns : goal.returns
-returns c = if_ok c.in_order.result (λ list items log floor keeps later.
-    let long = kept-length log floor c.args.self.now keeps in
-    let all : c.loop-i.i ≡ c.args.at - c.args.self.now.from = omega (arith, c.loop-i-test.false, c.loop-i.auto.i-end) in
-    state-kept log floor c.args.self.now c.args.resource c.args.at c.loop-i.rows list.items keeps later (omega (arith, long, c.requires.reached))
-    (subst (λ n. Holds c.loop-i.rows (λ key. fold (row_next c.args.resource key) (keeps.floor_rows.stands c.args.resource key) (take n c.args.self.now.revisions.items))) all (c.loop-i.invariant log floor keeps))
-    items) c.in_order.ensures
+returns c = if_ok c.rows_after.result (λ list states log floor keeps later.
+    let at : c.args.self.now.from + (c.args.at - c.args.self.now.from) ≡ c.args.at = omega (arith, c.requires.from) in
+    subst (λ n. IsStateAt log c.args.resource n list.items) at (states log floor keeps (omega (arith, later, c.requires.from)))) c.rows_after.ensures

@@ -7,9 +7,9 @@ use Rattle.up_store.proofs.reading.StoreUpstream.history.Goals as goal
 
 pub returns-clause-history : goal.returns-clause-history
 returns-clause-history g c =
-    let floor : c.floor-floor.result ≡ c.self.inside.pen.floor = c.floor-floor.ensures ∙ ap (λ w. w.floor) c.in_ok-meet.ensures.same in
-    let upto : c.revision-upto.result ≡ revision c.self.inside.pen = c.revision-upto.ensures.answer ∙ ap revision c.in_ok-meet.ensures.same in
+    let floor : c.floor-floor.result ≡ c.self.inside.pen.floor = c.floor-floor.ensures ∙ ap (λ w. w.floor) c.meet.ensures.same in
+    let upto : c.revision-upto.result ≡ revision c.self.inside.pen = c.revision-upto.ensures.answer ∙ ap revision c.meet.ensures.same in
     history-of g.N.LogFacts.base c.self.inside.pen c.args.told.now c.meet.new.told c.self.inside.kept c.args.resource c.floor-floor.result c.revision-upto.result c.in_ok-rows.rows.items c.in_ok-revisions.revisions.items
-    c.in_ok-meet.ensures.met c.self.invariant.keeps floor upto
+    c.meet.ensures.met c.self.invariant.keeps floor upto
     (c.in_ok-rows.ensures (log_in g.N.LogFacts.base c.self.inside.pen) c.self.inside.pen.floor c.self.invariant.keeps (omega (arith, floor)))
     (c.in_ok-revisions.ensures (log_in g.N.LogFacts.base c.self.inside.pen) c.self.inside.pen.floor c.self.invariant.keeps)

@@ -9,5 +9,5 @@ use Rattle.up_store.proofs.reading.StoreUpstream.poll.Goals as goal
 pub returns-clause-polled : goal.returns-clause-polled
 returns-clause-polled g c =
     subst (λ (log : Log). IsPoll log c.args.feed.now.resource c.args.feed.now.upto c.args.max c.in_ok-polled.polled)
-    (sym (met-log g.N.LogFacts.base c.self.inside.pen c.args.told.now c.meet.new.told c.in_ok-meet.ensures.met))
+    (sym (met-log g.N.LogFacts.base c.self.inside.pen c.args.told.now c.meet.new.told c.meet.ensures.met))
     (c.in_ok-polled.ensures (log_in g.N.LogFacts.base c.self.inside.pen) c.self.inside.pen.floor c.self.invariant.keeps)

@@ -1,4 +1,0 @@
-//! Transactions by themselves, and stores of small logs.
-
-mod stores;
-mod transactions;
