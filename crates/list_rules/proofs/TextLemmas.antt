@@ -4,7 +4,7 @@ use Rattle.std.proofs.lemmas.Bool.{cases_Bool, lt-ltb, ltb-true, and_parts}
 use Rattle.std.proofs.lemmas.List.{take_rest, take-append-drop}
 use Rattle.std.proofs.Math.Seq.{take-append_seam, drop-append-add}
 use Rattle.std.specs.List.{list_any, list_all, position_or_len}
-use Rattle.kube_meta.proofs.NameLemmas.{list_any-position}
+use Rattle.kube_meta.proofs.KeyLemmas.{any-at, any-none}
 use Rattle.list_rules.specs.Tokens.{is_line_feed, line, line_of, IsOneLine}
 
 -- what is no `q` where each is a `p`
@@ -13,26 +13,6 @@ none_passes p q apart [] passes = refl
 none_passes p q apart (b ∷ text) passes =
     let parts = and_parts (p b) (list_all p text) passes in
     rw (apart b parts.0) (none_passes p q apart text parts.1)
-
-pub any-at : (p : ℕ → Bool) (text : List ℕ) (at : ℕ) → position_or_len p text ≡ at → at < length text → list_any p text ≡ true
-any-at p text at found within = list_any-position p text ∙ ap (λ (n : ℕ). ltb n (length text)) found ∙ lt-ltb at (length text) within
-
-pub any-none : (p : ℕ → Bool) (text : List ℕ) → position_or_len p text ≡ length text → list_any p text ≡ false
-any-none p text none = list_any-position p text ∙ ap (λ (n : ℕ). ltb n (length text)) none ∙ same (length text)
-  where
-    same : (n : ℕ) → ltb n n ≡ false
-    same n = elim (cases_Bool (ltb n n)) [
-      | inl less ↦ let h = ltb-true n n less in absurd (omega arith)
-      | inr not ↦ not
-    ]
-
--- a text that is cut at a place is the two pieces round the byte there
-pub rejoined : (text : List ℕ) (at b : ℕ) → at < length text → get_or text at 0 ≡ b → take at text ++ b ∷ drop (at + 1) text ≡ text
-rejoined text at b within is =
-    let e : drop at text ≡ get_or text at 0 ∷ drop (suc at) text = drop-cons text at 0 within in
-    let next : suc at ≡ at + 1 = omega arith in
-    ap (λ (x : ℕ). take at text ++ x ∷ drop (at + 1) text) (sym is) ∙ ap (λ (n : ℕ). take at text ++ get_or text at 0 ∷ drop n text) (sym next)
-    ∙ ap (λ (l : List ℕ). take at text ++ l) (sym e) ∙ take-append-drop at text
 
 -- ---- lines
 

@@ -1,5 +1,5 @@
 -- What is written of a token is read back.
-use Rattle.std.proofs.Common.{◌≡◌, ℕ, ◌^◌, ◌≤◌, ◌==◌, Bool, true, false, List, [], ◌∷◌, Option, Some, Ok, refl, ap, ◌∙◌, arith, inl, inr, ◌||◌, codes, decimal, bytes_eq, option_and_then}
+use Rattle.std.proofs.Common.{◌≡◌, ℕ, ◌^◌, ◌≤◌, ◌==◌, Bool, true, false, List, [], ◌∷◌, Option, Some, is_some, Ok, refl, ap, ◌∙◌, arith, inl, inr, ◌||◌, codes, decimal, bytes_eq, option_and_then}
 use Rattle.std.proofs.lemmas.Bool.{cases_Bool, ne_eqb}
 use Rattle.std.proofs.lemmas.List.Folds.{list_any-append}
 use Rattle.std.proofs.lemmas.Slice.Eq.{bytes_eq-Decides}
@@ -8,14 +8,14 @@ use Rattle.std.specs.Result.{result_ok}
 use Rattle.base64.specs.GeneralPurpose.{decode_of}
 use Rattle.base64.specs.Engines.{url_safe_no_pad}
 use Rattle.kube_meta.specs.declared.resources.Resource.{Resource}
-use Rattle.kube_meta.specs.declared.resources.Resource.TheVariants.{Pods, ConfigMaps, Deployments}
-use Rattle.kube_meta.specs.Resources.{plural_of}
+use Rattle.kube_meta.specs.Resources.{plural_of, of_plural}
 use Rattle.kube_meta.specs.Revisions.{revision_of}
-use Rattle.kube_meta.specs.Keys.{IsKey, namespace_of, name_of}
-use Rattle.kube_meta.specs.Names.{is_slash}
+use Rattle.kube_meta.specs.Keys.{IsKey, is_key}
+use Rattle.kube_meta.proofs.KeyLemmas.{tested}
+use Rattle.kube_meta.proofs.ResourceLemmas.{plurals}
 use Rattle.kube_meta.proofs.RevisionLemmas.{are_read_back}
 use Rattle.select_all.specs.declared.selection.Selection.{Selection}
-use Rattle.list_rules.specs.Tokens.{TokenTexts, IsOneLine, is_line_feed, line, texts_of, spaced, list_namespace, token_lines, token_body, token_read, texts_read, is_of_list, is_plural, is_key}
+use Rattle.list_rules.specs.Tokens.{TokenTexts, IsOneLine, is_line_feed, line, texts_of, spaced, list_namespace, token_lines, token_body, token_read, texts_read, is_of_list}
 use Rattle.list_rules.proofs.TextLemmas.{line_back}
 use Rattle.list_rules.proofs.NameLemmas.{revision_is_one_line, plural_is_one_line, key_is_one_line}
 
@@ -43,23 +43,15 @@ six_back a b c d e f g ha hb hc hd he hf =
     ) refl
 
 accepted : (t : TokenTexts) (s : Selection) (label field : List ℕ) (rev : ℕ) → revision_of t.revision ≡ Ok rev → (rev == 0) ≡ false
-    → bytes_eq t.version (codes "1") ≡ true → is_plural t.resource ≡ true → is_key t.key ≡ true → is_of_list t s label field ≡ true
+    → bytes_eq t.version (codes "1") ≡ true → is_some (of_plural t.resource) ≡ true → is_key t.key ≡ true → is_of_list t s label field ≡ true
     → texts_read (Some t) s label field ≡ Ok (rev, t.key)
-accepted t s label field rev number some version resource key list = rw (number, some, version, resource, key, list) refl
+accepted t s label field rev number some version resource key list = rw (version, resource, number, some, key, list) refl
 
-plural_passes : (r : Resource) → is_plural (plural_of r) ≡ true
-plural_passes Pods = refl
-plural_passes ConfigMaps = refl
-plural_passes Deployments = refl
+plural_passes : (r : Resource) → is_some (of_plural (plural_of r)) ≡ true
+plural_passes r = ap is_some ((plurals (plural_of r) r).1 refl)
 
 key_passes : (key : List ℕ) → IsKey key → is_key key ≡ true
-key_passes key is =
-    let slash : list_any is_slash key ≡ true = ap (list_any is_slash) is.parted ∙ list_any-append is_slash (namespace_of key) (47 ∷ name_of key) ∙ or_true (list_any is_slash (namespace_of key)) in
-    rw (slash, is.namespace, is.name) refl
-  where
-    or_true : (a : Bool) → (a || true) ≡ true
-    or_true true = refl
-    or_true false = refl
+key_passes key is = (tested key).1 is
 
 pub read_back : (s : Selection) (label field : List ℕ) (rev : ℕ) (key text : List ℕ) → 1 ≤ rev → rev ≤ 2 ^ 62 → IsKey key → IsOneLine (list_namespace s.ns)
     → token_body text ≡ Some (token_lines s label field rev key) → token_read text s label field ≡ Ok (rev, key)

@@ -1,11 +1,12 @@
 -- What the parameters of a list ask for: the first fault, or else the page.
-use Rattle.std.specs.Prelude.{◌≡◌, ℕ, List, Option, None, Some, Result, Ok, Err, codes}
+use Rattle.std.specs.Prelude.{◌≡◌, ℕ, Bool, true, false, List, Option, None, Some, Result, Ok, Err, codes}
 use Rattle.select_all.specs.declared.selection.Meaning.TheVariants.{Exact}
 use Rattle.select_all.specs.declared.selection.Selection.{Selection}
 use Rattle.list_rules.specs.declared.ask.ListAsk.{ListAsk}
 use Rattle.list_rules.specs.declared.refusal.AskNo.{AskNo}
 use Rattle.list_rules.specs.declared.refusal.AskNo.TheVariants.{BadContinue, Memory}
 use Rattle.list_rules.specs.declared.refusal.TokenNo.{TokenNo}
+use Rattle.list_rules.specs.declared.refusal.TokenNo.TheVariants as token_no
 use Rattle.list_rules.specs.declared.options.Options.{Options}
 use Rattle.list_rules.specs.Options.{Pairs, given, text_of, options_of, first_fault, means, limit_of}
 use Rattle.list_rules.specs.Tokens.{token_read}
@@ -21,9 +22,14 @@ first_page s o label field = record {
   field_text = field;
 }
 
+-- how the refusal of a token is told
+abbrev pub refused_token : TokenNo → AskNo
+refused_token token_no.Memory = Memory
+refused_token fault = BadContinue fault
+
 -- with one: the page after the token's key, at the token's revision alone
 abbrev pub later_page : Selection → Options → List ℕ → List ℕ → Result (ℕ × List ℕ) TokenNo → Result ListAsk AskNo
-later_page s o label field (Err fault) = Err (BadContinue fault)
+later_page s o label field (Err fault) = Err (refused_token fault)
 later_page s o label field (Ok place) = Ok (record {
   selection = s;
   meaning = Exact place.0;
@@ -45,6 +51,11 @@ abbrev pub ask_of : Selection → Pairs → Result ListAsk AskNo
 ask_of s pairs =
     unless_fault (first_fault (options_of pairs))
     (page_by s (options_of pairs) (text_of (codes "labelSelector") pairs) (text_of (codes "fieldSelector") pairs) (given (codes "continue") pairs))
+
+-- want of memory is told by itself, and never as a fault of the token
+abbrev pub wraps_memory : AskNo → Bool
+wraps_memory (BadContinue token_no.Memory) = true
+wraps_memory fault = false
 
 -- What was made is what the parameters ask for; what was refused is the first fault, unless memory ran out.
 abbrev pub Asks : Result ListAsk AskNo → Result ListAsk AskNo → Type 0

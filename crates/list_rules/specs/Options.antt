@@ -97,9 +97,9 @@ abbrev pub first_of : List (Bool × AskNo) → Option AskNo
 first_of [] = None
 first_of (row ∷ rows) = if row.0 then Some row.1 else first_of rows
 
--- the first that holds is answered
-abbrev pub first_fault : Options → Option AskNo
-first_fault o = first_of (
+-- in this order
+abbrev pub faults : Options → List (Bool × AskNo)
+faults o =
     (is_refused o.revision, BadRevision)
     ∷ (is_other o.matching, BadMatch)
     ∷ (not (is_absent o.matching) && (not o.continued && is_unset o.revision), MatchNeedsRevision)
@@ -108,7 +108,11 @@ first_fault o = first_of (
     ∷ (o.continued && (not (is_unset o.revision) && not (is_zero o.revision)), RevisionWithContinue)
     ∷ (o.initial_events, InitialEventsOnList)
     ∷ (is_refused o.limit, BadLimit)
-    ∷ [])
+    ∷ []
+
+-- the first that holds is answered
+abbrev pub first_fault : Options → Option AskNo
+first_fault o = first_of (faults o)
 
 -- ---- the meaning, where there is no fault
 

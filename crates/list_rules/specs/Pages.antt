@@ -1,19 +1,9 @@
 -- Pages of a list, and how they follow each other.
-use Rattle.std.specs.Prelude.{◌≡◌, ℕ, zero, suc, Bool, List, [], ◌∷◌, ◌++◌, length, take, filter, Option, None, Some, nat_lt, slice_get, option_map, if◌then◌else◌}
-use Rattle.std.specs.Cmp.Lexicographic.{slice_cmp}
-use Rattle.std.specs.Ordering.{nat_cmp, is_lt}
-use Rattle.kube_meta.specs.Rows.{RowData, key_of}
+use Rattle.std.specs.Prelude.{◌≡◌, ℕ, zero, suc, ◌+◌, ◌-◌, ◌<◌, ◌==◌, ◌&&◌, Bool, List, [], ◌∷◌, ◌++◌, length, take, Option, None, Some, nat_lt, slice_get, option_map, if◌then◌else◌}
+use Rattle.kube_meta.specs.Rows.{RowData, key_of, behind}
+use Rattle.select_all.specs.declared.selection.Selection.{Selection}
 
--- a row stands behind a key, in the byte order of keys
-abbrev pub is_behind : List ℕ → RowData → Bool
-is_behind key row = is_lt (slice_cmp nat_cmp key (key_of row))
-
--- the rows of a list behind a token's key, where there is one
-abbrev pub behind : Option (List ℕ) → List RowData → List RowData
-behind None rows = rows
-behind (Some key) rows = filter (is_behind key) rows
-
--- the first `limit` of them; 0 is no limit
+-- the first `limit` of the rows from where a page begins; 0 is no limit
 abbrev pub page_of : ℕ → List RowData → List RowData
 page_of zero rows = rows
 page_of (suc n) rows = take (suc n) rows
@@ -22,6 +12,19 @@ page_of (suc n) rows = take (suc n) rows
 abbrev pub next_of : ℕ → List RowData → Option (List ℕ)
 next_of zero rows = None
 next_of (suc n) rows = if nat_lt (suc n) (length rows) then option_map key_of (slice_get rows n) else None
+
+-- how many of them are left behind the page
+abbrev pub left_of : ℕ → List RowData → ℕ
+left_of zero rows = 0
+left_of (suc n) rows = length rows - suc n
+
+-- neither selector of the selection has a requirement
+abbrev pub is_unrestricted : Selection → Bool
+is_unrestricted s = (length s.labels == 0) && (length s.fields == 0)
+
+-- what is told of their number: nothing where the selection has a requirement
+abbrev pub remaining_of : Selection → ℕ → Option ℕ
+remaining_of s left = if is_unrestricted s then Some left else None
 
 -- a page as it was answered: what limit was asked, its rows, and the key in its token, if it has one
 pub record Page : Type 0 where
@@ -44,3 +47,10 @@ Follow list after page (another ∷ more) =
 abbrev pub joined_rows : Page → List Page → List RowData
 joined_rows page [] = page.rows
 joined_rows page (another ∷ more) = page.rows ++ joined_rows another more
+
+-- This many rows are left behind a page of a list: with its own they are all from where it begins; they are those
+-- behind the key of its token; and it has a token exactly where some are left.
+pub record IsLeft (list : List RowData) (after : Option (List ℕ)) (page : Page) (left : ℕ) : Type 0 where
+  pub rest : length page.rows + left ≡ length (behind after list)
+  pub more : (key : List ℕ) → page.next ≡ Some key → (0 < left) × (left ≡ length (behind (Some key) list))
+  pub end_is : page.next ≡ None → left ≡ 0

@@ -1,13 +1,12 @@
 -- Continue tokens: the base64url text without padding (RFC 4648, section 5) of seven texts, with a line feed after each of the first six.
-use Rattle.std.specs.Prelude.{◌≡◌, ℕ, Bool, false, not, ◌&&◌, ◌||◌, ◌==◌, List, [], ◌∷◌, ◌++◌, map, Option, None, Some, Result, Ok, Err, unwrap_or, option_map, option_and_then, codes, bytes_eq, decimal, if◌then◌else◌}
+use Rattle.std.specs.Prelude.{◌≡◌, ℕ, Bool, false, ◌&&◌, ◌==◌, List, [], ◌∷◌, ◌++◌, map, Option, None, Some, is_some, Result, Ok, Err, unwrap_or, option_map, option_and_then, codes, bytes_eq, decimal, if◌then◌else◌}
 use Rattle.std.specs.List.{before_first, after_first, list_any}
 use Rattle.std.specs.Result.{result_ok}
 use Rattle.base64.specs.GeneralPurpose.{encode_of, decode_of}
 use Rattle.base64.specs.Engines.{url_safe_no_pad}
 use Rattle.kube_meta.specs.declared.revisions.RevNo.{RevNo}
-use Rattle.kube_meta.specs.Keys.{namespace_of, name_of}
-use Rattle.kube_meta.specs.Names.{is_slash, is_namespace, is_object_name}
-use Rattle.kube_meta.specs.Resources.{plural_of}
+use Rattle.kube_meta.specs.Keys.{is_key}
+use Rattle.kube_meta.specs.Resources.{plural_of, of_plural}
 use Rattle.kube_meta.specs.Revisions.{revision_of}
 use Rattle.select_all.specs.declared.selection.Selection.{Selection}
 use Rattle.list_rules.specs.declared.refusal.TokenNo.{TokenNo}
@@ -61,37 +60,34 @@ texts_of body =
     (λ f. record { version = a.0; revision = b.0; resource = c.0; namespace = d.0; key = e.0; label = f.0; field = f.1 })
     (line_of e.1)) (line_of d.1)) (line_of c.1)) (line_of b.1)) (line_of a.1)) (line_of body)
 
--- a revision of at least 1
-abbrev pub above_zero : Result ℕ RevNo → Bool
-above_zero (Ok n) = not (n == 0)
-above_zero (Err fault) = false
+-- a revision is at least 1
+abbrev pub revision_read : Result ℕ RevNo → Option ℕ
+revision_read (Ok n) = if n == 0 then None else Some n
+revision_read (Err fault) = None
 
-abbrev pub number_in : Result ℕ RevNo → ℕ
-number_in (Ok n) = n
-number_in (Err fault) = 0
+-- the revision in texts of the first form, of a resource that there is
+abbrev pub revision_in : TokenTexts → Option ℕ
+revision_in t =
+    if bytes_eq t.version (codes "1") && is_some (of_plural t.resource) then revision_read (revision_of t.revision) else None
 
-abbrev pub is_plural : List ℕ → Bool
-is_plural text = bytes_eq text (codes "pods") || (bytes_eq text (codes "configmaps") || bytes_eq text (codes "deployments"))
-
--- a namespace and a name around the first `/`
-abbrev pub is_key : List ℕ → Bool
-is_key text = list_any is_slash text && (is_namespace (namespace_of text) && is_object_name (name_of text))
-
--- texts as a token has them
-abbrev pub is_token : TokenTexts → Bool
-is_token t = bytes_eq t.version (codes "1") && (above_zero (revision_of t.revision) && (is_plural t.resource && is_key t.key))
+-- the key in them
+abbrev pub key_in : TokenTexts → Option (List ℕ)
+key_in t = if is_key t.key then Some t.key else None
 
 -- those of a token of this list
 abbrev pub is_of_list : TokenTexts → Selection → List ℕ → List ℕ → Bool
 is_of_list t s label field =
     bytes_eq t.resource (plural_of s.resource) && (bytes_eq t.namespace (list_namespace s.ns) && (bytes_eq t.label (spaced label) && bytes_eq t.field field))
 
+-- a token has both, and is of the list
+abbrev pub place_of : Option ℕ → Option (List ℕ) → Bool → Result (ℕ × List ℕ) TokenNo
+place_of (Some rev) (Some key) of_list = if of_list then Ok (rev, key) else Err OtherList
+place_of rev key of_list = Err NotToken
+
 -- the revision and the key of the texts, or why there are none
 abbrev pub texts_read : Option TokenTexts → Selection → List ℕ → List ℕ → Result (ℕ × List ℕ) TokenNo
 texts_read None s label field = Err NotToken
-texts_read (Some t) s label field =
-    if not (is_token t) then Err NotToken else
-    (if not (is_of_list t s label field) then Err OtherList else Ok (number_in (revision_of t.revision), t.key))
+texts_read (Some t) s label field = place_of (revision_in t) (key_in t) (is_of_list t s label field)
 
 -- the bytes that a text is the encoding of, if it is one
 unfoldable pub token_body : List ℕ → Option (List ℕ)

@@ -1,5 +1,8 @@
-ghost use Rattle.std.specs.Prelude.{◌≡◌, codes};
-ghost use Rattle.list_rules.specs.Asking.{ask_of, Asks};
+//! What a list asks for.
+
+ghost use Rattle.std.specs.Prelude.{◌≡◌, false, IfErr, Err, Some, codes};
+ghost use Rattle.list_rules.specs.Asking.{ask_of, Asks, wraps_memory, refused_token};
+ghost use Rattle.list_rules.specs.Options.{options_of, first_fault};
 
 use crate::options::{Options, limit, text};
 use crate::tokens::read_token;
@@ -32,15 +35,31 @@ pub fn meaning(ask: &ListAsk) -> Meaning
     ask.meaning
 }
 
+// How the refusal of a token is told.
+fn refused_token(fault: TokenNo) -> AskNo
+    ensures { result ≡ refused_token fault }
+{
+    match fault {
+        TokenNo::Memory => AskNo::Memory,
+        fault => AskNo::BadContinue(fault),
+    }
+}
+
 impl ListAsk {
-    /// What the parameters of a list of `selection` ask for: `resourceVersion`, `resourceVersionMatch`, `limit` and `continue`
-    /// of the Kubernetes API concepts. `selection` is what `labelSelector` and `fieldSelector` were read as.
+    ghost use Rattle.list_rules.specs.declared.refusal.AskNo.{AskNo as Fault};
+
+    /// What the parameters of a list of `selection` ask for: `resourceVersion`, `resourceVersionMatch`, `limit` and
+    /// `continue` of the Kubernetes API concepts. `selection` is what `labelSelector` and `fieldSelector` were read
+    /// as.
     pub fn from_params(
         alloc: Global,
         selection: Selection,
         params: &Params,
     ) -> Result<ListAsk, AskNo>
-        ensures { Asks result (ask_of selection params.now) }
+        ensures asked { Asks result (ask_of selection params.now) }
+        // A fault of the other options is told whatever memory there is.
+        ensures told { (fault : Fault) → first_fault (options_of params.now) ≡ Some fault → result ≡ Err fault }
+        ensures plain { IfErr result (λ fault. wraps_memory fault ≡ false) }
     {
         let options = Options::of(params);
         if let Some(fault) = options.first_fault() {
@@ -59,8 +78,7 @@ impl ListAsk {
                     field_text.as_str(),
                 ) {
                     Ok((rev, key)) => (Meaning::Exact(rev), Some(key)),
-                    Err(TokenNo::Memory) => return Err(AskNo::Memory),
-                    Err(fault) => return Err(AskNo::BadContinue(fault)),
+                    Err(fault) => return Err(refused_token(fault)),
                 }
             }
         };

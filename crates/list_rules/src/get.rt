@@ -1,3 +1,5 @@
+//! What a get asks for.
+
 ghost use Rattle.std.specs.Prelude.{◌≡◌, IfOk, IfErr, Ok, Err, codes};
 ghost use Rattle.list_rules.specs.Options.{given, number_of, of_get, IsNeverExact};
 
@@ -14,7 +16,7 @@ pub struct GetAsk {
     pub key: Key,
     /// At which revision; never at one alone.
     pub meaning: Meaning,
-    ghost never_exact: { IsNeverExact meaning },
+    pub ghost never_exact: { IsNeverExact meaning },
 }
 
 impl GetAsk {

@@ -5,15 +5,15 @@
 mod ask;
 mod get;
 mod laws;
+mod left;
 mod options;
 mod refusal;
 mod tokens;
 
 pub use ask::{ListAsk, meaning};
 pub use get::GetAsk;
-pub use laws::pages_join;
+pub use laws::{lefts_are_counted, pages_join};
+pub use left::remaining;
+pub use options::{Match, Number, Options};
 pub use refusal::{AskNo, TokenNo};
 pub use tokens::{read_token, token};
-
-#[cfg(test)]
-mod tests;

@@ -1,3 +1,5 @@
+//! The option table of lists.
+
 ghost use Rattle.std.specs.Prelude.{◌≡◌, IfOk, codes};
 ghost use Rattle.std.specs.Option.{option_map};
 ghost use Rattle.list_rules.specs.Options.{given, text_of, number_of, match_of, options_of, first_fault, limit_of, means, of_get, of_revision, IsNeverExact};
@@ -7,31 +9,37 @@ use http_read::Params;
 use kube_meta::Rev;
 use select_all::Meaning;
 
-// A parameter that is a number.
+/// What a parameter says that is a number.
 #[derive(Clone, Copy, Debug, PartialEq, Eq)]
-pub(crate) enum Number {
+pub enum Number {
     Unset,
+    /// It isn't written as a revision is.
     Refused,
     Is(u64),
 }
 
-// `resourceVersionMatch`.
+/// What `resourceVersionMatch` says.
 #[derive(Clone, Copy, Debug, PartialEq, Eq)]
-pub(crate) enum Match {
+pub enum Match {
     Absent,
     Exactly,
     NotOlderThan,
     Other,
 }
 
-// The options of a list.
+/// The options of a list as they are given, of which the option table speaks.
 #[derive(Clone, Copy, Debug)]
-pub(crate) struct Options {
-    pub(crate) revision: Number,
-    pub(crate) matching: Match,
-    pub(crate) limit: Number,
-    pub(crate) continued: bool,
-    pub(crate) initial_events: bool,
+pub struct Options {
+    /// `resourceVersion`.
+    pub revision: Number,
+    /// `resourceVersionMatch`.
+    pub matching: Match,
+    /// `limit`.
+    pub limit: Number,
+    /// Whether `continue` is set.
+    pub continued: bool,
+    /// Whether `sendInitialEvents` is set, be it to nothing.
+    pub initial_events: bool,
 }
 
 // The number that a parameter says.

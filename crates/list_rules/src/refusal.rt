@@ -1,3 +1,5 @@
+//! Why the options of a list are refused.
+
 ghost use Rattle.std.specs.Prelude.{◌≡◌};
 
 use kube_meta::Memory;

@@ -1,26 +1,26 @@
-ghost use Rattle.std.specs.List.{list_any};
-ghost use Rattle.std.specs.Prelude.{◌≡◌, ◌&&◌, true, false, MatchOption, ◌≤◌, ◌^◌, [], ◌∷◌, ◌++◌, IfOk, IfErr, Ok, Err, Some, None, codes, decimal, string_bytes};
+//! Continue tokens, written and read.
+
+ghost use Rattle.std.specs.Prelude.{◌≡◌, ℕ, List, ◌≤◌, ◌^◌, [], ◌∷◌, ◌++◌, IfOk, IfErr, Ok, Err, Some, None, codes, decimal, string_bytes};
 ghost use Rattle.std.specs.Option.{option_map};
 ghost use Rattle.base64.specs.GeneralPurpose.{encode_of};
-ghost use Rattle.kube_meta.specs.Keys.{IsKey, joined, namespace_of, name_of};
-ghost use Rattle.kube_meta.specs.Names.{is_slash, is_namespace, is_object_name};
+ghost use Rattle.kube_meta.specs.Keys.{IsKey};
 ghost use Rattle.kube_meta.specs.Resources.{plural_of};
 ghost use Rattle.kube_meta.specs.Revisions.{revision_of};
 ghost use Rattle.list_rules.specs.Tokens as spec;
-ghost use Rattle.list_rules.specs.Tokens.{token_lines, token_text, token_read, token_body, ReadsToken, IsOneLine, TokenTexts, line_of, texts_of, spaced, list_namespace, is_key, is_plural, is_token, is_of_list, above_zero, number_in, texts_read};
+ghost use Rattle.list_rules.specs.Tokens.{token_lines, token_text, token_read, token_body, ReadsToken, IsOneLine, TokenTexts, line_of, texts_of, spaced, list_namespace, is_of_list, revision_in, place_of, texts_read};
 ghost use Rattle.list_rules.specs.Seen.{seen};
 
 use crate::{ListAsk, TokenNo};
 use base64::DecodeAllocError;
 use base64::engine::general_purpose::URL_SAFE_NO_PAD;
-use kube_meta::{Key, KeyNo, Memory, Rev, Text};
+use kube_meta::{Key, Memory, Resource, Rev, Text};
 use select_all::Selection;
 use std::alloc::Global;
 
-/// The continue token of a page of the list that ends with the object `last`, at the revision `rev`: the
-/// base64url text without padding (RFC 4648, section 5) of seven texts with a line feed after each of the first six. These are
-/// `1`, the revision, the resource's name in paths, the namespace, empty for all, the key of `last`, the label selector's text
-/// with each line feed replaced by a space, and the field selector's text.
+/// The continue token of a page of the list that ends with the object `last`, at the revision `rev`: the base64url
+/// text without padding (RFC 4648, section 5) of seven texts with a line feed after each of the first six. These are
+/// `1`, the revision, the resource's name in paths, the namespace, empty for all, the key of `last`, the label
+/// selector's text with each line feed replaced by a space, and the field selector's text.
 pub fn token(alloc: Global, ask: &ListAsk, rev: u64, last: &Key) -> Result<Text, Memory>
     ensures text { IfOk result (λ token. token ≡ token_text ask.now.selection ask.now.label_text ask.now.field_text rev last.now) }
     // For a revision that there may be, the token is read back as that revision and key.
@@ -79,8 +79,8 @@ fn namespace(selection: &Selection) -> &str
     }
 }
 
-/// Reads a continue token of the list of `selection`, whose selectors were given as the texts `label` and `field`: the revision
-/// of its pages, and the key behind which the next one begins. A token isn't signed.
+/// Reads a continue token of the list of `selection`, whose selectors were given as the texts `label` and `field`:
+/// the revision of its pages, and the key behind which the next one begins. A token isn't signed.
 pub fn read_token(
     alloc: Global,
     text: &str,
@@ -154,93 +154,41 @@ fn texts_of(body: &[u8]) -> Option<Texts<'_>>
     })
 }
 
-// The revision of at least 1 that a text names.
-fn revision(text: &[u8]) -> Option<u64>
-    ensures { MatchOption result (above_zero (revision_of text.now) ≡ false) (λ n. (above_zero (revision_of text.now) ≡ true) × (number_in (revision_of text.now) ≡ n)) }
+// The revision of at least 1 in texts of the first form, of a resource that there is.
+fn revision(texts: &Texts<'_>) -> Option<u64>
+    ensures { result ≡ revision_in (seen texts.now) }
 {
-    match Rev::read(text) {
+    if texts.version != b"1".as_slice() || Resource::of_plural(texts.resource).is_none() {
+        return None;
+    }
+    match Rev::read(texts.revision) {
         Ok(n) if n > 0 => Some(n),
         _ => None,
     }
 }
 
-// Whether a text is the name of a resource in paths.
-fn is_plural(text: &[u8]) -> bool
-    ensures { result ≡ is_plural text.now }
+// Whether the texts are those of a token of the list, whose label selector's text is `label` once its line feeds are
+// replaced.
+fn is_of_list(texts: &Texts<'_>, selection: &Selection, label: &[u8], field: &str) -> bool
+    ensures { (text : List ℕ) → label.now ≡ spaced text → result ≡ is_of_list (seen texts.now) selection.now text field.now }
 {
-    text == b"pods".as_slice()
-        || text == b"configmaps".as_slice()
-        || text == b"deployments".as_slice()
+    texts.resource == selection.resource.plural().as_bytes()
+        && texts.namespace == namespace(selection).as_bytes()
+        && texts.label == label
+        && texts.field == field.as_bytes()
 }
 
-// The pieces of a text around its first `/`.
-fn around_slash(text: &[u8]) -> Option<(&[u8], &[u8])>
-    ensures { MatchOption result (list_any is_slash text.now ≡ false) (λ pieces. (list_any is_slash text.now ≡ true) × (pieces.0.now ≡ namespace_of text.now) × (pieces.1.now ≡ name_of text.now) × (joined pieces.0.now pieces.1.now ≡ text.now)) }
+// What a token names, from the revision and the key in its texts and from whether it is of the list.
+fn place(rev: Option<u64>, key: Option<Key>, of_list: bool) -> Result<(u64, Key), TokenNo>
+    ensures { result ≡ place_of rev key of_list }
 {
-    match text.iter().position(|b| *b == b'/') {
-        Some(at) => Some((&text[..at], &text[at + 1..])),
-        None => None,
+    match (rev, key) {
+        (Some(rev), Some(key)) => match of_list {
+            true => Ok((rev, key)),
+            false => Err(TokenNo::OtherList),
+        },
+        _ => Err(TokenNo::NotToken),
     }
-}
-
-// The key with that namespace and name, if they are ones.
-fn key_of_texts(alloc: Global, ns: &str, name: &str) -> Result<Option<Key>, Memory>
-    ensures { IfOk result (λ key. MatchOption key ((is_namespace ns.now && is_object_name name.now) ≡ false) (λ k. ((is_namespace ns.now && is_object_name name.now) ≡ true) × (k ≡ joined ns.now name.now))) }
-{
-    match Key::new(Text::new(alloc, ns)?, Text::new(alloc, name)?) {
-        Ok(key) => Ok(Some(key)),
-        Err(KeyNo::Memory) => Err(Memory),
-        Err(_) => Ok(None),
-    }
-}
-
-// The same, where the name may not be UTF-8.
-fn key_with_name(alloc: Global, ns: &str, name: &[u8]) -> Result<Option<Key>, Memory>
-    ensures { IfOk result (λ key. MatchOption key ((is_namespace ns.now && is_object_name name.now) ≡ false) (λ k. ((is_namespace ns.now && is_object_name name.now) ≡ true) × (k ≡ joined ns.now name.now))) }
-{
-    match str::from_utf8(name) {
-        Ok(name) => key_of_texts(alloc, ns, name),
-        Err(_) => Ok(None),
-    }
-}
-
-// The same, where neither may be.
-fn key_of_parts(alloc: Global, ns: &[u8], name: &[u8]) -> Result<Option<Key>, Memory>
-    ensures { IfOk result (λ key. MatchOption key ((is_namespace ns.now && is_object_name name.now) ≡ false) (λ k. ((is_namespace ns.now && is_object_name name.now) ≡ true) × (k ≡ joined ns.now name.now))) }
-{
-    match str::from_utf8(ns) {
-        Ok(ns) => key_with_name(alloc, ns, name),
-        Err(_) => Ok(None),
-    }
-}
-
-// The key that a text is, if it is one.
-fn key(alloc: Global, text: &[u8]) -> Result<Option<Key>, Memory>
-    ensures { IfOk result (λ key. MatchOption key (is_key text.now ≡ false) (λ k. (is_key text.now ≡ true) × (k ≡ text.now))) }
-{
-    match around_slash(text) {
-        Some((ns, name)) => key_of_parts(alloc, ns, name),
-        None => Ok(None),
-    }
-}
-
-// Whether the texts are those of a token of the list.
-fn is_of_list(
-    alloc: Global,
-    texts: &Texts<'_>,
-    selection: &Selection,
-    label: &str,
-    field: &str,
-) -> Result<bool, Memory>
-    ensures { IfOk result (λ answer. answer ≡ is_of_list (seen texts.now) selection.now label.now field.now) }
-{
-    let label = without_line_feeds(alloc, label)?;
-    Ok(
-        texts.resource == selection.resource.plural().as_bytes()
-            && texts.namespace == namespace(selection).as_bytes()
-            && texts.label == label.as_slice()
-            && texts.field == field.as_bytes(),
-    )
 }
 
 // The revision and the key of a token's texts, if it is one of the list.
@@ -253,18 +201,8 @@ fn read_texts(
 ) -> Result<(u64, Key), TokenNo>
     ensures { ReadsToken result (texts_read (Some (seen texts.now)) selection.now label.now field.now) }
 {
-    let Some(rev) = revision(texts.revision) else {
-        return Err(TokenNo::NotToken);
-    };
-    if texts.version != b"1".as_slice() || !is_plural(texts.resource) {
-        return Err(TokenNo::NotToken);
-    }
-    let Some(key) = key(alloc, texts.key)? else {
-        return Err(TokenNo::NotToken);
-    };
-    if is_of_list(alloc, texts, selection, label, field)? {
-        Ok((rev, key))
-    } else {
-        Err(TokenNo::OtherList)
-    }
+    let key = Key::read(alloc, texts.key)?;
+    let label = without_line_feeds(alloc, label)?;
+    let of_list = is_of_list(texts, selection, label.as_slice(), field);
+    place(revision(texts), key, of_list)
 }

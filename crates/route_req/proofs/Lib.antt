@@ -1,3 +1,8 @@
+pub mod Refusals
 pub mod Items
 pub mod Paths
-pub mod Refusals
+pub mod Wrapping
+pub mod PlainItems
+pub mod Readings
+pub mod Outcomes
+pub mod OneAnswer

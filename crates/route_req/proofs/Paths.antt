@@ -1,15 +1,15 @@
 -- How a path is looked up, and the table of paths: what is found has that path, and what has a path is found.
-use Rattle.std.proofs.Common.{◌≡◌, ℕ, Bool, true, false, cond, ◌&&◌, ◌⊎◌, inl, inr, List, [], ◌∷◌, ◌++◌, codes, Option, Some, None, option_map, option_and_then, bytes_eq, refl, sym, ap, subst, ◌∙◌}
+use Rattle.std.proofs.Common.{◌≡◌, ◌==◌, arith, length, ℕ, Bool, true, false, cond, ◌&&◌, ◌⊎◌, inl, inr, List, [], ◌∷◌, ◌++◌, codes, Option, Some, None, option_map, option_and_then, bytes_eq, refl, sym, ap, subst, ◌∙◌}
 use Rattle.std.specs.Option.{option_map_or}
-use Rattle.std.proofs.lemmas.Bool.{and_parts, and_from, cond-true}
+use Rattle.std.proofs.lemmas.Bool.{and_parts, and_from, cond-true, cond-false, ne_eqb}
 use Rattle.std.proofs.lemmas.Option.{none-some, same_Some}
 use Rattle.std.proofs.lemmas.Slice.Eq.{bytes_eq-Decides}
 use Rattle.kube_meta.specs.Names.{is_namespace, is_object_name}
-use Rattle.kube_meta.specs.Resources.{plural_of}
+use Rattle.kube_meta.specs.Resources.{plural_of, group_of, version_of, of_group}
+use Rattle.kube_meta.proofs.ResourceLemmas.{groups}
 use Rattle.kube_meta.specs.declared.resources.Resource.{Resource}
-use Rattle.kube_meta.specs.declared.resources.Resource.TheVariants.{Pods, ConfigMaps, Deployments}
-use Rattle.route_req.specs.Places.{base_of, path_of, IsPlace, Names, NamesMaybe, PathsNameOnePlace}
-use Rattle.route_req.specs.Lookup.{behind, behind_core, behind_apps, resource_in, own_word, own_place, place_behind, place_found}
+use Rattle.route_req.specs.Places.{base_by, base_of, path_of, IsPlace, Names, NamesMaybe, PathsNameOnePlace, takes_memory, MayLackMemory}
+use Rattle.route_req.specs.Lookup.{behind, namespaced, named, own_word, own_place, place_behind, core_place, group_place, place_found}
 use Rattle.route_req.specs.declared.places.Place.{Place}
 use Rattle.route_req.specs.declared.places.Place.TheVariants.{Everywhere, Namespaced, Named, OfCut, OfCompact, OfRestart, OfTransaction}
 
@@ -48,19 +48,6 @@ behind_found word (first ∷ more) rest e =
     let r = same_Some more rest p.1 in
     cc
 
-core_found : (path rest : List (List ℕ)) → behind_core path ≡ Some rest → path ≡ codes "api" ∷ codes "v1" ∷ rest
-core_found path rest e =
-    let p = next_found (behind (codes "v1")) (behind (codes "api") path) rest e in
-    behind_found (codes "api") path p.0 p.1 ∙ ap (λ r. codes "api" ∷ r) (behind_found (codes "v1") p.0 rest p.2)
-
-apps_found : (path rest : List (List ℕ)) → behind_apps path ≡ Some rest → path ≡ codes "apis" ∷ codes "apps" ∷ codes "v1" ∷ rest
-apps_found path rest e =
-    let p = next_found (behind (codes "v1")) (option_and_then (behind (codes "apps")) (behind (codes "apis") path)) rest e in
-    let q = next_found (behind (codes "apps")) (behind (codes "apis") path) p.0 p.1 in
-    behind_found (codes "apis") path q.0 q.1
-    ∙ ap (λ r. codes "apis" ∷ r) (behind_found (codes "apps") q.0 p.0 q.2)
-    ∙ ap (λ r. codes "apis" ∷ codes "apps" ∷ r) (behind_found (codes "v1") p.0 rest p.2)
-
 -- ---- the own paths
 
 moved : (path path' : List (List ℕ)) (p place : Place) → path' ≡ path → p ≡ place → Names path p → Names path' place
@@ -93,103 +80,102 @@ own_found (word ∷ more ∷ rest) place e = absurd (none-some place e)
 
 -- ---- the paths of resources
 
--- what the paths of a group begin with: the core, or `apps`
-abbrev group_base : Bool → List (List ℕ)
-group_base true = codes "api" ∷ codes "v1" ∷ []
-group_base false = codes "apis" ∷ codes "apps" ∷ codes "v1" ∷ []
+-- the names of a resource
+abbrev IsOf : List ℕ → List ℕ → List ℕ → Resource → Type 0
+IsOf group version plural r = (base_by group version ≡ base_of r) × (plural ≡ plural_of r)
 
--- the resource of a group with this name in paths
-abbrev IsOf : Bool → List ℕ → Resource → Type 0
-IsOf is_core plural r = (base_of r ≡ group_base is_core) × (plural ≡ plural_of r)
+resource_found : (group version plural : List ℕ) (r : Resource) → of_group group version plural ≡ Some r → IsOf group version plural r
+resource_found group version plural r e =
+    let names = (groups group version plural r).0 e in
+    (ap (λ g. base_by g version) names.0 ∙ ap (λ v. base_by (group_of r) v) names.1, names.2)
 
-resource_line : (is_core : Bool) (plural name : List ℕ) (x r : Resource) → bytes_eq plural name ≡ true → x ≡ r → IsOf is_core name x → IsOf is_core plural r
-resource_line is_core plural name x r same e n = (ap base_of (sym e) ∙ n.0, same_text plural name same ∙ n.1 ∙ ap plural_of e)
+everywhere_found : (group version plural : List ℕ) (place : Place) → option_map (λ r. Everywhere r) (of_group group version plural) ≡ Some place → Names (base_by group version ++ plural ∷ []) place
+everywhere_found group version plural place e =
+    let p = map_found (λ r. Everywhere r) (of_group group version plural) place e in
+    let o = resource_found group version plural p.0 p.1 in
+    moved (base_of p.0 ++ plural_of p.0 ∷ []) (base_by group version ++ plural ∷ []) (Everywhere p.0) place
+    (ap (λ b. b ++ plural ∷ []) o.0 ∙ ap (λ w. base_of p.0 ++ w ∷ []) o.1) p.2 (refl, tt)
 
-resource_found : (is_core : Bool) (plural : List ℕ) (r : Resource) → resource_in is_core plural ≡ Some r → IsOf is_core plural r
-resource_found true plural r e =
-    elim (first_found (bytes_eq plural (codes "pods")) Pods _ r e) [
-      | inl p ↦ resource_line true plural (codes "pods") Pods r p.0 p.1 (refl, refl)
-      | inr e1 ↦ elim (first_found (bytes_eq plural (codes "configmaps")) ConfigMaps None r e1) [
-        | inl p ↦ resource_line true plural (codes "configmaps") ConfigMaps r p.0 p.1 (refl, refl)
-        | inr e2 ↦ absurd (none-some r e2)
-      ]
-    ]
-resource_found false plural r e =
-    elim (first_found (bytes_eq plural (codes "deployments")) Deployments None r e) [
-      | inl p ↦ resource_line false plural (codes "deployments") Deployments r p.0 p.1 (refl, refl)
-      | inr e1 ↦ absurd (none-some r e1)
-    ]
-
-everywhere_found : (is_core : Bool) (plural : List ℕ) (place : Place) → option_map (λ r. Everywhere r) (resource_in is_core plural) ≡ Some place → Names (group_base is_core ++ plural ∷ []) place
-everywhere_found is_core plural place e =
-    let p = map_found (λ r. Everywhere r) (resource_in is_core plural) place e in
-    let o = resource_found is_core plural p.0 p.1 in
-    moved (base_of p.0 ++ plural_of p.0 ∷ []) (group_base is_core ++ plural ∷ []) (Everywhere p.0) place
-    (ap (λ b. b ++ plural ∷ []) (sym o.0) ∙ ap (λ w. base_of p.0 ++ w ∷ []) o.1) p.2 (refl, tt)
-
-namespaced_found : (is_core : Bool) (word ns plural : List ℕ) (place : Place)
-    → cond (bytes_eq word (codes "namespaces") && is_namespace ns) (option_map (λ r. Namespaced r ns) (resource_in is_core plural)) None ≡ Some place
-    → Names (group_base is_core ++ word ∷ ns ∷ plural ∷ []) place
-namespaced_found is_core word ns plural place e =
-    let t = if_found (bytes_eq word (codes "namespaces") && is_namespace ns) (option_map (λ r. Namespaced r ns) (resource_in is_core plural)) place e in
+namespaced_found : (group version word ns plural : List ℕ) (place : Place)
+    → cond (bytes_eq word (codes "namespaces") && is_namespace ns) (option_map (λ r. Namespaced r ns) (of_group group version plural)) None ≡ Some place
+    → Names (base_by group version ++ word ∷ ns ∷ plural ∷ []) place
+namespaced_found group version word ns plural place e =
+    let t = if_found (bytes_eq word (codes "namespaces") && is_namespace ns) (option_map (λ r. Namespaced r ns) (of_group group version plural)) place e in
     let good = and_parts (bytes_eq word (codes "namespaces")) (is_namespace ns) t.0 in
-    let p = map_found (λ r. Namespaced r ns) (resource_in is_core plural) place t.1 in
-    let o = resource_found is_core plural p.0 p.1 in
-    moved (base_of p.0 ++ codes "namespaces" ∷ ns ∷ plural_of p.0 ∷ []) (group_base is_core ++ word ∷ ns ∷ plural ∷ []) (Namespaced p.0 ns) place
-    (ap (λ b. b ++ word ∷ ns ∷ plural ∷ []) (sym o.0)
+    let p = map_found (λ r. Namespaced r ns) (of_group group version plural) place t.1 in
+    let o = resource_found group version plural p.0 p.1 in
+    moved (base_of p.0 ++ codes "namespaces" ∷ ns ∷ plural_of p.0 ∷ []) (base_by group version ++ word ∷ ns ∷ plural ∷ []) (Namespaced p.0 ns) place
+    (ap (λ b. b ++ word ∷ ns ∷ plural ∷ []) o.0
     ∙ ap (λ w. base_of p.0 ++ w ∷ ns ∷ plural ∷ []) (same_text word (codes "namespaces") good.0)
     ∙ ap (λ w. base_of p.0 ++ codes "namespaces" ∷ ns ∷ w ∷ []) o.1) p.2 (refl, good.1)
 
-named_found : (is_core : Bool) (word ns plural name : List ℕ) (place : Place)
-    → cond (bytes_eq word (codes "namespaces") && (is_namespace ns && is_object_name name)) (option_map (λ r. Named r ns name) (resource_in is_core plural)) None ≡ Some place
-    → Names (group_base is_core ++ word ∷ ns ∷ plural ∷ name ∷ []) place
-named_found is_core word ns plural name place e =
-    let t = if_found (bytes_eq word (codes "namespaces") && (is_namespace ns && is_object_name name)) (option_map (λ r. Named r ns name) (resource_in is_core plural)) place e in
+named_found : (group version word ns plural name : List ℕ) (place : Place)
+    → cond (bytes_eq word (codes "namespaces") && (is_namespace ns && is_object_name name)) (option_map (λ r. Named r ns name) (of_group group version plural)) None ≡ Some place
+    → Names (base_by group version ++ word ∷ ns ∷ plural ∷ name ∷ []) place
+named_found group version word ns plural name place e =
+    let t = if_found (bytes_eq word (codes "namespaces") && (is_namespace ns && is_object_name name)) (option_map (λ r. Named r ns name) (of_group group version plural)) place e in
     let good = and_parts (bytes_eq word (codes "namespaces")) (is_namespace ns && is_object_name name) t.0 in
-    let p = map_found (λ r. Named r ns name) (resource_in is_core plural) place t.1 in
-    let o = resource_found is_core plural p.0 p.1 in
-    moved (base_of p.0 ++ codes "namespaces" ∷ ns ∷ plural_of p.0 ∷ name ∷ []) (group_base is_core ++ word ∷ ns ∷ plural ∷ name ∷ []) (Named p.0 ns name) place
-    (ap (λ b. b ++ word ∷ ns ∷ plural ∷ name ∷ []) (sym o.0)
+    let p = map_found (λ r. Named r ns name) (of_group group version plural) place t.1 in
+    let o = resource_found group version plural p.0 p.1 in
+    moved (base_of p.0 ++ codes "namespaces" ∷ ns ∷ plural_of p.0 ∷ name ∷ []) (base_by group version ++ word ∷ ns ∷ plural ∷ name ∷ []) (Named p.0 ns name) place
+    (ap (λ b. b ++ word ∷ ns ∷ plural ∷ name ∷ []) o.0
     ∙ ap (λ w. base_of p.0 ++ w ∷ ns ∷ plural ∷ name ∷ []) (same_text word (codes "namespaces") good.0)
     ∙ ap (λ w. base_of p.0 ++ codes "namespaces" ∷ ns ∷ w ∷ name ∷ []) o.1) p.2 (refl, and_parts (is_namespace ns) (is_object_name name) good.1)
 
-found_behind : (is_core : Bool) (rest : List (List ℕ)) (place : Place) → place_behind is_core rest ≡ Some place → Names (group_base is_core ++ rest) place
-found_behind is_core [] place e = absurd (none-some place e)
-found_behind is_core (plural ∷ []) place e = everywhere_found is_core plural place e
-found_behind is_core (word ∷ ns ∷ []) place e = absurd (none-some place e)
-found_behind is_core (word ∷ ns ∷ plural ∷ []) place e = namespaced_found is_core word ns plural place e
-found_behind is_core (word ∷ ns ∷ plural ∷ name ∷ []) place e = named_found is_core word ns plural name place e
-found_behind is_core (word ∷ ns ∷ plural ∷ name ∷ more ∷ rest) place e = absurd (none-some place e)
+found_behind : (group version : List ℕ) (rest : List (List ℕ)) (place : Place) → place_behind group version rest ≡ Some place → Names (base_by group version ++ rest) place
+found_behind group version [] place e = absurd (none-some place e)
+found_behind group version (plural ∷ []) place e = everywhere_found group version plural place e
+found_behind group version (word ∷ ns ∷ []) place e = absurd (none-some place e)
+found_behind group version (word ∷ ns ∷ plural ∷ []) place e = namespaced_found group version word ns plural place e
+found_behind group version (word ∷ ns ∷ plural ∷ name ∷ []) place e = named_found group version word ns plural name place e
+found_behind group version (word ∷ ns ∷ plural ∷ name ∷ more ∷ rest) place e = absurd (none-some place e)
 
 -- ---- whole paths
+
+-- a group with a name
+with_name : (first : ℕ) (more : List ℕ) (found : Option Place) → cond (length (first ∷ more) == 0) None found ≡ found
+with_name first more found = cond-false (length (first ∷ more) == 0) None found (ne_eqb (length (first ∷ more)) 0 (omega arith))
+
+core_found : (rest : List (List ℕ)) (place : Place) → core_place rest ≡ Some place → Names (codes "api" ∷ rest) place
+core_found [] place e = absurd (none-some place e)
+core_found (version ∷ rest) place e = found_behind [] version rest place e
+
+group_found : (rest : List (List ℕ)) (place : Place) → group_place rest ≡ Some place → Names (codes "apis" ∷ rest) place
+group_found [] place e = absurd (none-some place e)
+group_found (group ∷ []) place e = absurd (none-some place e)
+group_found ([] ∷ version ∷ rest) place e = absurd (none-some place e)
+group_found ((first ∷ more) ∷ version ∷ rest) place e = found_behind (first ∷ more) version rest place (sym (with_name first more (place_behind (first ∷ more) version rest)) ∙ e)
 
 -- the place that is found has the path
 named_by : (path : List (List ℕ)) (place : Place) → place_found path ≡ Some place → Names path place
 named_by path place e =
     elim (either_found own_place (behind (codes "watchcache") path) _ place e) [
       | inl p ↦ subst (λ q. Names q place) (sym (behind_found (codes "watchcache") path p.0 p.1)) (own_found p.0 place p.2)
-      | inr e1 ↦ elim (either_found (place_behind true) (behind_core path) _ place e1) [
-        | inl p ↦ subst (λ q. Names q place) (sym (core_found path p.0 p.1)) (found_behind true p.0 place p.2)
+      | inr e1 ↦ elim (either_found core_place (behind (codes "api") path) _ place e1) [
+        | inl p ↦ subst (λ q. Names q place) (sym (behind_found (codes "api") path p.0 p.1)) (core_found p.0 place p.2)
         | inr e2 ↦
-            let p = next_found (place_behind false) (behind_apps path) place e2 in
-            subst (λ q. Names q place) (sym (apps_found path p.0 p.1)) (found_behind false p.0 place p.2)
+            let p = next_found group_place (behind (codes "apis") path) place e2 in
+            subst (λ q. Names q place) (sym (behind_found (codes "apis") path p.0 p.1)) (group_found p.0 place p.2)
       ]
     ]
 
 -- the place that has the path is found
+behind_base : (group version : List ℕ) (rest : List (List ℕ)) → place_found (base_by group version ++ rest) ≡ place_behind group version rest
+behind_base [] version rest = refl
+behind_base (first ∷ more) version rest = with_name first more (place_behind (first ∷ more) version rest)
+
+of_names : (r : Resource) → of_group (group_of r) (version_of r) (plural_of r) ≡ Some r
+of_names r = (groups (group_of r) (version_of r) (plural_of r) r).1 (refl, refl, refl)
+
 path_found : (place : Place) → IsPlace place → place_found (path_of place) ≡ Some place
-path_found (Everywhere Pods) h = refl
-path_found (Everywhere ConfigMaps) h = refl
-path_found (Everywhere Deployments) h = refl
-path_found (Namespaced Pods ns) h = cond-true (is_namespace ns) (Some (Namespaced Pods ns)) None h
-path_found (Namespaced ConfigMaps ns) h = cond-true (is_namespace ns) (Some (Namespaced ConfigMaps ns)) None h
-path_found (Namespaced Deployments ns) h = cond-true (is_namespace ns) (Some (Namespaced Deployments ns)) None h
-path_found (Named Pods ns name) h =
-    cond-true (is_namespace ns && is_object_name name) (Some (Named Pods ns name)) None (and_from (is_namespace ns) (is_object_name name) h.0 h.1)
-path_found (Named ConfigMaps ns name) h =
-    cond-true (is_namespace ns && is_object_name name) (Some (Named ConfigMaps ns name)) None (and_from (is_namespace ns) (is_object_name name) h.0 h.1)
-path_found (Named Deployments ns name) h =
-    cond-true (is_namespace ns && is_object_name name) (Some (Named Deployments ns name)) None (and_from (is_namespace ns) (is_object_name name) h.0 h.1)
+path_found (Everywhere r) h = behind_base (group_of r) (version_of r) (plural_of r ∷ []) ∙ ap (option_map (λ r. Everywhere r)) (of_names r)
+path_found (Namespaced r ns) h =
+    behind_base (group_of r) (version_of r) (codes "namespaces" ∷ ns ∷ plural_of r ∷ [])
+    ∙ ap (namespaced (codes "namespaces") ns) (of_names r) ∙ cond-true (is_namespace ns) (Some (Namespaced r ns)) None h
+path_found (Named r ns name) h =
+    behind_base (group_of r) (version_of r) (codes "namespaces" ∷ ns ∷ plural_of r ∷ name ∷ [])
+    ∙ ap (λ found. named (codes "namespaces") ns found name) (of_names r)
+    ∙ cond-true (is_namespace ns && is_object_name name) (Some (Named r ns name)) None (and_from (is_namespace ns) (is_object_name name) h.0 h.1)
 path_found OfCut h = refl
 path_found OfCompact h = refl
 path_found OfRestart h = refl
@@ -208,3 +194,9 @@ NamesMaybe-found path found e = looked_up path found (sym e)
 
 pub one_place : PathsNameOnePlace
 one_place path a b n m = same_Some a b (sym (found_for path a n) ∙ found_for path b m)
+
+-- a place that is found is one whose requests take memory, where that is so
+pub MayLackMemory-found : (path : List (List ℕ)) → option_map takes_memory (place_found path) ≡ Some true → MayLackMemory path
+MayLackMemory-found path e =
+    let p = map_found takes_memory (place_found path) true e in
+    (p.0, named_by path p.0 p.1, p.2)

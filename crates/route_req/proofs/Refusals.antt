@@ -5,7 +5,10 @@ use Rattle.kube_meta.specs.declared.resources.Resource.{Resource}
 use Rattle.json_obj.specs.Objects.{IsTextOf, refusal}
 use Rattle.json_obj.specs.declared.refusals.ObjNo.{ObjNo}
 use Rattle.json_obj.specs.declared.refusals.ObjNo.TheVariants as object_no
-use Rattle.route_req.specs.Asks.{refused_object, RefusesObject}
+use Rattle.route_req.specs.declared.transactions.TxTextNo.{TxTextNo}
+use Rattle.route_req.specs.declared.transactions.TxTextNo.TheVariants as text_no
+use Rattle.route_req.specs.Texts.{RefusesText}
+use Rattle.route_req.specs.Asks.{refused_object, RefusesObject, refused_transaction, RefusesTransact}
 
 pub RefusesObject-told : (r : Resource) (ns : List ℕ) (name : Option (List ℕ)) (body : List ℕ) (fault : ObjNo)
     → (fault ≡ object_no.NotJson → (d : Data) → ¬ (IsTextOf body d))
@@ -17,3 +20,15 @@ RefusesObject-told r ns name body object_no.TooDeep not_json refused = refused (
 RefusesObject-told r ns name body object_no.WrongKind not_json refused = refused (λ e. cc) (λ e. cc)
 RefusesObject-told r ns name body object_no.BadMeta not_json refused = refused (λ e. cc) (λ e. cc)
 RefusesObject-told r ns name body object_no.Memory not_json refused = tt
+
+pub RefusesTransact-told : (body : List ℕ) (fault : TxTextNo) → RefusesText body fault → RefusesTransact body (refused_transaction fault)
+RefusesTransact-told body text_no.NotJson is = is
+RefusesTransact-told body text_no.Float is = is
+RefusesTransact-told body text_no.TooDeep is = is
+RefusesTransact-told body text_no.NotList is = is
+RefusesTransact-told body text_no.Empty is = is
+RefusesTransact-told body text_no.TooManyItems is = is
+RefusesTransact-told body (text_no.BadItem i) is = is
+RefusesTransact-told body (text_no.BadObject i why) is = is
+RefusesTransact-told body (text_no.Repeated i) is = is
+RefusesTransact-told body text_no.Memory is = tt

@@ -1,5 +1,5 @@
 -- What a request asks for, or why it is refused: by its path, its method, its selectors, its options and its body, in this order.
-use Rattle.std.specs.Prelude.{◌≡◌, ℕ, List, Bool, false, Option, Some, None, Result, Ok, Err, codes, option_map}
+use Rattle.std.specs.Prelude.{◌≡◌, ℕ, List, Bool, true, false, Option, Some, None, Result, Ok, Err, codes, option_map}
 use Rattle.std.specs.Bool.{MatchBool}
 use Rattle.std.specs.Option.{option_map_or}
 use Rattle.serde_json.specs.Data.{Data}
@@ -11,19 +11,27 @@ use Rattle.http_read.specs.Queries.{first_value, is_truth}
 use Rattle.http_read.specs.declared.request.Req.{Req}
 use Rattle.select_all.specs.Reading.{selection_of}
 use Rattle.select_all.specs.declared.selection.Selection.{Selection}
+use Rattle.select_all.specs.declared.selection.SelNo.{SelNo}
+use Rattle.select_all.specs.declared.selection.SelNo.TheVariants as select_no
+use Rattle.label_select.specs.declared.refusal.LabelNo.TheVariants as label_no
+use Rattle.field_select.specs.declared.refusal.FieldNo.TheVariants as field_no
 use Rattle.list_rules.specs.Options.{Pairs, given, text_of, number_of, of_get}
 use Rattle.list_rules.specs.Asking.{ask_of}
+use Rattle.list_rules.specs.declared.refusal.AskNo.{AskNo}
+use Rattle.list_rules.specs.declared.refusal.AskNo.TheVariants as ask_no
+use Rattle.list_rules.specs.declared.refusal.TokenNo.TheVariants as token_no
 use Rattle.watch_rules.specs.Options.{first_fault, MeansWatch}
 use Rattle.json_obj.specs.Objects.{IsTextOf, refusal, IsObjectOf, Stores}
 use Rattle.json_obj.specs.declared.refusals.ObjNo.{ObjNo}
 use Rattle.json_obj.specs.declared.refusals.ObjNo.TheVariants as object_no
 use Rattle.up_store.specs.declared.writes.WriteAsk.TheVariants as write
 use Rattle.up_store.specs.declared.operations.Operate.TheVariants as operate
-use Rattle.route_req.specs.Places.{Names, action_at}
+use Rattle.route_req.specs.Places.{Names, action_at, MayLackMemory}
 use Rattle.route_req.specs.Texts.{AsksTransaction, RefusesText}
 use Rattle.route_req.specs.declared.places.Place.{Place}
 use Rattle.route_req.specs.declared.places.Action.{Action}
 use Rattle.route_req.specs.declared.places.Action.TheVariants.{Read, Create, Get, Replace, Remove, Cut, Compact, Restart, Transact}
+use Rattle.route_req.specs.declared.transactions.TxTextNo.{TxTextNo}
 use Rattle.route_req.specs.declared.transactions.TxTextNo.TheVariants as text_no
 use Rattle.route_req.specs.declared.routing.Routed.{Routed}
 use Rattle.route_req.specs.declared.routing.Routed.TheVariants as routed
@@ -101,9 +109,23 @@ Asks Compact req answer = AsksCompact req.params answer
 Asks Restart req answer = answer ≡ routed.Operate operate.Restart
 Asks Transact req answer = AsksTransact req.body answer
 
--- ---- why it is refused there; want of memory may come anywhere
+-- ---- why it is refused there; want of memory may come wherever some is taken
+
+-- how the refusals of the parts are told
+abbrev pub refused_selector : SelNo → RouteNo
+refused_selector select_no.Memory = route_no.Memory
+refused_selector fault = route_no.Selector fault
+
+abbrev pub refused_list : AskNo → RouteNo
+refused_list ask_no.Memory = route_no.Memory
+refused_list fault = route_no.List fault
+
+abbrev pub refused_transaction : TxTextNo → RouteNo
+refused_transaction text_no.Memory = route_no.Memory
+refused_transaction fault = route_no.Transaction fault
 
 abbrev pub RefusesList : Selection → Pairs → RouteNo → Type 0
+RefusesList s params (route_no.List ask_no.Memory) = ⊥
 RefusesList s params (route_no.List fault) = ask_of s params ≡ Err fault
 RefusesList s params route_no.Memory = Unit {0}
 RefusesList s params fault = ⊥
@@ -114,6 +136,7 @@ RefusesWatch params fault = ⊥
 
 -- the selectors first, then the options of the watch or of the list
 abbrev pub RefusesRead : Resource → Option (List ℕ) → Pairs → RouteNo → Type 0
+RefusesRead r ns params (route_no.Selector select_no.Memory) = ⊥
 RefusesRead r ns params (route_no.Selector fault) =
     selection_of r ns (text_of (codes "labelSelector") params) (text_of (codes "fieldSelector") params) ≡ Err fault
 RefusesRead r ns params route_no.Memory = Unit {0}
@@ -127,11 +150,13 @@ refused_object object_no.Memory = route_no.Memory
 refused_object fault = route_no.Object fault
 
 abbrev pub RefusesObject : Resource → List ℕ → Option (List ℕ) → List ℕ → RouteNo → Type 0
+RefusesObject r ns name body (route_no.Object object_no.Memory) = ⊥
 RefusesObject r ns name body (route_no.Object fault) = RefusesBody r ns name body fault
 RefusesObject r ns name body route_no.Memory = Unit {0}
 RefusesObject r ns name body fault = ⊥
 
 abbrev pub RefusesGet : Pairs → RouteNo → Type 0
+RefusesGet params (route_no.List ask_no.Memory) = ⊥
 RefusesGet params (route_no.List fault) = of_get (number_of (given (codes "resourceVersion") params)) ≡ Err fault
 RefusesGet params route_no.Memory = Unit {0}
 RefusesGet params fault = ⊥
@@ -139,7 +164,6 @@ RefusesGet params fault = ⊥
 -- the parameter is absent or is no revision
 abbrev pub RefusesCompact : Pairs → RouteNo → Type 0
 RefusesCompact params route_no.Operation = (at : ℕ) → ¬ (compacts_at params ≡ Some (Ok at))
-RefusesCompact params route_no.Memory = Unit {0}
 RefusesCompact params fault = ⊥
 
 abbrev pub RefusesTransact : List ℕ → RouteNo → Type 0
@@ -166,10 +190,41 @@ abbrev pub IsRoute : Req → Routed → Type 0
 IsRoute req answer =
     (place : Place) × (action : Action) × Names req.path place × (action_at place req.method ≡ Some action) × Asks action req answer
 
--- no place has the path; or the place that has it hasn't the method; or what the method asks for there is refused
+-- no place has the path; or the place that has it hasn't the method; or there was no memory; or what the method asks for
+-- there is refused
 abbrev pub IsRefusal : Req → RouteNo → Type 0
 IsRefusal req route_no.NoPath = (place : Place) → ¬ (Names req.path place)
 IsRefusal req route_no.NoMethod = (place : Place) × Names req.path place × (action_at place req.method ≡ None)
-IsRefusal req route_no.Memory = Unit {0}
+IsRefusal req route_no.Memory = MayLackMemory req.path
 IsRefusal req fault =
     (place : Place) × (action : Action) × Names req.path place × (action_at place req.method ≡ Some action) × Refuses action req fault
+
+-- ---- want of memory is told by itself, and is no reason within another refusal
+
+abbrev pub of_selector : SelNo → Bool
+of_selector (select_no.Label label_no.Memory) = true
+of_selector (select_no.Field field_no.Memory) = true
+of_selector select_no.Memory = true
+of_selector fault = false
+
+abbrev pub of_list : AskNo → Bool
+of_list (ask_no.BadContinue token_no.Memory) = true
+of_list ask_no.Memory = true
+of_list fault = false
+
+abbrev pub of_object : ObjNo → Bool
+of_object object_no.Memory = true
+of_object fault = false
+
+abbrev pub of_text : TxTextNo → Bool
+of_text (text_no.BadObject index object_no.Memory) = true
+of_text text_no.Memory = true
+of_text fault = false
+
+-- the refusal tells of another reason, within which is want of memory
+abbrev pub wraps_memory : RouteNo → Bool
+wraps_memory (route_no.Selector fault) = of_selector fault
+wraps_memory (route_no.List fault) = of_list fault
+wraps_memory (route_no.Object fault) = of_object fault
+wraps_memory (route_no.Transaction fault) = of_text fault
+wraps_memory fault = false

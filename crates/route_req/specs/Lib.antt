@@ -2,3 +2,4 @@ pub mod Places
 pub mod Lookup
 pub mod Texts
 pub mod Asks
+pub mod Outcomes

@@ -1,10 +1,9 @@
--- Which paths and methods are served: those of the Kubernetes API for three resources ("Resource URIs" of the API concepts), and four of the server's own.
-use Rattle.std.specs.Prelude.{◌≡◌, ℕ, List, [], ◌∷◌, ◌++◌, codes, Option, Some, None, if◌then◌else◌}
+-- Which paths and methods are served: those of the Kubernetes API for the resources ("Resource URIs" of the API concepts), and four of the server's own.
+use Rattle.std.specs.Prelude.{◌≡◌, ℕ, Bool, true, false, IsTrue, List, [], ◌∷◌, ◌++◌, codes, Option, Some, None, if◌then◌else◌}
 use Rattle.std.specs.Str.{bytes_eq}
 use Rattle.kube_meta.specs.Names.{IsNamespace, IsObjectName}
-use Rattle.kube_meta.specs.Resources.{plural_of}
+use Rattle.kube_meta.specs.Resources.{plural_of, group_of, version_of}
 use Rattle.kube_meta.specs.declared.resources.Resource.{Resource}
-use Rattle.kube_meta.specs.declared.resources.Resource.TheVariants.{Pods, ConfigMaps, Deployments}
 use Rattle.route_req.specs.declared.places.Place.{Place}
 use Rattle.route_req.specs.declared.places.Place.TheVariants.{Everywhere, Namespaced, Named, OfCut, OfCompact, OfRestart, OfTransaction}
 use Rattle.route_req.specs.declared.places.Action.{Action}
@@ -12,11 +11,14 @@ use Rattle.route_req.specs.declared.places.Action.TheVariants.{Read, Create, Get
 
 -- ---- the table of paths
 
--- what the paths of a resource begin with: /api/v1 in the core group, /apis/apps/v1 in the group `apps`
+-- what the paths of a group's version begin with: /api/{version} in the core group, which has no name, and
+-- /apis/{group}/{version} in another
+abbrev pub base_by : List ℕ → List ℕ → List (List ℕ)
+base_by [] version = codes "api" ∷ version ∷ []
+base_by (first ∷ more) version = codes "apis" ∷ (first ∷ more) ∷ version ∷ []
+
 abbrev pub base_of : Resource → List (List ℕ)
-base_of Pods = codes "api" ∷ codes "v1" ∷ []
-base_of ConfigMaps = codes "api" ∷ codes "v1" ∷ []
-base_of Deployments = codes "apis" ∷ codes "apps" ∷ codes "v1" ∷ []
+base_of r = base_by (group_of r) (version_of r)
 
 -- the path of each place, in segments: behind the base path /{resource}, /namespaces/{ns}/{resource} and
 -- /namespaces/{ns}/{resource}/{name}; and /watchcache/cut, /compact, /restart and /transaction
@@ -84,3 +86,19 @@ IsAction Cut = Unit {0}
 IsAction Compact = Unit {0}
 IsAction Restart = Unit {0}
 IsAction Transact = Unit {0}
+
+-- ---- memory
+
+-- the places whose requests may fail for want of memory: not the operations, which take none
+abbrev pub takes_memory : Place → Bool
+takes_memory (Everywhere r) = true
+takes_memory (Namespaced r ns) = true
+takes_memory (Named r ns name) = true
+takes_memory OfCut = false
+takes_memory OfCompact = false
+takes_memory OfRestart = false
+takes_memory OfTransaction = true
+
+-- the path names one of these
+abbrev pub MayLackMemory : List (List ℕ) → Type 0
+MayLackMemory path = (place : Place) × Names path place × IsTrue (takes_memory place)

@@ -8,13 +8,13 @@ use Rattle.serde_json.specs.View.{items_of}
 use Rattle.kube_meta.specs.Keys.{joined}
 use Rattle.kube_meta.specs.Names.{is_namespace, is_object_name}
 use Rattle.kube_meta.specs.declared.resources.Resource.{Resource}
-use Rattle.kube_meta.specs.declared.resources.Resource.TheVariants.{Pods, ConfigMaps, Deployments}
+use Rattle.kube_meta.specs.Resources.{of_plural}
 use Rattle.json_obj.specs.declared.refusals.ObjNo.{ObjNo}
 use Rattle.json_obj.specs.declared.refusals.ObjNo.TheVariants as object_no
 use Rattle.json_obj.specs.Objects.{IsTextOf, value_refusal, members_refusal, IsObjectOf, Stores}
 use Rattle.up_store.specs.declared.writes.WriteAsk.{WriteAsk}
 use Rattle.up_store.specs.declared.writes.WriteAsk.TheVariants.{Create, Replace, Remove}
-use Rattle.up_store.specs.Transactions.{target_of, IsFirstRepeat}
+use Rattle.up_store.specs.Transactions.{target_of, IsFirstRepeat, AreTransaction}
 use Rattle.route_req.specs.declared.transactions.Operation.{Operation}
 use Rattle.route_req.specs.declared.transactions.Operation.TheVariants as operation
 use Rattle.up_store.specs.declared.transactions.TxNo.{TxNo}
@@ -35,12 +35,6 @@ operation_named text =
     (if bytes_eq text (codes "replace") then Some operation.Replace else
     (if bytes_eq text (codes "remove") then Some operation.Remove else None))
 
-abbrev pub resource_named : List ℕ → Option Resource
-resource_named text =
-    if bytes_eq text (codes "pods") then Some Pods else
-    (if bytes_eq text (codes "configmaps") then Some ConfigMaps else
-    (if bytes_eq text (codes "deployments") then Some Deployments else None))
-
 -- the text, if it passes the test
 abbrev pub checked : (List ℕ → Bool) → List ℕ → Option (List ℕ)
 checked test text = if test text then Some text else None
@@ -53,7 +47,7 @@ abbrev pub operation_in : Data → Option Operation
 operation_in d = option_and_then operation_named (text_at (codes "op") d)
 
 abbrev pub resource_in : Data → Option Resource
-resource_in d = option_and_then resource_named (text_at (codes "resource") d)
+resource_in d = option_and_then of_plural (text_at (codes "resource") d)
 
 abbrev pub namespace_in : Data → Option (List ℕ)
 namespace_in d = option_and_then (checked is_namespace) (text_at (codes "namespace") d)
@@ -133,8 +127,9 @@ IsListOfItems body ds = IsList body ds × (1 ≤ length ds) × (length ds ≤ 64
 abbrev pub ReachesItem : List Data → ℕ → Data → Type 0
 ReachesItem ds i d = ((asks : List WriteAsk) × AskAll (take i ds) asks) × (slice_get ds i ≡ Some d)
 
+-- writes of distinct objects
 abbrev pub AsksTransaction : List ℕ → List WriteAsk → Type 0
-AsksTransaction body asks = (ds : List Data) × IsListOfItems body ds × AskAll ds asks
+AsksTransaction body asks = (ds : List Data) × IsListOfItems body ds × AskAll ds asks × AreTransaction asks
 
 -- The first of these that holds, in the order of `TxTextNo`.
 abbrev pub RefusesText : List ℕ → TxTextNo → Type 0

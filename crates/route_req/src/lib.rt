@@ -2,13 +2,14 @@
 //! first reason why it has none.
 #![tactic(auto)]
 
+mod laws;
 mod places;
 mod routing;
 mod transactions;
 
-pub use places::paths_name_one_place;
+pub use laws::{
+    answers_agree, item_objects_are_plain, paths_name_one_place, refusals_agree,
+    routes_are_not_refused,
+};
 pub use routing::{RouteNo, Routed, route};
 pub use transactions::TxTextNo;
-
-#[cfg(test)]
-mod tests;

@@ -1,5 +1,6 @@
-// Which paths and methods are served.
-ghost use Rattle.std.specs.Prelude.{◌≡◌, IfOk, IfSome, option_map};
+//! Which paths and methods are served.
+
+ghost use Rattle.std.specs.Prelude.{◌≡◌, true, Some, IfOk, OnErr, IfSome, option_map};
 ghost use Rattle.kube_meta.specs.Names.{IsNamespace, IsObjectName};
 ghost use Rattle.route_req.specs.Places as places;
 ghost use Rattle.route_req.specs.Lookup as lookup;
@@ -50,59 +51,10 @@ fn behind<'p>(path: &'p [Text], word: &str) -> Option<&'p [Text]>
     }
 }
 
-fn behind_core(path: &[Text]) -> Option<&[Text]>
-    ensures { option_map (λ rest. rest.now) result ≡ lookup.behind_core path.now }
-{
-    match behind(path, "api") {
-        Some(rest) => behind(rest, "v1"),
-        None => None,
-    }
-}
-
-fn behind_apps(path: &[Text]) -> Option<&[Text]>
-    ensures { option_map (λ rest. rest.now) result ≡ lookup.behind_apps path.now }
-{
-    let Some(rest) = behind(path, "apis") else {
-        return None;
-    };
-    match behind(rest, "apps") {
-        Some(rest) => behind(rest, "v1"),
-        None => None,
-    }
-}
-
-// The resource of a group with this name in paths; the group `apps` has other resources than the core.
-fn resource(plural: &Text, is_core: bool) -> Option<Resource>
-    ensures { result ≡ lookup.resource_in is_core plural.now }
-{
-    match is_core {
-        true => core_resource(plural.as_str()),
-        false => apps_resource(plural.as_str()),
-    }
-}
-
-fn core_resource(plural: &str) -> Option<Resource>
-    ensures { result ≡ lookup.core_resource plural.now }
-{
-    match plural {
-        "pods" => Some(Resource::Pods),
-        "configmaps" => Some(Resource::ConfigMaps),
-        _ => None,
-    }
-}
-
-fn apps_resource(plural: &str) -> Option<Resource>
-    ensures { result ≡ lookup.apps_resource plural.now }
-{
-    match plural {
-        "deployments" => Some(Resource::Deployments),
-        _ => None,
-    }
-}
-
 // The place of all of a resource in one namespace.
 fn namespaced(word: &Text, ns: &Text, resource: Option<Resource>) -> Result<Option<Place>, Memory>
-    ensures { IfOk result (λ place. place ≡ lookup.namespaced word.now ns.now resource) }
+    ensures found { IfOk result (λ place. place ≡ lookup.namespaced word.now ns.now resource) }
+    ensures memory { OnErr result (option_map places.takes_memory (lookup.namespaced word.now ns.now resource) ≡ Some true) }
 {
     if word.as_str() != "namespaces" || !is_namespace(ns.as_str()) {
         return Ok(None);
@@ -120,7 +72,8 @@ fn named(
     resource: Option<Resource>,
     name: &Text,
 ) -> Result<Option<Place>, Memory>
-    ensures { IfOk result (λ place. place ≡ lookup.named word.now ns.now resource name.now) }
+    ensures found { IfOk result (λ place. place ≡ lookup.named word.now ns.now resource name.now) }
+    ensures memory { OnErr result (option_map places.takes_memory (lookup.named word.now ns.now resource name.now) ≡ Some true) }
 {
     if word.as_str() != "namespaces"
         || !is_namespace(ns.as_str())
@@ -134,14 +87,53 @@ fn named(
     }
 }
 
-// The place of the segments behind a base path.
-fn place_behind(path: &[Text], is_core: bool) -> Result<Option<Place>, Memory>
-    ensures { IfOk result (λ place. place ≡ lookup.place_behind is_core path.now) }
+// The place of the segments behind what the paths of a group's version begin with.
+fn place_behind(group: &str, version: &str, path: &[Text]) -> Result<Option<Place>, Memory>
+    ensures found { IfOk result (λ place. place ≡ lookup.place_behind group.now version.now path.now) }
+    ensures memory { OnErr result (option_map places.takes_memory (lookup.place_behind group.now version.now path.now) ≡ Some true) }
 {
     match path {
-        [plural] => Ok(resource(plural, is_core).map(Place::Everywhere)),
-        [word, ns, plural] => namespaced(word, ns, resource(plural, is_core)),
-        [word, ns, plural, name] => named(word, ns, resource(plural, is_core), name),
+        [plural] => Ok(Resource::of_group(group, version, plural.as_str()).map(Place::Everywhere)),
+        [word, ns, plural] => {
+            namespaced(
+                word,
+                ns,
+                Resource::of_group(group, version, plural.as_str()),
+            )
+        }
+        [word, ns, plural, name] => {
+            named(
+                word,
+                ns,
+                Resource::of_group(group, version, plural.as_str()),
+                name,
+            )
+        }
+        _ => Ok(None),
+    }
+}
+
+// The place of the segments behind `api`, of the core group, which has no name.
+fn core_place(path: &[Text]) -> Result<Option<Place>, Memory>
+    ensures found { IfOk result (λ place. place ≡ lookup.core_place path.now) }
+    ensures memory { OnErr result (option_map places.takes_memory (lookup.core_place path.now) ≡ Some true) }
+{
+    match path {
+        [version, rest @ ..] => place_behind("", version.as_str(), rest),
+        _ => Ok(None),
+    }
+}
+
+// The place of the segments behind `apis`, of a group that has one.
+fn group_place(path: &[Text]) -> Result<Option<Place>, Memory>
+    ensures found { IfOk result (λ place. place ≡ lookup.group_place path.now) }
+    ensures memory { OnErr result (option_map places.takes_memory (lookup.group_place path.now) ≡ Some true) }
+{
+    match path {
+        [group, version, rest @ ..] => match group.as_str().is_empty() {
+            true => Ok(None),
+            false => place_behind(group.as_str(), version.as_str(), rest),
+        },
         _ => Ok(None),
     }
 }
@@ -170,23 +162,25 @@ fn own_place(path: &[Text]) -> Option<Place>
 
 /// The place that a path names, if it names one.
 pub(crate) fn place_at(path: &[Text]) -> Result<Option<Place>, Memory>
-    ensures { IfOk result (places.NamesMaybe path.now) }
+    ensures named { IfOk result (places.NamesMaybe path.now) }
+    ensures memory { OnErr result (places.MayLackMemory path.now) }
 {
     look_up(path)
 }
 
 // The place of a path, of the own ones first.
 fn look_up(path: &[Text]) -> Result<Option<Place>, Memory>
-    ensures { IfOk result (λ place. place ≡ lookup.place_found path.now) }
+    ensures found { IfOk result (λ place. place ≡ lookup.place_found path.now) }
+    ensures memory { OnErr result (option_map places.takes_memory (lookup.place_found path.now) ≡ Some true) }
 {
     if let Some(rest) = behind(path, "watchcache") {
         return Ok(own_place(rest));
     }
-    if let Some(rest) = behind_core(path) {
-        return place_behind(rest, true);
+    if let Some(rest) = behind(path, "api") {
+        return core_place(rest);
     }
-    match behind_apps(path) {
-        Some(rest) => place_behind(rest, false),
+    match behind(path, "apis") {
+        Some(rest) => group_place(rest),
         None => Ok(None),
     }
 }
@@ -255,8 +249,3 @@ fn posted(action: Action, method: &str) -> Option<Action>
         _ => None,
     }
 }
-
-/// A path names at most one place, so that a request has one route.
-pub fn paths_name_one_place()
-    ensures { places.PathsNameOnePlace }
-{}

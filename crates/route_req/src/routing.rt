@@ -1,5 +1,6 @@
-// Routes.
-ghost use Rattle.std.specs.Prelude.{◌≡◌, ℕ, IfOk, IfErr, IsTrue, Some, None, Ok, Err, codes};
+//! Routes.
+
+ghost use Rattle.std.specs.Prelude.{◌≡◌, ℕ, IfOk, IfErr, IsTrue, Some, None, Ok, Err, false, codes};
 ghost use Rattle.kube_meta.specs.Names.{IsNamespace, IsObjectName};
 ghost use Rattle.route_req.specs.Places.{IsAction};
 ghost use Rattle.route_req.specs.Asks as asks;
@@ -74,6 +75,44 @@ fn is_watch(params: &Params) -> bool
     params.truth("watch").unwrap_or(false)
 }
 
+// How the refusals of the parts are told.
+
+fn refused_selector(fault: SelNo) -> RouteNo
+    ensures { result ≡ asks.refused_selector fault }
+{
+    match fault {
+        SelNo::Memory => RouteNo::Memory,
+        fault => RouteNo::Selector(fault),
+    }
+}
+
+fn refused_list(fault: AskNo) -> RouteNo
+    ensures { result ≡ asks.refused_list fault }
+{
+    match fault {
+        AskNo::Memory => RouteNo::Memory,
+        fault => RouteNo::List(fault),
+    }
+}
+
+fn refused_transaction(fault: TxTextNo) -> RouteNo
+    ensures { result ≡ asks.refused_transaction fault }
+{
+    match fault {
+        TxTextNo::Memory => RouteNo::Memory,
+        fault => RouteNo::Transaction(fault),
+    }
+}
+
+fn refused_object(fault: ObjNo) -> RouteNo
+    ensures { result ≡ asks.refused_object fault }
+{
+    match fault {
+        ObjNo::Memory => RouteNo::Memory,
+        fault => RouteNo::Object(fault),
+    }
+}
+
 // The selection of a read.
 fn selection(
     alloc: Global,
@@ -88,8 +127,7 @@ fn selection(
     let field = params.get("fieldSelector").unwrap_or("");
     match Selection::read(alloc, resource, ns, label, field) {
         Ok(selection) => Ok(selection),
-        Err(SelNo::Memory) => Err(RouteNo::Memory),
-        Err(fault) => Err(RouteNo::Selector(fault)),
+        Err(fault) => Err(refused_selector(fault)),
     }
 }
 
@@ -119,8 +157,7 @@ fn list(alloc: Global, selection: Selection, params: &Params) -> Result<Routed, 
 {
     match ListAsk::from_params(alloc, selection, params) {
         Ok(ask) => Ok(Routed::List(ask)),
-        Err(AskNo::Memory) => Err(RouteNo::Memory),
-        Err(fault) => Err(RouteNo::List(fault)),
+        Err(fault) => Err(refused_list(fault)),
     }
 }
 
@@ -131,16 +168,6 @@ fn watch(selection: Selection, params: &Params) -> Result<Routed, RouteNo>
     match WatchAsk::from_params(selection, params) {
         Ok(ask) => Ok(Routed::Watch(ask)),
         Err(fault) => Err(RouteNo::Watch(fault)),
-    }
-}
-
-// The refusal of a body.
-fn refused_object(fault: ObjNo) -> RouteNo
-    ensures { result ≡ asks.refused_object fault }
-{
-    match fault {
-        ObjNo::Memory => RouteNo::Memory,
-        fault => RouteNo::Object(fault),
     }
 }
 
@@ -218,8 +245,7 @@ fn transact(alloc: Global, body: &[u8]) -> Result<Routed, RouteNo>
 {
     match transaction(alloc, body) {
         Ok(transaction) => Ok(Routed::Transact(transaction)),
-        Err(TxTextNo::Memory) => Err(RouteNo::Memory),
-        Err(fault) => Err(RouteNo::Transaction(fault)),
+        Err(fault) => Err(refused_transaction(fault)),
     }
 }
 
@@ -254,6 +280,7 @@ fn act(alloc: Global, action: Action, req: &Req) -> Result<Routed, RouteNo>
 pub fn route(alloc: Global, req: &Req) -> Result<Routed, RouteNo>
     ensures ok { IfOk result (IsRoute req.now) }
     ensures refused { IfErr result (IsRefusal req.now) }
+    ensures plain { IfErr result (λ fault. asks.wraps_memory fault ≡ false) }
 {
     let Some(place) = place_at(req.path.as_slice())? else {
         return Err(RouteNo::NoPath);

@@ -1,4 +1,5 @@
-// The text of a transaction.
+//! The text of a transaction.
+
 ghost use Rattle.std.specs.Prelude.{◌≡◌, ◌≢◌, ◌≤◌, ℕ, List, length, map, IfOk, IfErr, IfSome, Some, None, true, false, option_map, is_some};
 ghost use Rattle.serde_json.specs.Data.{Data};
 ghost use Rattle.serde_json.specs.View.{view, items_of};
@@ -102,22 +103,11 @@ fn operation_in(value: &Value) -> Option<Operation>
     }
 }
 
-fn resource_named(text: &str) -> Option<Resource>
-    ensures { result ≡ texts.resource_named text.now }
-{
-    match text {
-        "pods" => Some(Resource::Pods),
-        "configmaps" => Some(Resource::ConfigMaps),
-        "deployments" => Some(Resource::Deployments),
-        _ => None,
-    }
-}
-
 fn resource_in(value: &Value) -> Option<Resource>
     ensures { result ≡ texts.resource_in (view value.now) }
 {
     match text_at(value, "resource") {
-        Some(text) => resource_named(text),
+        Some(text) => Resource::of_plural(text.as_bytes()),
         None => None,
     }
 }

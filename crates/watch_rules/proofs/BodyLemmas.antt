@@ -1,25 +1,23 @@
 -- Bodies of watches: how far they reach, what they tell, and that they stay as the log grows.
-use Rattle.std.proofs.Common.{◌≡◌, ℕ, zero, suc, ◌-◌, ◌≤◌, max, inl, inr, Bool, true, false, List, [], ◌∷◌, ◌++◌, map, filter_map, take, drop, Option, Some, None, IfSome, if◌then◌else◌, refl, sym, ap, ◌∙◌, append_assoc, arith}
-use Rattle.std.specs.Prelude.{sum_by}
-use Rattle.std.proofs.Math.Seq.{take-nil, drop-nil}
-use Rattle.std.proofs.lemmas.List.{append-nil, length-append}
+use Rattle.std.proofs.Common.{◌≡◌, ℕ, ◌≤◌, max, Bool, true, false, List, [], ◌∷◌, ◌++◌, map, Option, Some, None, IfSome, if◌then◌else◌, refl, sym, ap, ◌∙◌, append_assoc, arith}
+use Rattle.std.proofs.lemmas.List.{append-nil}
 use Rattle.std.proofs.lemmas.List.Elements.{filter_map-append}
-use Rattle.std.proofs.lemmas.List.Sums.{sum_by-cons}
 use Rattle.kube_meta.specs.declared.resources.Resource.{Resource}
 use Rattle.kube_meta.specs.Rows.{RowData}
 use Rattle.rev_log.specs.Changes.{RevisionData}
 use Rattle.rev_log.specs.Logs.{Log, grown, end_of}
-use Rattle.rev_log.specs.States.{row_at}
-use Rattle.rev_log.proofs.GrowthLemmas.{IsStateAt-grown}
 use Rattle.select_all.specs.declared.selection.Selection.{Selection}
-use Rattle.select_all.specs.Streams.{TransitionData, events_from, transition, transitions}
-use Rattle.select_all.specs.Floors.{changes_in, changes_between, IsPassed, IsEvicted}
-use Rattle.select_all.proofs.StreamLaws.{between-none, transitions_are_joined, transitions_are_kept}
+use Rattle.select_all.specs.Selecting.{selects}
+use Rattle.select_all.specs.Streams.{TransitionData, transitions}
+use Rattle.select_all.specs.Floors.{IsEvicted}
+use Rattle.select_all.proofs.StreamLaws.{no_transitions, transitions_are_joined, transitions_are_kept}
+use Rattle.select_all.proofs.ListingLaws.{listings_are_kept}
+use Rattle.select_all.proofs.FloorSteps.{end-grows, evictions_stay}
 use Rattle.watch_rules.specs.declared.starts.Start.{Start}
 use Rattle.watch_rules.specs.declared.starts.Start.TheVariants.{FromState, FromHere, FromRevision}
 use Rattle.watch_rules.specs.declared.ask.WatchAsk.{WatchAsk}
-use Rattle.watch_rules.specs.Bodies.{Line, Told, Bookmark, Closing, Piece, Upto, Mark, Body, with_piece, position_after, position_of, initial, opening_lines, piece_lines, loss_lines, IsOpening, ArePieces, told_by, told_in}
-use Rattle.watch_rules.specs.Laws.{BodiesTellTheStream, PositionsRise, BodiesStay, BodiesGoOn}
+use Rattle.watch_rules.specs.Bodies.{Line, Told, Bookmark, Closing, Lost, Piece, Upto, Mark, Body, with_piece, position_after, position_of, initial, initial_lines, opening_lines, piece_lines, loss_lines, IsOpening, ArePieces, told_by, told_in}
+use Rattle.watch_rules.specs.Laws.{BodiesTellTheStream, PositionsRise, BodiesStay, BodiesBegin, BodiesGoOn, BodiesEnd}
 
 -- ---- positions
 
@@ -39,11 +37,11 @@ positions_are_between log log_floor low ask body is =
 
 -- ---- what lines carry
 
-told_in-map : (all : List TransitionData) → told_in (map Told all) ≡ all
+pub told_in-map : (all : List TransitionData) → told_in (map Told all) ≡ all
 told_in-map [] = refl
 told_in-map (x ∷ more) = ap (λ rest. x ∷ rest) (told_in-map more)
 
-told_in-rows : (rows : List RowData) → told_in (map (λ row. Told (initial row)) rows) ≡ map initial rows
+told_in-rows : (rows : List RowData) → told_in (initial_lines rows) ≡ map initial rows
 told_in-rows [] = refl
 told_in-rows (x ∷ more) = ap (λ rest. initial x ∷ rest) (told_in-rows more)
 
@@ -55,75 +53,44 @@ told_in-loss : (position : ℕ) (loss : Option ℕ) → told_in (loss_lines posi
 told_in-loss position None = refl
 told_in-loss position (Some floor) = refl
 
-no_transitions : (log : Log) (s : Selection) (at : ℕ) → transitions log s at at ≡ []
-no_transitions log s at = ap (λ revisions. filter_map (transition s) (events_from s.resource (row_at log s.resource at) revisions)) (between-none log at at (omega arith))
+pub none_told : (log : Log) (s : Selection) (at : ℕ) → transitions log s at at ≡ []
+none_told log s at = no_transitions (selects s) log s.resource at at (omega arith)
 
 pub told_in-pieces : (log : Log) (s : Selection) (bookmarks : Bool) (from : ℕ) (pieces : List Piece) → ArePieces log bookmarks from pieces → told_in (piece_lines log s from pieces) ≡ transitions log s from (position_after from pieces)
-told_in-pieces log s bookmarks from [] are = sym (no_transitions log s from)
+told_in-pieces log s bookmarks from [] are = sym (none_told log s from)
 told_in-pieces log s bookmarks from (Upto to ∷ more) are =
     filter_map-append told_by (map Told (transitions log s from to)) (piece_lines log s to more)
     ∙ ap (λ all. all ++ told_in (piece_lines log s to more)) (told_in-map (transitions log s from to))
     ∙ ap (λ rest. transitions log s from to ++ rest) (told_in-pieces log s bookmarks to more are.2)
-    ∙ transitions_are_joined log s from to (position_after to more) are.0 (position-rises log bookmarks to more are.2)
+    ∙ transitions_are_joined (selects s) log s.resource from to (position_after to more) are.0 (position-rises log bookmarks to more are.2)
 told_in-pieces log s bookmarks from (Mark ∷ more) are = told_in-pieces log s bookmarks from more are.2
 
-told_in-opening : (ask : WatchAsk) (body : Body) → told_in (opening_lines ask body) ≡ map initial body.rows
+told_in-opening : (ask : WatchAsk) (body : Body) → told_in (opening_lines ask body.at body.rows) ≡ map initial body.rows
 told_in-opening ask body =
-    filter_map-append told_by (map (λ row. Told (initial row)) body.rows) (if ask.closing then Closing body.at ∷ [] else [])
-    ∙ ap (λ rest. told_in (map (λ row. Told (initial row)) body.rows) ++ rest) (told_in-closing ask.closing body.at)
-    ∙ append-nil (told_in (map (λ row. Told (initial row)) body.rows))
+    filter_map-append told_by (initial_lines body.rows) (if ask.closing then Closing body.at ∷ [] else [])
+    ∙ ap (λ rest. told_in (initial_lines body.rows) ++ rest) (told_in-closing ask.closing body.at)
+    ∙ append-nil (told_in (initial_lines body.rows))
     ∙ told_in-rows body.rows
 
 pub streams_are_told : BodiesTellTheStream
 streams_are_told log log_floor low ask body is =
     let pieces : List Line = piece_lines log ask.selection body.at body.pieces in
-    filter_map-append told_by (opening_lines ask body ++ pieces) (loss_lines (position_of body) body.loss)
-    ∙ ap (λ rest. told_in (opening_lines ask body ++ pieces) ++ rest) (told_in-loss (position_of body) body.loss)
-    ∙ append-nil (told_in (opening_lines ask body ++ pieces))
-    ∙ filter_map-append told_by (opening_lines ask body) pieces
+    filter_map-append told_by (opening_lines ask body.at body.rows ++ pieces) (loss_lines (position_of body) body.loss)
+    ∙ ap (λ rest. told_in (opening_lines ask body.at body.rows ++ pieces) ++ rest) (told_in-loss (position_of body) body.loss)
+    ∙ append-nil (told_in (opening_lines ask body.at body.rows ++ pieces))
+    ∙ filter_map-append told_by (opening_lines ask body.at body.rows) pieces
     ∙ ap (λ first. first ++ told_in pieces) (told_in-opening ask body)
     ∙ ap (λ rest. map initial body.rows ++ rest) (told_in-pieces log ask.selection ask.bookmarks body.at body.pieces is.pieces)
 
 -- ---- a log that grows
 
-end-grows : (log : Log) (more : List RevisionData) → end_of log ≤ end_of (grown log more)
-end-grows log more = omega (arith, length-append log.revisions more)
-
--- counts of a part of a list, as the list and the part grow
-part-grows : (f : RevisionData → ℕ) (p m n : ℕ) (xs more : List RevisionData) → m ≤ n → sum_by f (drop p (take m xs)) ≤ sum_by f (drop p (take n (xs ++ more)))
-part-grows f p m n [] more le = rw (take-nil, drop-nil) (omega arith)
-part-grows f p zero n (x ∷ xs) more le = rw drop-nil (omega arith)
-part-grows f p (suc m) zero (x ∷ xs) more le = absurd (omega (arith, le))
-part-grows f zero (suc m) (suc n) (x ∷ xs) more le = rw (sum_by-cons, sum_by-cons) (omega (arith, part-grows f zero m n xs more (omega (arith, le))))
-part-grows f (suc p) (suc m) (suc n) (x ∷ xs) more le = part-grows f p m n xs more (omega (arith, le))
-
-count-grows : (log : Log) (more : List RevisionData) (resource : Resource) (a b c : ℕ) → b ≤ c → changes_between log resource a b ≤ changes_between (grown log more) resource a c
-count-grows log more resource a b c le = part-grows (changes_in resource) (a - log.first) (b - log.first) (c - log.first) log.revisions more (omega (arith, le))
-
-pub IsPassed-grown : (log : Log) (more : List RevisionData) (resource : Resource) (low n : ℕ) → IsPassed log resource low (end_of log) n → IsPassed (grown log more) resource low (end_of (grown log more)) n
-IsPassed-grown log more resource low n passed = record {
-  changed = omega (arith, passed.changed, count-grows log more resource (n - 1) n n (omega arith));
-  above = omega (arith, passed.above, count-grows log more resource n (end_of log) (end_of (grown log more)) (end-grows log more));
-}
-
-pub IsEvicted-grown : (log : Log) (more : List RevisionData) (log_floor later_floor low : ℕ) (resource : Resource) (a n : ℕ) → log_floor ≤ later_floor → IsEvicted log log_floor low resource a n → IsEvicted (grown log more) later_floor low resource a n
-IsEvicted-grown log more log_floor later_floor low resource a n rises lost = record {
-  below = lost.below;
-  cause = elim lost.cause [
-    | inl floor ↦ inl (omega (arith, floor, rises))
-    | inr passed ↦ inr (IsPassed-grown log more resource low n passed)
-  ];
-}
-
 loss-stays : (log : Log) (more : List RevisionData) (log_floor later_floor low : ℕ) (resource : Resource) (position : ℕ) (loss : Option ℕ) → log_floor ≤ later_floor → IfSome loss (λ floor. IsEvicted log log_floor low resource position floor) → IfSome loss (λ floor. IsEvicted (grown log more) later_floor low resource position floor)
 loss-stays log more log_floor later_floor low resource position None rises lost = tt
-loss-stays log more log_floor later_floor low resource position (Some floor) rises lost = IsEvicted-grown log more log_floor later_floor low resource position floor rises lost
+loss-stays log more log_floor later_floor low resource position (Some floor) rises lost = evictions_stay log more log_floor later_floor low resource position floor rises lost
 
 opening-stays : (log : Log) (more : List RevisionData) (s : Selection) (start : Start) (at : ℕ) (rows : List RowData) → IsOpening log s start at rows → IsOpening (grown log more) s start at rows
-opening-stays log more s (FromState meaning) at rows is = (
-  record { state = (is.0).state; is_state = IsStateAt-grown log more s.resource at (is.0).state is.1 (is.0).is_state; selected = (is.0).selected },
-  omega (arith, is.1, end-grows log more),
-)
+opening-stays log more s (FromState meaning) at rows is =
+    (listings_are_kept (selects s) log more s.resource at rows is.1 is.0, omega (arith, is.1, end-grows log more))
 opening-stays log more s (FromHere meaning) at rows is = (is.0, omega (arith, is.1, end-grows log more))
 opening-stays log more s (FromRevision revision) at rows is = is
 
@@ -135,7 +102,7 @@ pieces-stay log more bookmarks from (Mark ∷ rest) are = (are.0, omega (arith, 
 pub piece_lines-grown : (log : Log) (more : List RevisionData) (s : Selection) (bookmarks : Bool) (from : ℕ) (pieces : List Piece) → ArePieces log bookmarks from pieces → piece_lines (grown log more) s from pieces ≡ piece_lines log s from pieces
 piece_lines-grown log more s bookmarks from [] are = refl
 piece_lines-grown log more s bookmarks from (Upto to ∷ rest) are =
-    ap (λ all. map Told all ++ piece_lines (grown log more) s to rest) (transitions_are_kept log more s from to (omega (arith, are.1)))
+    ap (λ all. map Told all ++ piece_lines (grown log more) s to rest) (transitions_are_kept (selects s) log more s.resource from to (omega (arith, are.1)))
     ∙ ap (λ lines. map Told (transitions log s from to) ++ lines) (piece_lines-grown log more s bookmarks to rest are.2)
 piece_lines-grown log more s bookmarks from (Mark ∷ rest) are = ap (λ lines. Bookmark from ∷ lines) (piece_lines-grown log more s bookmarks from rest are.2)
 
@@ -146,12 +113,12 @@ bodies_are_kept log more log_floor later_floor low ask body rises is = (
     pieces = pieces-stay log more ask.bookmarks body.at body.pieces is.pieces;
     lost = loss-stays log more log_floor later_floor low ask.selection.resource (position_of body) body.loss rises is.lost;
   },
-  ap (λ lines. opening_lines ask body ++ lines ++ loss_lines (position_of body) body.loss) (piece_lines-grown log more ask.selection ask.bookmarks body.at body.pieces is.pieces),
+  ap (λ lines. opening_lines ask body.at body.rows ++ lines ++ loss_lines (position_of body) body.loss) (piece_lines-grown log more ask.selection ask.bookmarks body.at body.pieces is.pieces),
 )
 
 -- ---- a body that goes on
 
-position-append : (from : ℕ) (pieces more : List Piece) → position_after from (pieces ++ more) ≡ position_after (position_after from pieces) more
+pub position-append : (from : ℕ) (pieces more : List Piece) → position_after from (pieces ++ more) ≡ position_after (position_after from pieces) more
 position-append from [] more = refl
 position-append from (Upto to ∷ rest) more = position-append to rest more
 position-append from (Mark ∷ rest) more = position-append from rest more
@@ -184,10 +151,25 @@ bodies_go_on log log_floor low ask body piece none is next =
         pieces = pieces-append log ask.bookmarks body.at body.pieces (piece ∷ []) is.pieces next;
         lost = none_is_lost body.loss (λ floor. IsEvicted log log_floor low ask.selection.resource (position_of (with_piece body piece)) floor) none;
       },
-      ap (λ last. opening_lines ask body ++ piece_lines log ask.selection body.at (body.pieces ++ piece ∷ []) ++ last) (no_loss (position_of (with_piece body piece)) body.loss none)
-          ∙ append-nil (opening_lines ask body ++ piece_lines log ask.selection body.at (body.pieces ++ piece ∷ []))
-          ∙ ap (λ lines. opening_lines ask body ++ lines) (piece_lines-append log ask.selection body.at body.pieces (piece ∷ []))
-          ∙ sym (append_assoc (opening_lines ask body) before after)
-          ∙ ap (λ first. first ++ after) (sym (append-nil (opening_lines ask body ++ before)))
-          ∙ ap (λ last. opening_lines ask body ++ before ++ last ++ after) (sym (no_loss (position_of body) body.loss none)),
+      ap (λ last. opening_lines ask body.at body.rows ++ piece_lines log ask.selection body.at (body.pieces ++ piece ∷ []) ++ last) (no_loss (position_of (with_piece body piece)) body.loss none)
+          ∙ append-nil (opening_lines ask body.at body.rows ++ piece_lines log ask.selection body.at (body.pieces ++ piece ∷ []))
+          ∙ ap (λ lines. opening_lines ask body.at body.rows ++ lines) (piece_lines-append log ask.selection body.at body.pieces (piece ∷ []))
+          ∙ sym (append_assoc (opening_lines ask body.at body.rows) before after)
+          ∙ ap (λ first. first ++ after) (sym (append-nil (opening_lines ask body.at body.rows ++ before)))
+          ∙ ap (λ last. opening_lines ask body.at body.rows ++ before ++ last ++ after) (sym (no_loss (position_of body) body.loss none)),
+    )
+
+-- ---- how a body begins and ends
+
+pub bodies_begin : BodiesBegin
+bodies_begin log log_floor low ask at rows is = (
+  record { opening = is; pieces = tt; lost = tt },
+  append-nil (opening_lines ask at rows ++ []) ∙ append-nil (opening_lines ask at rows),
+)
+
+pub bodies_end : BodiesEnd
+bodies_end log log_floor low ask body floor none is lost =
+    let told : List Line = opening_lines ask body.at body.rows ++ piece_lines log ask.selection body.at body.pieces in (
+      record { opening = is.opening; pieces = is.pieces; lost = lost },
+      ap (λ first. first ++ Lost (position_of body) floor ∷ []) (sym (ap (λ last. told ++ last) (no_loss (position_of body) body.loss none) ∙ append-nil told)),
     )

@@ -1,6 +1,7 @@
 -- The bodies of watches: an opening, then stretches of the log and bookmarks, and last maybe a loss (Kubernetes API
 -- concepts, "Efficient detection of changes"; KEP-956; KEP-3157). A body is plain data, read beside its log and ask.
-use Rattle.std.specs.Prelude.{◌≡◌, ℕ, ◌≤◌, Bool, IsTrue, List, [], ◌∷◌, ◌++◌, map, filter_map, Option, Some, None, IfSome, if◌then◌else◌}
+use Rattle.std.specs.Prelude.{◌≡◌, ℕ, ◌≤◌, Bool, true, false, IsTrue, List, [], ◌∷◌, ◌++◌, map, filter_map, Option, Some, None, IfSome, if◌then◌else◌}
+use Rattle.std.specs.List.{list_any}
 use Rattle.kube_meta.specs.Rows.{RowData}
 use Rattle.rev_log.specs.Logs.{Log, end_of}
 use Rattle.select_all.specs.declared.selection.Selection.{Selection}
@@ -46,14 +47,27 @@ position_after from (Mark ∷ more) = position_after from more
 abbrev pub position_of : Body → ℕ
 position_of body = position_after body.at body.pieces
 
+-- the body with a loss at its end
+abbrev pub with_loss : Body → ℕ → Body
+with_loss body floor = record body { loss = Some floor }
+
+-- the body of an opening alone
+abbrev pub opened : ℕ → List RowData → Body
+opened at rows = record { at = at; rows = rows; pieces = []; loss = None }
+
 -- ---- its lines
 
 -- an initial event: ADDED, with the row's own revision
 abbrev pub initial : RowData → TransitionData
 initial row = record { kind = Added; obj = row.obj; rev = row.rev }
 
-abbrev pub opening_lines : WatchAsk → Body → List Line
-opening_lines ask body = map (λ row. Told (initial row)) body.rows ++ (if ask.closing then Closing body.at ∷ [] else [])
+-- the initial events
+abbrev pub initial_lines : List RowData → List Line
+initial_lines rows = map (λ row. Told (initial row)) rows
+
+-- they, and the bookmark that ends them where one is asked for
+abbrev pub opening_lines : WatchAsk → ℕ → List RowData → List Line
+opening_lines ask at rows = initial_lines rows ++ (if ask.closing then Closing at ∷ [] else [])
 
 -- a stretch tells the selection's transitions in the revisions above where it begins and up to where it ends
 abbrev pub piece_lines : Log → Selection → ℕ → List Piece → List Line
@@ -66,7 +80,7 @@ loss_lines position None = []
 loss_lines position (Some floor) = Lost position floor ∷ []
 
 abbrev pub lines_of : Log → WatchAsk → Body → List Line
-lines_of log ask body = opening_lines ask body ++ piece_lines log ask.selection body.at body.pieces ++ loss_lines (position_of body) body.loss
+lines_of log ask body = opening_lines ask body.at body.rows ++ piece_lines log ask.selection body.at body.pieces ++ loss_lines (position_of body) body.loss
 
 -- ---- which bodies are lawful
 
@@ -102,3 +116,44 @@ told_by (Lost at floor) = None
 
 abbrev pub told_in : List Line → List TransitionData
 told_in lines = filter_map told_by lines
+
+-- ---- bookmarks
+
+-- Before a bookmark at p stand exactly the initial events and the transitions from the start up to p.
+pub record IsBookmarkOf (log : Log) (ask : WatchAsk) (body : Body) (before : List Line) (p : ℕ) : Type 0 where
+  pub wanted : IsTrue ask.bookmarks
+  pub onward : body.at ≤ p
+  pub reached : p ≤ end_of log
+  pub told : told_in before ≡ map initial body.rows ++ transitions log ask.selection body.at p
+
+-- A closing bookmark stands at the start, behind exactly the initial events.
+pub record IsClosingOf (log : Log) (ask : WatchAsk) (body : Body) (before : List Line) (p : ℕ) : Type 0 where
+  pub wanted : IsTrue ask.closing
+  pub starts : p ≡ body.at
+  pub reached : p ≤ end_of log
+  pub told : before ≡ initial_lines body.rows
+
+-- ---- lines that were written, read beside the log, its floor, the least window and the ask
+
+-- The lines are those of a lawful body that begins at `at` and has reached p.
+pub record TellsBody (log : Log) (log_floor low : ℕ) (ask : WatchAsk) (at : ℕ) (lines : List Line) (p : ℕ) : Type 0 where
+  pub body : Body
+  pub lawful : IsWatchBody log log_floor low ask body
+  pub begins : body.at ≡ at
+  pub lines_are : lines ≡ lines_of log ask body
+  pub reached : p ≡ position_of body
+
+-- They are a beginning of those of a lawful body.
+abbrev pub BeginsBody : Log → ℕ → ℕ → WatchAsk → ℕ → List Line → Type 0
+BeginsBody log log_floor low ask at lines = (more : List Line) × (p : ℕ) × TellsBody log log_floor low ask at (lines ++ more) p
+
+-- a loss is the last line
+abbrev pub is_loss : Line → Bool
+is_loss (Told transition) = false
+is_loss (Bookmark at) = false
+is_loss (Closing at) = false
+is_loss (Lost at floor) = true
+
+-- the body hasn't ended by one
+abbrev pub AreOpen : List Line → Type 0
+AreOpen lines = list_any is_loss lines ≡ false

@@ -16,3 +16,9 @@ abbrev pub is_never_exact : Start → Bool
 is_never_exact (FromState meaning) = is_for_watches meaning
 is_never_exact (FromHere meaning) = is_for_watches meaning
 is_never_exact (FromRevision revision) = true
+
+-- with an event for each object of a state
+abbrev pub is_from_state : Start → Bool
+is_from_state (FromState meaning) = true
+is_from_state (FromHere meaning) = false
+is_from_state (FromRevision revision) = false

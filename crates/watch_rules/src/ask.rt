@@ -1,5 +1,7 @@
-ghost use Rattle.std.specs.Prelude.{◌≡◌, IsTrue};
-ghost use Rattle.watch_rules.specs.Starts.{is_never_exact};
+//! What a watch asks for.
+
+ghost use Rattle.std.specs.Prelude.{◌≡◌, ◌≤◌, IsTrue};
+ghost use Rattle.watch_rules.specs.Starts.{is_never_exact, is_from_state};
 
 use crate::{Start, WatchNo, options};
 use http_read::Params;
@@ -12,13 +14,16 @@ pub struct WatchAsk {
     pub selection: Selection,
     /// Where it starts. It is never at one revision alone.
     pub start: Start,
-    /// Whether a bookmark ends the initial events.
+    /// Whether a bookmark ends the initial events: only where there are such, and bookmarks may come.
     pub closing: bool,
     /// Whether bookmarks may come.
     pub bookmarks: bool,
-    /// After how many seconds it ends; 0 where that is left to the server.
+    /// After how many seconds it ends, at most 1,000,000; 0 where that is left to the server.
     pub timeout_s: u64,
     pub ghost never_exact: { IsTrue (is_never_exact start) },
+    pub ghost closing_a_state: { IsTrue closing → IsTrue (is_from_state start) },
+    pub ghost closing_wanted: { IsTrue closing → IsTrue bookmarks },
+    pub ghost timeout_bounded: { timeout_s ≤ 1000000 },
 }
 
 impl WatchAsk {

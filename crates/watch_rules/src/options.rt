@@ -1,6 +1,8 @@
-ghost use Rattle.std.specs.Prelude.{◌≡◌, [], ◌∷◌, find, IfOk, IfErr, OnOk, OnErr, IsTrue, true, false, unwrap_or, option_and_then};
+//! The option table of watches.
+
+ghost use Rattle.std.specs.Prelude.{◌≡◌, ◌≤◌, [], ◌∷◌, find, Some, IfSome, IfOk, IfErr, OnOk, OnErr, IsTrue, true, false, unwrap_or, option_and_then};
 ghost use Rattle.watch_rules.specs.Options.{revision_text, timeout_text, number_of, seconds_of, is_not_older_than, holds, start_of};
-ghost use Rattle.watch_rules.specs.Starts.{is_never_exact};
+ghost use Rattle.watch_rules.specs.Starts.{is_never_exact, is_from_state};
 
 use crate::{Start, WatchNo};
 use http_read::Params;
@@ -19,7 +21,8 @@ fn number(text: &str) -> Option<u64>
 
 // The time limit that a text is, if it is one.
 fn seconds(text: &str) -> Option<u64>
-    ensures { result ≡ seconds_of text.now }
+    ensures value { result ≡ seconds_of text.now }
+    ensures bounded { IfSome result (λ seconds. seconds ≤ 1000000) }
 {
     match number(text) {
         Some(seconds) if seconds <= MAX_TIMEOUT => Some(seconds),
@@ -46,6 +49,7 @@ pub fn revision(params: &Params) -> Result<Option<u64>, WatchNo>
 /// The time limit in seconds, and 0 where none is set.
 pub fn timeout(params: &Params) -> Result<u64, WatchNo>
     ensures read { IfOk result (λ seconds. seconds ≡ unwrap_or (option_and_then seconds_of (timeout_text params.now)) 0) }
+    ensures bounded { IfOk result (λ seconds. seconds ≤ 1000000) }
     ensures good { OnOk result (holds params.now WatchNo.BadTimeout ≡ false) }
     ensures refused { IfErr result (λ fault. fault ≡ WatchNo.BadTimeout) }
     ensures bad { OnErr result (holds params.now WatchNo.BadTimeout ≡ true) }
@@ -86,6 +90,7 @@ pub fn match_fault(params: &Params) -> Option<WatchNo>
 pub fn start(initial: Option<bool>, revision: Option<u64>) -> Start
     ensures value { result ≡ start_of initial revision }
     ensures never_exact { IsTrue (is_never_exact result) }
+    ensures from_state { initial ≡ Some true → IsTrue (is_from_state result) }
 {
     match (initial, revision) {
         (None | Some(true), None) => Start::FromState(Meaning::MostRecent),

@@ -1,3 +1,5 @@
+//! Why the options of a watch are refused.
+
 /// Why the options of a watch are refused; the first of these that holds.
 #[derive(Clone, Copy, Debug, PartialEq, Eq)]
 pub enum WatchNo {

@@ -1,3 +1,5 @@
+//! Where a watch starts.
+
 use select_all::Meaning;
 
 /// Where a watch starts (Kubernetes API concepts, "Semantics for watch", and KEP-3157).

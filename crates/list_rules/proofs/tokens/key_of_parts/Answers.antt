@@ -1,8 +1,0 @@
-use Rattle.std.proofs.lemmas.Bool.{and_parts, false_from_ne_true}
-use Rattle.std.proofs.lemmas.Str.{IsUtf8-from_ascii}
-use Rattle.list_rules.proofs.NameLemmas.{ascii, bytes_of_namespace}
-use Rattle.list_rules.proofs.tokens.key_of_parts.Goals as goal
-
-pub returns-in-Err : goal.returns-in-Err
-returns-in-Err c =
-    false_from_ne_true _ (λ passes. c.in-Err.ensures.cases.0 (IsUtf8-from_ascii c.args.ns.now (ascii c.args.ns.now (bytes_of_namespace c.args.ns.now (and_parts _ _ passes).0))))

@@ -1,0 +1,453 @@
+-- A request has one outcome.
+use Rattle.std.proofs.Common.{◌≡◌, ◌≢◌, ℕ, Bool, true, false, List, Option, Some, None, Result, Ok, Err, refl, sym, ap, subst, ◌∙◌, inl, inr, ◌⊎◌, codes}
+use Rattle.std.specs.Bool.{MatchBool}
+use Rattle.std.proofs.lemmas.Option.{none-some, same_Some}
+use Rattle.serde_json.specs.Data.{Data}
+use Rattle.kube_meta.specs.declared.resources.Resource.{Resource}
+use Rattle.kube_meta.specs.Keys.{joined}
+use Rattle.http_read.specs.declared.request.Req.{Req}
+use Rattle.select_all.specs.declared.selection.Selection.{Selection}
+use Rattle.select_all.specs.declared.selection.SelNo.TheVariants as select_no
+use Rattle.select_all.specs.Reading.{selection_of}
+use Rattle.list_rules.specs.declared.ask.ListAsk.{ListAsk}
+use Rattle.list_rules.specs.declared.get.GetAsk.{GetAsk}
+use Rattle.list_rules.specs.declared.refusal.AskNo.{AskNo}
+use Rattle.list_rules.specs.declared.refusal.AskNo.TheVariants as ask_no
+use Rattle.list_rules.specs.Options.{Pairs, given, text_of, number_of, of_get}
+use Rattle.list_rules.specs.Asking.{ask_of}
+use Rattle.watch_rules.specs.declared.ask.WatchAsk.{WatchAsk}
+use Rattle.watch_rules.specs.Options.{first_fault, MeansWatch}
+use Rattle.json_obj.specs.Objects.{IsTextOf, refusal}
+use Rattle.json_obj.specs.declared.refusals.ObjNo.{ObjNo}
+use Rattle.json_obj.specs.declared.refusals.ObjNo.TheVariants as object_no
+use Rattle.up_store.specs.declared.writes.WriteAsk.{WriteAsk}
+use Rattle.up_store.specs.declared.writes.WriteAsk.TheVariants as write
+use Rattle.up_store.specs.declared.operations.Operate.TheVariants as operate
+use Rattle.route_req.specs.Places.{Names, action_at}
+use Rattle.route_req.specs.Texts.{AsksTransaction, RefusesText}
+use Rattle.route_req.specs.Asks.{is_watch, IsSelection, compacts_at, RefusesBody, AsksList, AsksWatch, AsksRead, AsksCreate, AsksReplace, AsksGet, AsksCompact, AsksTransact, Asks, RefusesList, RefusesWatch, RefusesRead, RefusesObject, RefusesGet, RefusesCompact, RefusesTransact, Refuses, IsRefusal}
+use Rattle.route_req.specs.Outcomes.{RoutesAreNotRefused, RefusalsAgree}
+use Rattle.route_req.specs.declared.places.Place.{Place}
+use Rattle.route_req.specs.declared.places.Action.{Action}
+use Rattle.route_req.specs.declared.places.Action.TheVariants.{Read, Create, Get, Replace, Remove, Cut, Compact, Restart, Transact}
+use Rattle.route_req.specs.declared.transactions.TxTextNo.{TxTextNo}
+use Rattle.route_req.specs.declared.transactions.TxTextNo.TheVariants as text_no
+use Rattle.route_req.specs.declared.routing.Routed.{Routed}
+use Rattle.route_req.specs.declared.routing.Routed.TheVariants as routed
+use Rattle.route_req.specs.declared.routing.RouteNo.{RouteNo}
+use Rattle.route_req.specs.declared.routing.RouteNo.TheVariants as route_no
+use Rattle.route_req.proofs.Paths.{one_place}
+use Rattle.route_req.proofs.Readings.{one_text, texts_agree, text_unrefused}
+
+-- ---- what is told by a refusal: want of memory, or a reason of one kind
+
+abbrev pub Tells : {Why : Type 0} → RouteNo → (Why → RouteNo) → (Why → Type 0) → Type 0
+Tells {Why} fault wrap Holds = (fault ≡ route_no.Memory) ⊎ ((why : Why) × (fault ≡ wrap why) × Holds why)
+
+-- where the reasons of one kind agree, so do the refusals
+told_once : {Why : Type 0} (wrap : Why → RouteNo) (Holds : Why → Type 0) (a b : RouteNo) → ((x y : Why) → Holds x → Holds y → x ≡ y)
+    → Tells a wrap Holds → Tells b wrap Holds → a ≢ route_no.Memory → b ≢ route_no.Memory → a ≡ b
+told_once wrap Holds a b agree (inl e) tb na nb = absurd (na e)
+told_once wrap Holds a b agree (inr x) (inl e) na nb = absurd (nb e)
+told_once wrap Holds a b agree (inr x) (inr y) na nb = x.1 ∙ ap wrap (agree x.0 y.0 x.2 y.2) ∙ sym y.1
+
+-- where none holds, it is want of memory
+told_memory : {Why : Type 0} (wrap : Why → RouteNo) (Holds : Why → Type 0) (fault : RouteNo) → ((x : Why) → Holds x → ⊥) → Tells fault wrap Holds → fault ≡ route_no.Memory
+told_memory wrap Holds fault none (inl e) = e
+told_memory wrap Holds fault none (inr x) = absurd (none x.0 x.2)
+
+same_Err : {A B : Type 0} (x y : B) → ◌≡◌ {A = Result A B} (Err x) (Err y) → x ≡ y
+same_Err x y e = cc
+
+pub same_Ok : {A B : Type 0} (x y : A) → ◌≡◌ {A = Result A B} (Ok x) (Ok y) → x ≡ y
+same_Ok x y e = cc
+
+not_both : {A B : Type 0} (r : Result A B) (x : A) (y : B) → r ≡ Ok x → r ≡ Err y → ⊥
+not_both (Ok z) x y ok err = cc
+not_both (Err z) x y ok err = cc
+
+err_once : {A B : Type 0} (r : Result A B) (x y : B) → r ≡ Err x → r ≡ Err y → x ≡ y
+err_once r x y ex ey = same_Err x y (sym ex ∙ ey)
+
+-- ---- the reasons
+
+abbrev pub ListFault : Selection → Pairs → AskNo → Type 0
+ListFault s params why = ask_of s params ≡ Err why
+
+list_tells : (s : Selection) (params : Pairs) (fault : RouteNo) → RefusesList s params fault → Tells fault (λ why. route_no.List why) (ListFault s params)
+list_tells s params (route_no.List ask_no.BadRevision) is = inr (ask_no.BadRevision, refl, is)
+list_tells s params (route_no.List ask_no.BadMatch) is = inr (ask_no.BadMatch, refl, is)
+list_tells s params (route_no.List ask_no.MatchNeedsRevision) is = inr (ask_no.MatchNeedsRevision, refl, is)
+list_tells s params (route_no.List ask_no.ExactZero) is = inr (ask_no.ExactZero, refl, is)
+list_tells s params (route_no.List ask_no.MatchWithContinue) is = inr (ask_no.MatchWithContinue, refl, is)
+list_tells s params (route_no.List ask_no.RevisionWithContinue) is = inr (ask_no.RevisionWithContinue, refl, is)
+list_tells s params (route_no.List ask_no.InitialEventsOnList) is = inr (ask_no.InitialEventsOnList, refl, is)
+list_tells s params (route_no.List ask_no.BadLimit) is = inr (ask_no.BadLimit, refl, is)
+list_tells s params (route_no.List (ask_no.BadContinue token)) is = inr (ask_no.BadContinue token, refl, is)
+list_tells s params (route_no.List ask_no.Memory) is = absurd is
+list_tells s params route_no.NoPath is = absurd is
+list_tells s params route_no.NoMethod is = absurd is
+list_tells s params (route_no.Selector why) is = absurd is
+list_tells s params (route_no.Watch why) is = absurd is
+list_tells s params (route_no.Object why) is = absurd is
+list_tells s params route_no.Operation is = absurd is
+list_tells s params (route_no.Transaction why) is = absurd is
+list_tells s params route_no.Memory is = inl refl
+
+watch_tells : (params : Pairs) (fault : RouteNo) → RefusesWatch params fault → Tells fault (λ why. route_no.Watch why) (λ why. first_fault params ≡ Some why)
+watch_tells params (route_no.Watch why) is = inr (why, refl, is)
+watch_tells params (route_no.List why) is = absurd is
+watch_tells params route_no.NoPath is = absurd is
+watch_tells params route_no.NoMethod is = absurd is
+watch_tells params (route_no.Selector why) is = absurd is
+watch_tells params (route_no.Object why) is = absurd is
+watch_tells params route_no.Operation is = absurd is
+watch_tells params (route_no.Transaction why) is = absurd is
+watch_tells params route_no.Memory is = absurd is
+
+-- a read: the selectors' reason, or that of the options of the selection
+abbrev pub ReadTells : Resource → Option (List ℕ) → Pairs → RouteNo → Type 0
+ReadTells r ns params fault =
+    Tells fault (λ why. route_no.Selector why) (λ why. selection_of r ns (text_of (codes "labelSelector") params) (text_of (codes "fieldSelector") params) ≡ Err why)
+    ⊎ ((s : Selection) × IsSelection r ns params s × MatchBool (is_watch params) (RefusesWatch params fault) (RefusesList s params fault))
+
+read_tells : (r : Resource) (ns : Option (List ℕ)) (params : Pairs) (fault : RouteNo) → RefusesRead r ns params fault → ReadTells r ns params fault
+read_tells r ns params (route_no.Selector (select_no.Label why)) is = inl (inr (select_no.Label why, refl, is))
+read_tells r ns params (route_no.Selector (select_no.Field why)) is = inl (inr (select_no.Field why, refl, is))
+read_tells r ns params (route_no.Selector select_no.Memory) is = absurd is
+read_tells r ns params (route_no.List why) is = inr is
+read_tells r ns params (route_no.Watch why) is = inr is
+read_tells r ns params (route_no.Object why) is = inr is
+read_tells r ns params (route_no.Transaction why) is = inr is
+read_tells r ns params route_no.NoPath is = inr is
+read_tells r ns params route_no.NoMethod is = inr is
+read_tells r ns params route_no.Operation is = inr is
+read_tells r ns params route_no.Memory is = inl (inl refl)
+
+body_tells : (r : Resource) (ns : List ℕ) (name : Option (List ℕ)) (body : List ℕ) (fault : RouteNo) → RefusesObject r ns name body fault
+    → Tells fault (λ why. route_no.Object why) (RefusesBody r ns name body)
+body_tells r ns name body (route_no.Object object_no.NotJson) is = inr (object_no.NotJson, refl, is)
+body_tells r ns name body (route_no.Object object_no.Float) is = inr (object_no.Float, refl, is)
+body_tells r ns name body (route_no.Object object_no.TooDeep) is = inr (object_no.TooDeep, refl, is)
+body_tells r ns name body (route_no.Object object_no.WrongKind) is = inr (object_no.WrongKind, refl, is)
+body_tells r ns name body (route_no.Object object_no.BadMeta) is = inr (object_no.BadMeta, refl, is)
+body_tells r ns name body (route_no.Object object_no.Memory) is = absurd is
+body_tells r ns name body route_no.NoPath is = absurd is
+body_tells r ns name body route_no.NoMethod is = absurd is
+body_tells r ns name body (route_no.Selector why) is = absurd is
+body_tells r ns name body (route_no.List why) is = absurd is
+body_tells r ns name body (route_no.Watch why) is = absurd is
+body_tells r ns name body route_no.Operation is = absurd is
+body_tells r ns name body (route_no.Transaction why) is = absurd is
+body_tells r ns name body route_no.Memory is = inl refl
+
+get_tells : (params : Pairs) (fault : RouteNo) → RefusesGet params fault
+    → Tells fault (λ why. route_no.List why) (λ why. of_get (number_of (given (codes "resourceVersion") params)) ≡ Err why)
+get_tells params (route_no.List ask_no.BadRevision) is = inr (ask_no.BadRevision, refl, is)
+get_tells params (route_no.List ask_no.BadMatch) is = inr (ask_no.BadMatch, refl, is)
+get_tells params (route_no.List ask_no.MatchNeedsRevision) is = inr (ask_no.MatchNeedsRevision, refl, is)
+get_tells params (route_no.List ask_no.ExactZero) is = inr (ask_no.ExactZero, refl, is)
+get_tells params (route_no.List ask_no.MatchWithContinue) is = inr (ask_no.MatchWithContinue, refl, is)
+get_tells params (route_no.List ask_no.RevisionWithContinue) is = inr (ask_no.RevisionWithContinue, refl, is)
+get_tells params (route_no.List ask_no.InitialEventsOnList) is = inr (ask_no.InitialEventsOnList, refl, is)
+get_tells params (route_no.List ask_no.BadLimit) is = inr (ask_no.BadLimit, refl, is)
+get_tells params (route_no.List (ask_no.BadContinue token)) is = inr (ask_no.BadContinue token, refl, is)
+get_tells params (route_no.List ask_no.Memory) is = absurd is
+get_tells params route_no.NoPath is = absurd is
+get_tells params route_no.NoMethod is = absurd is
+get_tells params (route_no.Selector why) is = absurd is
+get_tells params (route_no.Watch why) is = absurd is
+get_tells params (route_no.Object why) is = absurd is
+get_tells params route_no.Operation is = absurd is
+get_tells params (route_no.Transaction why) is = absurd is
+get_tells params route_no.Memory is = inl refl
+
+compact_tells : (params : Pairs) (fault : RouteNo) → RefusesCompact params fault → (fault ≡ route_no.Operation) × ((at : ℕ) → compacts_at params ≡ Some (Ok at) → ⊥)
+compact_tells params route_no.Operation is = (refl, is)
+compact_tells params route_no.NoPath is = absurd is
+compact_tells params route_no.NoMethod is = absurd is
+compact_tells params (route_no.Selector why) is = absurd is
+compact_tells params (route_no.List why) is = absurd is
+compact_tells params (route_no.Watch why) is = absurd is
+compact_tells params (route_no.Object why) is = absurd is
+compact_tells params (route_no.Transaction why) is = absurd is
+compact_tells params route_no.Memory is = absurd is
+
+-- a text's reason, which isn't want of memory
+abbrev pub TextFault : List ℕ → TxTextNo → Type 0
+TextFault body why = RefusesText body why × (why ≡ text_no.Memory → ⊥)
+
+text_tells : (body : List ℕ) (fault : RouteNo) → RefusesTransact body fault → Tells fault (λ why. route_no.Transaction why) (TextFault body)
+text_tells body (route_no.Transaction text_no.NotJson) is = inr (text_no.NotJson, refl, (is, λ e. cc))
+text_tells body (route_no.Transaction text_no.Float) is = inr (text_no.Float, refl, (is, λ e. cc))
+text_tells body (route_no.Transaction text_no.TooDeep) is = inr (text_no.TooDeep, refl, (is, λ e. cc))
+text_tells body (route_no.Transaction text_no.NotList) is = inr (text_no.NotList, refl, (is, λ e. cc))
+text_tells body (route_no.Transaction text_no.Empty) is = inr (text_no.Empty, refl, (is, λ e. cc))
+text_tells body (route_no.Transaction text_no.TooManyItems) is = inr (text_no.TooManyItems, refl, (is, λ e. cc))
+text_tells body (route_no.Transaction (text_no.BadItem i)) is = inr (text_no.BadItem i, refl, (is, λ e. cc))
+text_tells body (route_no.Transaction (text_no.BadObject i why)) is = inr (text_no.BadObject i why, refl, (is, λ e. cc))
+text_tells body (route_no.Transaction (text_no.Repeated i)) is = inr (text_no.Repeated i, refl, (is, λ e. cc))
+text_tells body (route_no.Transaction text_no.Memory) is = absurd is
+text_tells body route_no.NoPath is = absurd is
+text_tells body route_no.NoMethod is = absurd is
+text_tells body (route_no.Selector why) is = absurd is
+text_tells body (route_no.List why) is = absurd is
+text_tells body (route_no.Watch why) is = absurd is
+text_tells body (route_no.Object why) is = absurd is
+text_tells body route_no.Operation is = absurd is
+text_tells body route_no.Memory is = inl refl
+
+-- ---- bodies
+
+-- a body that isn't one JSON text, or whose value is refused
+abbrev pub BodyFault : Resource → List ℕ → Option (List ℕ) → List ℕ → ObjNo → Type 0
+BodyFault r ns name body why = ((why ≡ object_no.NotJson) × ((d : Data) → IsTextOf body d → ⊥)) ⊎ ((d : Data) × IsTextOf body d × (refusal r ns name d ≡ Some why))
+
+body_fault : (r : Resource) (ns : List ℕ) (name : Option (List ℕ)) (body : List ℕ) (why : ObjNo) → RefusesBody r ns name body why → BodyFault r ns name body why
+body_fault r ns name body object_no.NotJson is = inl (refl, is)
+body_fault r ns name body object_no.Float is = inr is
+body_fault r ns name body object_no.TooDeep is = inr is
+body_fault r ns name body object_no.WrongKind is = inr is
+body_fault r ns name body object_no.BadMeta is = inr is
+body_fault r ns name body object_no.Memory is = inr is
+
+bodies_agree : (r : Resource) (ns : List ℕ) (name : Option (List ℕ)) (body : List ℕ) (x y : ObjNo) → RefusesBody r ns name body x → RefusesBody r ns name body y → x ≡ y
+bodies_agree r ns name body x y is also = by_faults (body_fault r ns name body x is) (body_fault r ns name body y also)
+  where
+    by_faults : BodyFault r ns name body x → BodyFault r ns name body y → x ≡ y
+    by_faults (inl a) (inl b) = a.0 ∙ sym b.0
+    by_faults (inl a) (inr b) = absurd (a.1 b.0 b.1)
+    by_faults (inr a) (inl b) = absurd (b.1 a.0 a.1)
+    by_faults (inr a) (inr b) =
+        let same : a.0 ≡ b.0 = one_text body a.0 b.0 a.1 b.1 in
+        same_Some x y (sym a.2 ∙ ap (refusal r ns name) same ∙ b.2)
+
+body_unrefused : (r : Resource) (ns : List ℕ) (name : Option (List ℕ)) (body : List ℕ) (d : Data) (x : ObjNo) → IsTextOf body d → refusal r ns name d ≡ None → RefusesBody r ns name body x → ⊥
+body_unrefused r ns name body d x is none refused = by_fault (body_fault r ns name body x refused)
+  where
+    by_fault : BodyFault r ns name body x → ⊥
+    by_fault (inl a) = a.1 d is
+    by_fault (inr a) =
+        let same : a.0 ≡ d = one_text body a.0 d a.1 is in
+        none-some x (sym none ∙ ap (refusal r ns name) (sym same) ∙ a.2)
+
+-- ---- what an answer asks for
+
+pub list_asks : (s : Selection) (params : Pairs) (answer : Routed) → AsksList s params answer → (ask : ListAsk) × (answer ≡ routed.List ask) × (ask_of s params ≡ Ok ask)
+list_asks s params (routed.List ask) is = (ask, refl, is)
+list_asks s params (routed.Write ask) is = absurd is
+list_asks s params (routed.Get ask) is = absurd is
+list_asks s params (routed.Watch ask) is = absurd is
+list_asks s params (routed.Operate ask) is = absurd is
+list_asks s params (routed.Transact ask) is = absurd is
+
+pub watch_asks : (s : Selection) (params : Pairs) (answer : Routed) → AsksWatch s params answer → (ask : WatchAsk) × (answer ≡ routed.Watch ask) × MeansWatch s params ask
+watch_asks s params (routed.Watch ask) is = (ask, refl, is)
+watch_asks s params (routed.List ask) is = absurd is
+watch_asks s params (routed.Write ask) is = absurd is
+watch_asks s params (routed.Get ask) is = absurd is
+watch_asks s params (routed.Operate ask) is = absurd is
+watch_asks s params (routed.Transact ask) is = absurd is
+
+pub get_asks : (r : Resource) (ns name : List ℕ) (params : Pairs) (answer : Routed) → AsksGet r ns name params answer
+    → (ask : GetAsk) × (answer ≡ routed.Get ask) × (ask.resource ≡ r) × (ask.key ≡ joined ns name) × (of_get (number_of (given (codes "resourceVersion") params)) ≡ Ok ask.meaning)
+get_asks r ns name params (routed.Get ask) is = (ask, refl, is.0, is.1, is.2)
+get_asks r ns name params (routed.Watch ask) is = absurd is
+get_asks r ns name params (routed.List ask) is = absurd is
+get_asks r ns name params (routed.Write ask) is = absurd is
+get_asks r ns name params (routed.Operate ask) is = absurd is
+get_asks r ns name params (routed.Transact ask) is = absurd is
+
+-- a body that is stored: one text, that isn't refused
+abbrev pub IsStored : Resource → List ℕ → Option (List ℕ) → List ℕ → Type 0
+IsStored r ns name body = (d : Data) × IsTextOf body d × (refusal r ns name d ≡ None)
+
+create_asks : (r : Resource) (ns body : List ℕ) (answer : Routed) → AsksCreate r ns body answer → IsStored r ns None body
+create_asks r ns body (routed.Write (write.Create resource obj)) is = (is.1, is.2, is.3)
+create_asks r ns body (routed.Write (write.Replace resource obj given_rev)) is = absurd is
+create_asks r ns body (routed.Write (write.Remove resource key)) is = absurd is
+create_asks r ns body (routed.Get ask) is = absurd is
+create_asks r ns body (routed.Watch ask) is = absurd is
+create_asks r ns body (routed.List ask) is = absurd is
+create_asks r ns body (routed.Operate ask) is = absurd is
+create_asks r ns body (routed.Transact ask) is = absurd is
+
+replace_asks : (r : Resource) (ns name body : List ℕ) (answer : Routed) → AsksReplace r ns name body answer → IsStored r ns (Some name) body
+replace_asks r ns name body (routed.Write (write.Replace resource obj given_rev)) is = (is.1, is.2, is.3)
+replace_asks r ns name body (routed.Write (write.Create resource obj)) is = absurd is
+replace_asks r ns name body (routed.Write (write.Remove resource key)) is = absurd is
+replace_asks r ns name body (routed.Get ask) is = absurd is
+replace_asks r ns name body (routed.Watch ask) is = absurd is
+replace_asks r ns name body (routed.List ask) is = absurd is
+replace_asks r ns name body (routed.Operate ask) is = absurd is
+replace_asks r ns name body (routed.Transact ask) is = absurd is
+
+pub compact_asks : (params : Pairs) (answer : Routed) → AsksCompact params answer → (at : ℕ) × (answer ≡ routed.Operate (operate.Compact at)) × (compacts_at params ≡ Some (Ok at))
+compact_asks params (routed.Operate (operate.Compact at)) is = (at, refl, is)
+compact_asks params (routed.Operate operate.Cut) is = absurd is
+compact_asks params (routed.Operate operate.Restart) is = absurd is
+compact_asks params (routed.Write ask) is = absurd is
+compact_asks params (routed.Get ask) is = absurd is
+compact_asks params (routed.Watch ask) is = absurd is
+compact_asks params (routed.List ask) is = absurd is
+compact_asks params (routed.Transact ask) is = absurd is
+
+pub text_asks : (body : List ℕ) (answer : Routed) → AsksTransact body answer → (asks : List WriteAsk) × (answer ≡ routed.Transact asks) × AsksTransaction body asks
+text_asks body (routed.Transact asks) is = (asks, refl, is)
+text_asks body (routed.Operate ask) is = absurd is
+text_asks body (routed.Write ask) is = absurd is
+text_asks body (routed.Get ask) is = absurd is
+text_asks body (routed.Watch ask) is = absurd is
+text_asks body (routed.List ask) is = absurd is
+
+-- ---- an answer beside a refusal
+
+read_excludes : (r : Resource) (ns : Option (List ℕ)) (params : Pairs) (answer : Routed) (fault : RouteNo) → AsksRead r ns params answer → ReadTells r ns params fault → fault ≡ route_no.Memory
+read_excludes r ns params answer fault asked (inl tells) =
+    told_memory (λ why. route_no.Selector why) _ fault
+    (λ why bad. not_both (selection_of r ns (text_of (codes "labelSelector") params) (text_of (codes "fieldSelector") params)) asked.0 why asked.1 bad) tells
+read_excludes r ns params answer fault asked (inr refused) = by_kind (is_watch params) asked.2 refused.2
+  where
+    same : refused.0 ≡ asked.0
+    same = same_Ok refused.0 asked.0 (sym refused.1 ∙ asked.1)
+
+    by_kind : (b : Bool) → MatchBool b (AsksWatch asked.0 params answer) (AsksList asked.0 params answer)
+        → MatchBool b (RefusesWatch params fault) (RefusesList refused.0 params fault) → fault ≡ route_no.Memory
+    by_kind true asks refuses =
+        told_memory (λ why. route_no.Watch why) _ fault (λ why bad. none-some why (sym (watch_asks asked.0 params answer asks).2.unrefused ∙ bad)) (watch_tells params fault refuses)
+    by_kind false asks refuses =
+        let ask = list_asks asked.0 params answer asks in
+        told_memory (λ why. route_no.List why) (ListFault asked.0 params) fault (λ why bad. not_both (ask_of asked.0 params) ask.0 why ask.2 bad)
+        (list_tells asked.0 params fault (subst (λ s. RefusesList s params fault) same refuses))
+
+body_excludes : (r : Resource) (ns : List ℕ) (name : Option (List ℕ)) (body : List ℕ) (fault : RouteNo) → IsStored r ns name body → RefusesObject r ns name body fault → fault ≡ route_no.Memory
+body_excludes r ns name body fault stored refused =
+    told_memory (λ why. route_no.Object why) (RefusesBody r ns name body) fault (λ why bad. body_unrefused r ns name body stored.0 why stored.1 stored.2 bad) (body_tells r ns name body fault refused)
+
+get_excludes : (r : Resource) (ns name : List ℕ) (params : Pairs) (answer : Routed) (fault : RouteNo) → AsksGet r ns name params answer → RefusesGet params fault → fault ≡ route_no.Memory
+get_excludes r ns name params answer fault asked refused =
+    let ask = get_asks r ns name params answer asked in
+    told_memory (λ why. route_no.List why) _ fault (λ why bad. not_both (of_get (number_of (given (codes "resourceVersion") params))) (ask.0).meaning why ask.4 bad) (get_tells params fault refused)
+
+compact_excludes : (params : Pairs) (answer : Routed) (fault : RouteNo) → AsksCompact params answer → RefusesCompact params fault → fault ≡ route_no.Memory
+compact_excludes params answer fault asked refused =
+    let ask = compact_asks params answer asked in
+    absurd ((compact_tells params fault refused).1 ask.0 ask.2)
+
+text_excludes : (body : List ℕ) (answer : Routed) (fault : RouteNo) → AsksTransact body answer → RefusesTransact body fault → fault ≡ route_no.Memory
+text_excludes body answer fault asked refused =
+    let ask = text_asks body answer asked in
+    told_memory (λ why. route_no.Transaction why) (TextFault body) fault (λ why bad. text_unrefused body ask.0 why ask.2 bad.0 bad.1) (text_tells body fault refused)
+
+acts_exclude : (action : Action) (req : Req) (answer : Routed) (fault : RouteNo) → Asks action req answer → Refuses action req fault → fault ≡ route_no.Memory
+acts_exclude (Read r ns) req answer fault asked refused = read_excludes r ns req.params answer fault asked (read_tells r ns req.params fault refused)
+acts_exclude (Create r ns) req answer fault asked refused = body_excludes r ns None req.body fault (create_asks r ns req.body answer asked) refused
+acts_exclude (Get r ns name) req answer fault asked refused = get_excludes r ns name req.params answer fault asked refused
+acts_exclude (Replace r ns name) req answer fault asked refused = body_excludes r ns (Some name) req.body fault (replace_asks r ns name req.body answer asked) refused
+acts_exclude (Remove r ns name) req answer fault asked refused = refused
+acts_exclude Cut req answer fault asked refused = absurd refused
+acts_exclude Compact req answer fault asked refused = compact_excludes req.params answer fault asked refused
+acts_exclude Restart req answer fault asked refused = absurd refused
+acts_exclude Transact req answer fault asked refused = text_excludes req.body answer fault asked refused
+
+-- ---- two refusals
+
+read_agrees : (r : Resource) (ns : Option (List ℕ)) (params : Pairs) (a b : RouteNo) → ReadTells r ns params a → ReadTells r ns params b → a ≢ route_no.Memory → b ≢ route_no.Memory → a ≡ b
+read_agrees r ns params a b (inl ta) (inl tb) na nb =
+    told_once (λ why. route_no.Selector why) _ a b (λ x y hx hy. err_once (selection_of r ns (text_of (codes "labelSelector") params) (text_of (codes "fieldSelector") params)) x y hx hy) ta tb na nb
+read_agrees r ns params a b (inl ta) (inr tb) na nb =
+    absurd (na (told_memory (λ why. route_no.Selector why) _ a (λ why bad. not_both (selection_of r ns (text_of (codes "labelSelector") params) (text_of (codes "fieldSelector") params)) tb.0 why tb.1 bad) ta))
+read_agrees r ns params a b (inr ta) (inl tb) na nb =
+    absurd (nb (told_memory (λ why. route_no.Selector why) _ b (λ why bad. not_both (selection_of r ns (text_of (codes "labelSelector") params) (text_of (codes "fieldSelector") params)) ta.0 why ta.1 bad) tb))
+read_agrees r ns params a b (inr ta) (inr tb) na nb = by_kind (is_watch params) ta.2 tb.2
+  where
+    same : tb.0 ≡ ta.0
+    same = same_Ok tb.0 ta.0 (sym tb.1 ∙ ta.1)
+
+    by_kind : (kind : Bool) → MatchBool kind (RefusesWatch params a) (RefusesList ta.0 params a) → MatchBool kind (RefusesWatch params b) (RefusesList tb.0 params b) → a ≡ b
+    by_kind true ha hb =
+        told_once (λ why. route_no.Watch why) _ a b (λ x y hx hy. same_Some x y (sym hx ∙ hy)) (watch_tells params a ha) (watch_tells params b hb) na nb
+    by_kind false ha hb =
+        told_once (λ why. route_no.List why) (ListFault ta.0 params) a b (λ x y hx hy. err_once (ask_of ta.0 params) x y hx hy)
+        (list_tells ta.0 params a ha) (list_tells ta.0 params b (subst (λ s. RefusesList s params b) same hb)) na nb
+
+body_agrees : (r : Resource) (ns : List ℕ) (name : Option (List ℕ)) (body : List ℕ) (a b : RouteNo) → RefusesObject r ns name body a → RefusesObject r ns name body b → a ≢ route_no.Memory → b ≢ route_no.Memory → a ≡ b
+body_agrees r ns name body a b ha hb na nb =
+    told_once (λ why. route_no.Object why) (RefusesBody r ns name body) a b (bodies_agree r ns name body) (body_tells r ns name body a ha) (body_tells r ns name body b hb) na nb
+
+acts_agree : (action : Action) (req : Req) (a b : RouteNo) → Refuses action req a → Refuses action req b → a ≢ route_no.Memory → b ≢ route_no.Memory → a ≡ b
+acts_agree (Read r ns) req a b ha hb na nb = read_agrees r ns req.params a b (read_tells r ns req.params a ha) (read_tells r ns req.params b hb) na nb
+acts_agree (Create r ns) req a b ha hb na nb = body_agrees r ns None req.body a b ha hb na nb
+acts_agree (Get r ns name) req a b ha hb na nb =
+    told_once (λ why. route_no.List why) _ a b (λ x y hx hy. err_once (of_get (number_of (given (codes "resourceVersion") req.params))) x y hx hy) (get_tells req.params a ha) (get_tells req.params b hb) na nb
+acts_agree (Replace r ns name) req a b ha hb na nb = body_agrees r ns (Some name) req.body a b ha hb na nb
+acts_agree (Remove r ns name) req a b ha hb na nb = ha ∙ sym hb
+acts_agree Cut req a b ha hb na nb = absurd ha
+acts_agree Compact req a b ha hb na nb = (compact_tells req.params a ha).0 ∙ sym (compact_tells req.params b hb).0
+acts_agree Restart req a b ha hb na nb = absurd ha
+acts_agree Transact req a b ha hb na nb =
+    told_once (λ why. route_no.Transaction why) (TextFault req.body) a b (λ x y hx hy. texts_agree req.body x y hx.0 hy.0 hx.1 hy.1) (text_tells req.body a ha) (text_tells req.body b hb) na nb
+
+-- ---- the whole
+
+-- where the path names a place: it hasn't the method, or the action there refuses
+abbrev pub PlaceTells : Req → RouteNo → Type 0
+PlaceTells req fault =
+    ((fault ≡ route_no.NoMethod) × (place : Place) × Names req.path place × (action_at place req.method ≡ None))
+    ⊎ ((place : Place) × (action : Action) × Names req.path place × (action_at place req.method ≡ Some action) × Refuses action req fault)
+
+-- a refusal: no place, want of memory, or that
+abbrev pub Refusal : Req → RouteNo → Type 0
+Refusal req fault = ((fault ≡ route_no.NoPath) × ((place : Place) → Names req.path place → ⊥)) ⊎ ((fault ≡ route_no.Memory) ⊎ PlaceTells req fault)
+
+refusal_is : (req : Req) (fault : RouteNo) → IsRefusal req fault → Refusal req fault
+refusal_is req route_no.NoPath is = inl (refl, is)
+refusal_is req route_no.Memory is = inr (inl refl)
+refusal_is req route_no.NoMethod is = inr (inr (inl (refl, is.0, is.1, is.2)))
+refusal_is req (route_no.Selector why) is = inr (inr (inr is))
+refusal_is req (route_no.List why) is = inr (inr (inr is))
+refusal_is req (route_no.Watch why) is = inr (inr (inr is))
+refusal_is req (route_no.Object why) is = inr (inr (inr is))
+refusal_is req route_no.Operation is = inr (inr (inr is))
+refusal_is req (route_no.Transaction why) is = inr (inr (inr is))
+
+pub same_action : (req : Req) (p q : Place) (a b : Option Action) → Names req.path p → Names req.path q → action_at p req.method ≡ a → action_at q req.method ≡ b → a ≡ b
+same_action req p q a b np nq ea eb = sym ea ∙ ap (λ place. action_at place req.method) (one_place req.path p q np nq) ∙ eb
+
+pub routes_are_not_refused : RoutesAreNotRefused
+routes_are_not_refused req answer fault route refused = by_refusal (refusal_is req fault refused)
+  where
+    by_refusal : Refusal req fault → fault ≡ route_no.Memory
+    by_refusal (inl none) = absurd (none.1 route.0 route.2)
+    by_refusal (inr (inl e)) = e
+    by_refusal (inr (inr (inl bad))) = absurd (none-some route.1 (same_action req bad.1 route.0 None (Some route.1) bad.2 route.2 bad.3 route.3))
+    by_refusal (inr (inr (inr act))) =
+        let same : act.1 ≡ route.1 = same_Some act.1 route.1 (same_action req act.0 route.0 (Some act.1) (Some route.1) act.2 route.2 act.3 route.3) in
+        acts_exclude route.1 req answer fault route.4 (subst (λ action. Refuses action req fault) same act.4)
+
+pub refusals_agree : RefusalsAgree
+refusals_agree req a b ra rb na nb = by_refusals (refusal_is req a ra) (refusal_is req b rb)
+  where
+    places : PlaceTells req a → PlaceTells req b → a ≡ b
+    places (inl x) (inl y) = x.0 ∙ sym y.0
+    places (inl x) (inr y) = absurd (none-some y.1 (same_action req x.1 y.0 None (Some y.1) x.2 y.2 x.3 y.3))
+    places (inr x) (inl y) = absurd (none-some x.1 (same_action req y.1 x.0 None (Some x.1) y.2 x.2 y.3 x.3))
+    places (inr x) (inr y) =
+        let same : y.1 ≡ x.1 = same_Some y.1 x.1 (same_action req y.0 x.0 (Some y.1) (Some x.1) y.2 x.2 y.3 x.3) in
+        acts_agree x.1 req a b x.4 (subst (λ action. Refuses action req b) same y.4) na nb
+
+    named : PlaceTells req a → (place : Place) × Names req.path place
+    named (inl x) = (x.1, x.2)
+    named (inr x) = (x.0, x.2)
+
+    named_too : PlaceTells req b → (place : Place) × Names req.path place
+    named_too (inl x) = (x.1, x.2)
+    named_too (inr x) = (x.0, x.2)
+
+    by_refusals : Refusal req a → Refusal req b → a ≡ b
+    by_refusals (inl x) (inl y) = x.0 ∙ sym y.0
+    by_refusals (inr (inl e)) tb = absurd (na e)
+    by_refusals ta (inr (inl e)) = absurd (nb e)
+    by_refusals (inl x) (inr (inr y)) = let n = named_too y in absurd (x.1 n.0 n.1)
+    by_refusals (inr (inr x)) (inl y) = let n = named x in absurd (y.1 n.0 n.1)
+    by_refusals (inr (inr x)) (inr (inr y)) = places x y
