@@ -20,6 +20,3 @@ pub use laws::{ends_are_exact, reading_is_unique, sessions_settle};
 pub use plain::PlainClient;
 pub use serve::serve_session;
 pub use settings::Settings;
-
-#[cfg(test)]
-mod tests;

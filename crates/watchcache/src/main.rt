@@ -1,6 +1,7 @@
 //! The watch cache of a Kubernetes API server.
 //!
-//! `watchcache session` reads the requests of one connection on standard input, and writes the replies to standard output.
+//! `watchcache session` reads the requests of one connection on standard input, and writes the replies to standard
+//! output.
 #![tactic(auto)]
 
 mod session;
@@ -23,10 +24,11 @@ use words::is_session;
 /// The exit status where the words can't be read for want of memory.
 const OUT_OF_MEMORY: u8 = 8;
 
-/// Does all that the program does. `words` are those of the command line behind the program's name. Answers the exit status.
+/// Does all that the program does. `words` are those of the command line behind the program's name. Answers the exit
+/// status.
 ///
-/// The single word `session` is one session over `source` and `sink`, with a client that has a log of its own, whose first
-/// revision is 1. All else is a bad command line: status 2, or 4 where the sink failed.
+/// The single word `session` is one session over `source` and `sink`, with a client that has a log of its own, whose
+/// first revision is 1. All else is a bad command line: status 2, or 4 where the sink failed.
 pub fn run<S: Source, K: Sink, T: Clock, N: Net>(
     alloc: Global,
     words: &[String],
@@ -56,8 +58,8 @@ fn main(rt: HostRuntime) -> ExitCode {
     }
 }
 
-/// The words of the command line behind the program's name. No word stands for words that can't be read, as one that isn't
-/// UTF-8: a bad command line too.
+/// The words of the command line behind the program's name. No word stands for words that can't be read, as one that
+/// isn't UTF-8: a bad command line too.
 fn words_of<R: Env + AllocGlobal>(rt: &R) -> Result<Vec<String>, AllocError> {
     match env::args(rt) {
         Ok(args) => args.skip(1).collect(rt.alloc()),

@@ -1,0 +1,7 @@
+pub mod Reasons
+pub mod Told
+pub mod Requests
+pub mod Selectors
+pub mod Options
+pub mod Routes
+pub mod Writes

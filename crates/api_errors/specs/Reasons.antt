@@ -1,0 +1,47 @@
+-- The reasons of failures, with the HTTP status of each (Kubernetes API reference, `Status`; RFC 9110, section 15).
+use Rattle.std.specs.Prelude.{ℕ, List, Bool, true, false, codes}
+use Rattle.api_errors.specs.declared.reasons.Reason.{Reason}
+use Rattle.api_errors.specs.declared.reasons.Reason.TheVariants.{BadRequest, NotFound, MethodNotAllowed, AlreadyExists, Conflict, Expired, LengthRequired, RequestEntityTooLarge, Invalid, InternalError, NotBuilt, Timeout}
+
+abbrev pub code_of : Reason → ℕ
+code_of BadRequest = 400
+code_of NotFound = 404
+code_of MethodNotAllowed = 405
+code_of AlreadyExists = 409
+code_of Conflict = 409
+code_of Expired = 410
+code_of LengthRequired = 411
+code_of RequestEntityTooLarge = 413
+code_of Invalid = 422
+code_of InternalError = 500
+code_of NotBuilt = 501
+code_of Timeout = 504
+
+abbrev pub text_of : Reason → List ℕ
+text_of BadRequest = codes "BadRequest"
+text_of NotFound = codes "NotFound"
+text_of MethodNotAllowed = codes "MethodNotAllowed"
+text_of AlreadyExists = codes "AlreadyExists"
+text_of Conflict = codes "Conflict"
+text_of Expired = codes "Expired"
+text_of LengthRequired = codes "LengthRequired"
+text_of RequestEntityTooLarge = codes "RequestEntityTooLarge"
+text_of Invalid = codes "Invalid"
+text_of InternalError = codes "InternalError"
+text_of NotBuilt = codes "NotBuilt"
+text_of Timeout = codes "Timeout"
+
+-- to be asked again in a second: a resource version that isn't reached yet
+abbrev pub is_too_large : Reason → Bool
+is_too_large BadRequest = false
+is_too_large NotFound = false
+is_too_large MethodNotAllowed = false
+is_too_large AlreadyExists = false
+is_too_large Conflict = false
+is_too_large Expired = false
+is_too_large LengthRequired = false
+is_too_large RequestEntityTooLarge = false
+is_too_large Invalid = false
+is_too_large InternalError = false
+is_too_large NotBuilt = false
+is_too_large Timeout = true

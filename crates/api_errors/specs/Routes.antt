@@ -1,0 +1,44 @@
+-- What is told of a request that has no route, or whose options or body are refused. Nothing is told for want of memory.
+use Rattle.std.specs.Prelude.{Option, None, codes}
+use Rattle.json_obj.specs.declared.refusals.ObjNo.{ObjNo}
+use Rattle.json_obj.specs.declared.refusals.ObjNo.TheVariants as object
+use Rattle.route_req.specs.declared.routing.RouteNo.{RouteNo}
+use Rattle.route_req.specs.declared.routing.RouteNo.TheVariants as route
+use Rattle.route_req.specs.declared.transactions.TxTextNo.{TxTextNo}
+use Rattle.route_req.specs.declared.transactions.TxTextNo.TheVariants as transaction
+use Rattle.api_errors.specs.Options.{list_told, watch_told}
+use Rattle.api_errors.specs.Selectors.{selector_told}
+use Rattle.api_errors.specs.Told.{say, bad, bad_at}
+use Rattle.api_errors.specs.declared.reasons.Reason.TheVariants.{NotFound, MethodNotAllowed}
+use Rattle.api_errors.specs.declared.told.Told.{Told}
+
+abbrev pub object_told : ObjNo → Option Told
+object_told object.NotJson = bad (codes "object: NotJson")
+object_told object.Float = bad (codes "object: Float")
+object_told object.TooDeep = bad (codes "object: TooDeep")
+object_told object.WrongKind = bad (codes "object: WrongKind")
+object_told object.BadMeta = bad (codes "object: BadMeta")
+object_told object.Memory = None
+
+abbrev pub transaction_told : TxTextNo → Option Told
+transaction_told transaction.NotJson = bad (codes "transaction: NotJson")
+transaction_told transaction.Float = bad (codes "transaction: Float")
+transaction_told transaction.TooDeep = bad (codes "transaction: TooDeep")
+transaction_told transaction.NotList = bad (codes "transaction: NotList")
+transaction_told transaction.Empty = bad (codes "transaction: Empty")
+transaction_told transaction.TooManyItems = bad (codes "transaction: TooManyItems")
+transaction_told (transaction.BadItem index) = bad_at (codes "transaction: BadItem in item ") index
+transaction_told (transaction.BadObject index fault) = bad_at (codes "transaction: BadObject in item ") index
+transaction_told (transaction.Repeated index) = bad_at (codes "transaction: Repeated in item ") index
+transaction_told transaction.Memory = None
+
+abbrev pub route_told : RouteNo → Option Told
+route_told route.NoPath = say NotFound (codes "the server could not find the requested resource")
+route_told route.NoMethod = say MethodNotAllowed (codes "the server does not allow this method on the requested resource")
+route_told (route.Selector fault) = selector_told fault
+route_told (route.List fault) = list_told fault
+route_told (route.Watch fault) = watch_told fault
+route_told (route.Object fault) = object_told fault
+route_told route.Operation = bad (codes "operation: BadRevision")
+route_told (route.Transaction fault) = transaction_told fault
+route_told route.Memory = None

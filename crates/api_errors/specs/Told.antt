@@ -1,0 +1,64 @@
+-- What a refusal is told: a reason and a message.
+use Rattle.std.specs.Prelude.{ℕ, List, [], ◌∷◌, ◌++◌, Option, Some, codes, decimal}
+use Rattle.std.specs.List.{concat}
+use Rattle.kube_meta.specs.Resources.{message_name_of}
+use Rattle.kube_meta.specs.declared.resources.Resource.{Resource}
+use Rattle.json_obj.specs.Replies.{expired_message}
+use Rattle.json_obj.specs.declared.replies.Refusal.{Refusal}
+use Rattle.api_errors.specs.Reasons.{code_of, text_of, is_too_large}
+use Rattle.api_errors.specs.declared.reasons.Reason.{Reason}
+use Rattle.api_errors.specs.declared.reasons.Reason.TheVariants.{BadRequest, NotFound, MethodNotAllowed, AlreadyExists, Conflict, Expired, Invalid, InternalError, NotBuilt, Timeout}
+use Rattle.api_errors.specs.declared.told.Told.{Told}
+
+abbrev pub say : Reason → List ℕ → Option Told
+say reason message = Some (record { reason = reason; message = message })
+
+-- a fault at a place, and in an item; both are counted from 0
+abbrev pub say_at : Reason → List ℕ → ℕ → Option Told
+say_at reason message at = say reason (message ++ decimal at)
+
+abbrev pub bad : List ℕ → Option Told
+bad message = say BadRequest message
+
+abbrev pub bad_at : List ℕ → ℕ → Option Told
+bad_at message at = say_at BadRequest message at
+
+abbrev pub invalid : List ℕ → Option Told
+invalid message = say Invalid message
+
+-- the object, as `pods "web"`
+abbrev pub named : Resource → List ℕ → List ℕ → List ℕ
+named resource name rest = concat (message_name_of resource ∷ codes " \"" ∷ name ∷ codes "\"" ∷ rest ∷ [])
+
+abbrev pub already_exists : Resource → List ℕ → Told
+already_exists resource name = record { reason = AlreadyExists; message = named resource name (codes " already exists") }
+
+abbrev pub not_found : Resource → List ℕ → Told
+not_found resource name = record { reason = NotFound; message = named resource name (codes " not found") }
+
+abbrev pub conflict : Resource → List ℕ → ℕ → ℕ → Told
+conflict resource name present given =
+    record { reason = Conflict; message = named resource name (concat (codes " is at resourceVersion " ∷ decimal present ∷ codes ", not " ∷ decimal given ∷ [])) }
+
+abbrev pub used_up : Told
+used_up = record { reason = InternalError; message = codes "Revisions are used up" }
+
+abbrev pub read_only : Told
+read_only = record { reason = MethodNotAllowed; message = codes "this server is a mirror" }
+
+abbrev pub expired : ℕ → ℕ → Told
+expired asked floor = record { reason = Expired; message = expired_message asked floor }
+
+abbrev pub too_large : ℕ → ℕ → Told
+too_large asked current =
+    record { reason = Timeout; message = codes "Timeout: Too large resource version: " ++ (decimal asked ++ (codes ", current: " ++ decimal current)) }
+
+abbrev pub bad_upgrade : Told
+bad_upgrade = record { reason = BadRequest; message = codes "websocket: BadUpgrade" }
+
+abbrev pub not_built : Told
+not_built = record { reason = NotBuilt; message = codes "not built" }
+
+-- the same for a Status
+abbrev pub refusal_of : Told → Refusal
+refusal_of told = record { code = code_of told.reason; reason = text_of told.reason; message = told.message; too_large = is_too_large told.reason }

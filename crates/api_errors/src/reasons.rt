@@ -1,0 +1,71 @@
+//! The reasons of failures.
+
+ghost use Rattle.std.specs.Prelude.{◌≡◌};
+
+/// Why a request failed, in the words of a Status.
+#[derive(Clone, Copy, Debug, PartialEq, Eq)]
+pub enum Reason {
+    BadRequest,
+    NotFound,
+    MethodNotAllowed,
+    AlreadyExists,
+    Conflict,
+    Expired,
+    LengthRequired,
+    RequestEntityTooLarge,
+    Invalid,
+    InternalError,
+    NotBuilt,
+    Timeout,
+}
+
+impl Reason {
+    ghost use Rattle.api_errors.specs.Reasons.{code_of, text_of, is_too_large};
+
+    /// The HTTP status code of the failure.
+    pub fn code(self) -> u16
+        ensures { result ≡ code_of self }
+    {
+        match self {
+            Reason::BadRequest => 400,
+            Reason::NotFound => 404,
+            Reason::MethodNotAllowed => 405,
+            Reason::AlreadyExists | Reason::Conflict => 409,
+            Reason::Expired => 410,
+            Reason::LengthRequired => 411,
+            Reason::RequestEntityTooLarge => 413,
+            Reason::Invalid => 422,
+            Reason::InternalError => 500,
+            Reason::NotBuilt => 501,
+            Reason::Timeout => 504,
+        }
+    }
+
+    /// The word itself, as `NotFound`.
+    pub fn text(self) -> &'static str
+        ensures { result.now ≡ text_of self }
+    {
+        match self {
+            Reason::BadRequest => "BadRequest",
+            Reason::NotFound => "NotFound",
+            Reason::MethodNotAllowed => "MethodNotAllowed",
+            Reason::AlreadyExists => "AlreadyExists",
+            Reason::Conflict => "Conflict",
+            Reason::Expired => "Expired",
+            Reason::LengthRequired => "LengthRequired",
+            Reason::RequestEntityTooLarge => "RequestEntityTooLarge",
+            Reason::Invalid => "Invalid",
+            Reason::InternalError => "InternalError",
+            Reason::NotBuilt => "NotBuilt",
+            Reason::Timeout => "Timeout",
+        }
+    }
+
+    /// Whether the resource version that was asked for isn't reached yet, so that the client may ask
+    /// again in a second.
+    pub fn is_too_large(self) -> bool
+        ensures { result ≡ is_too_large self }
+    {
+        self == Reason::Timeout
+    }
+}
