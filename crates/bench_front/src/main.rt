@@ -1,7 +1,7 @@
 //! Times one `look` and one `commit` of `rev_front` beside a plain atomic load and a plain `fetch_add`.
 //!
-//! Without words it checks itself on a small log and prints one line. With the word `time` it prints, for each of the two
-//! pairs, the nanoseconds that one step takes and their ratio, as the best of some runs that take turns.
+//! Without words it checks itself on a small log and prints one line. With the word `time` it prints, for each of the
+//! two pairs, the nanoseconds that one step takes and their ratio, as the best of some runs that take turns.
 #![tactic(auto)]
 
 ghost use Rattle.std.specs.Prelude.{◌≡◌};

@@ -18,7 +18,8 @@ fn best(rt: &impl Clock, from: Instant, so_far: u64) -> io::Result<u64> {
     Ok(took.min(so_far))
 }
 
-/// Prints one pair: the step's name, what it and its plain fellow take in hundredths of a nanosecond, and their ratio in hundredths.
+/// Prints one pair: the step's name, what it and its plain fellow take in hundredths of a nanosecond, and their ratio
+/// in hundredths.
 fn print_pair<R: Runtime>(
     rt: &R,
     name: &str,
