@@ -17,7 +17,7 @@ use Rattle.field_select.specs.declared.terms.Term.{Term}
 use Rattle.field_select.specs.Bytes.{is_in, is_escaped, begins_with, without, taken, left}
 use Rattle.field_select.specs.Grammar.{IsName, IsOperator, escaped, IsTerm, AreCommas, AreTerms, IsSelector}
 use Rattle.field_select.specs.Reading.{◌>>=◌, place, value_at, operator_at, field_named, place_among, of_field, behind_name, term_at, terms_at, followed_by, selector_of}
-use Rattle.field_select.specs.Left.{Reads}
+use Rattle.field_select.specs.Left.{ReadsTerms}
 use Rattle.field_select.proofs.Runs.{either, taken_left}
 use Rattle.field_select.proofs.Loops.{read, plain_byte, terms_step, terms_none}
 
@@ -453,10 +453,10 @@ unfolding selector_of
 is_read resource text ts is = rw (le-ltb 8192 (length text) is.short) (terms_again resource (length text) ts 64 text is.are_terms is.few)
 
 -- what is read is in the grammar
-pub is_found : (resource : Resource) (text : List ℕ) (r : Result (List Term) FieldNo) → Reads r (selector_of resource text) → IfOk r (IsSelector resource text)
+pub is_found : (resource : Resource) (text : List ℕ) (r : Result (List Term) FieldNo) → ReadsTerms r (selector_of resource text) → IfOk r (IsSelector resource text)
 is_found resource text (Ok ts) e = selector_found resource text ts e
 is_found resource text (Err n) e = tt
 
 -- what is in the grammar is read
-pub is_only : (resource : Resource) (text : List ℕ) (r : Result (List Term) FieldNo) → Reads r (selector_of resource text) → (ts : List Term) → IsSelector resource text ts → Reads r (Ok ts)
-is_only resource text r e ts is = subst (Reads r) (is_read resource text ts is) e
+pub is_only : (resource : Resource) (text : List ℕ) (r : Result (List Term) FieldNo) → ReadsTerms r (selector_of resource text) → (ts : List Term) → IsSelector resource text ts → ReadsTerms r (Ok ts)
+is_only resource text r e ts is = subst (ReadsTerms r) (is_read resource text ts is) e

@@ -20,6 +20,6 @@ Finds (Ok terms) read = read ≡ Ok terms.items
 Finds (Err fault) read = Fails fault read
 
 -- The same of a selector, which is seen as the list of its terms.
-abbrev pub Reads : Result (List Term) FieldNo → Result (List Term) FieldNo → Type 0
-Reads (Ok terms) read = read ≡ Ok terms
-Reads (Err fault) read = Fails fault read
+abbrev pub ReadsTerms : Result (List Term) FieldNo → Result (List Term) FieldNo → Type 0
+ReadsTerms (Ok terms) read = read ≡ Ok terms
+ReadsTerms (Err fault) read = Fails fault read

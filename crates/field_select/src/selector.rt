@@ -4,7 +4,7 @@ ghost use Rattle.std.specs.Prelude.{◌≡◌, ◌↔◌, List, [], IfOk, IsTrue
 ghost use Rattle.field_select.specs.declared.terms.Term.{Term as Asked};
 ghost use Rattle.field_select.specs.Grammar.{IsSelector};
 ghost use Rattle.field_select.specs.Reading.{selector_of};
-ghost use Rattle.field_select.specs.Left.{Reads};
+ghost use Rattle.field_select.specs.Left.{ReadsTerms};
 ghost use Rattle.field_select.specs.Meaning.{Selects, selects, wanted};
 
 use crate::reading::terms_of;
@@ -43,16 +43,16 @@ impl FieldSel {
         // What is read is in the grammar.
         ensures found { IfOk result (IsSelector resource text.now) }
         // What is in the grammar is read as what it stands for, unless memory ran out.
-        ensures only { (terms : List Asked) → IsSelector resource text.now terms → Reads result (Ok terms) }
+        ensures only { (terms : List Asked) → IsSelector resource text.now terms → ReadsTerms result (Ok terms) }
         // Any other text is refused with its first fault from the left, unless memory ran out.
-        ensures exact { Reads result (selector_of resource text.now) }
+        ensures exact { ReadsTerms result (selector_of resource text.now) }
     {
         FieldSel::of(alloc, text, resource)
     }
 
     #[tactic(auto, unfolding(crate::specs::Reading::selector_of))]
     fn of(alloc: Global, text: &str, resource: Resource) -> Result<FieldSel, FieldNo>
-        ensures { Reads result (selector_of resource text.now) }
+        ensures { ReadsTerms result (selector_of resource text.now) }
     {
         if text.len() > MOST_BYTES {
             return Err(FieldNo::TooLong);

@@ -10,7 +10,7 @@ use Rattle.httparse.specs.declared.spans.HeaderSpan.{HeaderSpan}
 use Rattle.httparse.specs.declared.spans.RequestSpans.{RequestSpans}
 use Rattle.http_read.specs.Heads.{most_head, has_field, length_said, within_most, length_value, needs_length, most_body, fields_of, values_of}
 use Rattle.http_read.specs.Requests.{front, HasHead, ReadsOne, head_answer, request_of}
-use Rattle.http_read.specs.Answers.{Reads}
+use Rattle.http_read.specs.Answers.{ReadsNext}
 use Rattle.http_read.specs.Steps.{FindsHead, FillsBody, ReadsHead}
 use Rattle.http_read.specs.declared.request.Req.{Req}
 use Rattle.http_read.specs.declared.refusal.ReqNo.{ReqNo}
@@ -110,10 +110,10 @@ refuses-so h =
 
 -- a head whose fields refuse the request
 pub refuses-body : (bytes : List ℕ) (h : RequestHead) (after : List ℕ) (why : ReqNo) (kept : List ℕ) (left : Option (List ℕ)) (f f' : ℕ)
-    → HasHead bytes h after → head_answer h ≡ Err why → Reads bytes (Err why) kept left f f'
+    → HasHead bytes h after → head_answer h ≡ Err why → ReadsNext bytes (Err why) kept left f f'
 refuses-body bytes h after why kept left f f' has e = by_why why e (subst RefusesSo e (refuses-so h))
   where
-    by_why : (why : ReqNo) → head_answer h ≡ Err why → IsHeadRefusal why → Reads bytes (Err why) kept left f f'
+    by_why : (why : ReqNo) → head_answer h ≡ Err why → IsHeadRefusal why → ReadsNext bytes (Err why) kept left f f'
     by_why Malformed e ok = inr (h, after, has, e)
     by_why HeadTooLong e ok = absurd ok
     by_why TooManyHeaders e ok = absurd ok
@@ -125,7 +125,7 @@ refuses-body bytes h after why kept left f f' has e = by_why why e (subst Refuse
 
 -- a body that isn't filled
 pub breaks-off : (bytes : List ℕ) (h : RequestHead) (after body kept : List ℕ) (left : Option (List ℕ)) (f f' : ℕ) (why : ReqNo)
-    → HasHead bytes h after → head_answer h ≡ Ok (length body) → FillsBody after body kept left f f' (Err why) → Reads bytes (Err why) kept left f f'
+    → HasHead bytes h after → head_answer h ≡ Ok (length body) → FillsBody after body kept left f f' (Err why) → ReadsNext bytes (Err why) kept left f f'
 breaks-off bytes h after body kept left f f' Malformed has e p = absurd p
 breaks-off bytes h after body kept left f f' HeadTooLong has e p = absurd p
 breaks-off bytes h after body kept left f f' TooManyHeaders has e p = absurd p
@@ -137,7 +137,7 @@ breaks-off bytes h after body kept left f f' Memory has e p = absurd p
 
 -- a head that isn't read
 pub no-head : (bytes : List ℕ) (spans : List HeaderSpan) (left : Option (List ℕ)) (f f' : ℕ) (why : ReqNo)
-    → ReadsHead bytes spans left f f' (Err why) → Reads bytes (Err why) bytes left f f'
+    → ReadsHead bytes spans left f f' (Err why) → ReadsNext bytes (Err why) bytes left f f'
 no-head bytes spans left f f' Malformed p = inl p
 no-head bytes spans left f f' HeadTooLong p = inl p
 no-head bytes spans left f f' TooManyHeaders p = inl p
@@ -174,7 +174,7 @@ rose-later f f' f'' p q h below =
 
 -- faults that were counted since a later moment were counted since an earlier one
 pub reads-later : (bytes : List ℕ) (answer : Result (Option Req) ReqNo) (kept : List ℕ) (left : Option (List ℕ)) (f f' f'' : ℕ)
-    → f ≤ f' → f' ≤ f'' → Reads bytes answer kept left f' f'' → Reads bytes answer kept left f f''
+    → f ≤ f' → f' ≤ f'' → ReadsNext bytes answer kept left f' f'' → ReadsNext bytes answer kept left f f''
 reads-later bytes (Ok (Some req)) kept left f f' f'' p q h = h
 reads-later bytes (Ok None) kept left f f' f'' p q h = h
 reads-later bytes (Err ReadFault) kept left f f' f'' p q h = (rose-later f f' f'' p q h.0, h.1)

@@ -9,17 +9,17 @@ use Rattle.http_read.specs.declared.refusal.ReqNo.{ReqNo}
 use Rattle.http_read.specs.declared.refusal.ReqNo.TheVariants.{Malformed, HeadTooLong, TooManyHeaders, BodyTooLong, NeedsLength, CutShort, ReadFault, Memory}
 
 -- what the reading of a request answers that has these bytes before it, where `kept` is what it leaves of them
-abbrev pub Reads : List ℕ → Result (Option Req) ReqNo → List ℕ → Option (List ℕ) → ℕ → ℕ → Type 0
-Reads bytes (Ok (Some req)) kept left old_faults new_faults = ReadsOne bytes req kept
-Reads bytes (Ok None) kept left old_faults new_faults = (bytes ≡ []) × IsExhausted left × (kept ≡ [])
-Reads bytes (Err ReadFault) kept left old_faults new_faults = Rose old_faults new_faults × IsUnfinished bytes
-Reads bytes (Err Memory) kept left old_faults new_faults = (kept ≡ bytes) × StandsHead bytes
-Reads bytes (Err CutShort) kept left old_faults new_faults = IsCutShort bytes × IsExhausted left
-Reads bytes (Err Malformed) kept left old_faults new_faults = IsRefused bytes Malformed
-Reads bytes (Err HeadTooLong) kept left old_faults new_faults = IsRefused bytes HeadTooLong
-Reads bytes (Err TooManyHeaders) kept left old_faults new_faults = IsRefused bytes TooManyHeaders
-Reads bytes (Err BodyTooLong) kept left old_faults new_faults = IsRefused bytes BodyTooLong
-Reads bytes (Err NeedsLength) kept left old_faults new_faults = IsRefused bytes NeedsLength
+abbrev pub ReadsNext : List ℕ → Result (Option Req) ReqNo → List ℕ → Option (List ℕ) → ℕ → ℕ → Type 0
+ReadsNext bytes (Ok (Some req)) kept left old_faults new_faults = ReadsOne bytes req kept
+ReadsNext bytes (Ok None) kept left old_faults new_faults = (bytes ≡ []) × IsExhausted left × (kept ≡ [])
+ReadsNext bytes (Err ReadFault) kept left old_faults new_faults = Rose old_faults new_faults × IsUnfinished bytes
+ReadsNext bytes (Err Memory) kept left old_faults new_faults = (kept ≡ bytes) × StandsHead bytes
+ReadsNext bytes (Err CutShort) kept left old_faults new_faults = IsCutShort bytes × IsExhausted left
+ReadsNext bytes (Err Malformed) kept left old_faults new_faults = IsRefused bytes Malformed
+ReadsNext bytes (Err HeadTooLong) kept left old_faults new_faults = IsRefused bytes HeadTooLong
+ReadsNext bytes (Err TooManyHeaders) kept left old_faults new_faults = IsRefused bytes TooManyHeaders
+ReadsNext bytes (Err BodyTooLong) kept left old_faults new_faults = IsRefused bytes BodyTooLong
+ReadsNext bytes (Err NeedsLength) kept left old_faults new_faults = IsRefused bytes NeedsLength
 
 -- the call didn't end in a fault of the source, so that this holds
 abbrev pub UnlessFault : {A : Type 0} → Result A ReqNo → Type 0 → Type 0
@@ -52,7 +52,7 @@ pub record AnswersNext
     (answer : Result (Option Req) ReqNo) : Type 0 where
   pub taken : List ℕ
   pub left : old_left ≡ prepended taken new_left
-  pub answers : Reads (old.kept ++ taken) answer new.kept new_left old_faults new_faults
+  pub answers : ReadsNext (old.kept ++ taken) answer new.kept new_left old_faults new_faults
   pub idle : (IsUnfinished old.kept → ⊥) → taken ≡ []
   pub refusal : new.refusal ≡ kept_refusal answer
 

@@ -2,7 +2,7 @@
 
 ghost use Rattle.std.specs.Prelude.{◌≡◌, ◌≤◌, ◌++◌, ℕ, List, [], None, IfOk, IfSome, IsNone, length};
 ghost use Rattle.edge_io.specs.Told.{prepended};
-ghost use Rattle.http_read.specs.Answers.{AnswersNext, Repeats, Reads, UnlessFault, kept_refusal};
+ghost use Rattle.http_read.specs.Answers.{AnswersNext, Repeats, ReadsNext, UnlessFault, kept_refusal};
 ghost use Rattle.http_read.specs.Steps.{FillsBody, FindsHead};
 ghost use Rattle.httparse.specs.Grammar.{RequestHead};
 ghost use Rattle.httparse.specs.Spans.{IsRequestAt};
@@ -89,7 +89,7 @@ fn read_found<S: Source>(
 ) -> Result<Option<Req>, ReqNo>
     requires { FindsHead kept.old spans.now found }
     ensures reads { (taken : List ℕ) × (S.left source.old ≡ prepended taken (S.left source.new))
-        × Reads (kept.old ++ taken) result kept.new (S.left source.new) (S.faults source.old) (S.faults source.new)
+        × ReadsNext (kept.old ++ taken) result kept.new (S.left source.new) (S.faults source.old) (S.faults source.new)
         × ((IsUnfinished kept.old → ⊥) → taken ≡ []) }
     ensures idle { (IsUnfinished kept.old → ⊥) → source.new ≡ source.old }
     ensures quiet { UnlessFault result (S.faults source.new ≡ S.faults source.old) }
@@ -153,7 +153,7 @@ fn request_in(
 // Reads the next request, behind the bytes that are kept.
 fn read_next<S: Source>(kept: &mut Kept, source: &mut S) -> Result<Option<Req>, ReqNo>
     ensures reads { (taken : List ℕ) × (S.left source.old ≡ prepended taken (S.left source.new))
-        × Reads (kept.old ++ taken) result kept.new (S.left source.new) (S.faults source.old) (S.faults source.new)
+        × ReadsNext (kept.old ++ taken) result kept.new (S.left source.new) (S.faults source.old) (S.faults source.new)
         × ((IsUnfinished kept.old → ⊥) → taken ≡ []) }
     ensures idle { (IsUnfinished kept.old → ⊥) → source.new ≡ source.old }
     ensures quiet { UnlessFault result (S.faults source.new ≡ S.faults source.old) }

@@ -13,7 +13,7 @@ use Rattle.label_select.specs.declared.refusal.LabelNo.TheVariants.{Syntax, Empt
 use Rattle.label_select.specs.Pieces.{Piece, is_kind, tokens_of}
 use Rattle.label_select.specs.Grammar.{IsWord, IsKey, IsValue, Joined, IsSet, IsEquality, IsInequality, IsRequirement, AreRequirements, IsSelector}
 use Rattle.label_select.specs.Reading.{◌>>=◌, key_at, value_at, set_at, inside_at, behind_key, requirement_at, followed_by, requirements_at, selector_at, selector_of}
-use Rattle.label_select.specs.Left.{Reads}
+use Rattle.label_select.specs.Left.{ReadsRequirements}
 use Rattle.label_select.proofs.Bytes.{either}
 use Rattle.label_select.proofs.KindTests.{kind_is, kind_apart, is_itself}
 use Rattle.label_select.proofs.TokenLaws.{tokens_unique, tokens_computed}
@@ -306,10 +306,10 @@ is_read text rs is =
     rw (le-ltb 8192 (length text) is.short) (ap (selector_at (length text)) (tokens_unique is.tokens 0 text is.are_tokens) ∙ selector_again (length text) is.tokens rs is.requirements is.few)
 
 -- what is read is in the grammar
-pub is_found : (text : List ℕ) (r : Result (List Requirement) LabelNo) → Reads r (selector_of text) → IfOk r (IsSelector text)
+pub is_found : (text : List ℕ) (r : Result (List Requirement) LabelNo) → ReadsRequirements r (selector_of text) → IfOk r (IsSelector text)
 is_found text (Ok rs) e = selector_found text rs e
 is_found text (Err n) e = tt
 
 -- what is in the grammar is read
-pub is_only : (text : List ℕ) (r : Result (List Requirement) LabelNo) → Reads r (selector_of text) → (rs : List Requirement) → IsSelector text rs → Reads r (Ok rs)
-is_only text r e rs is = subst (Reads r) (is_read text rs is) e
+pub is_only : (text : List ℕ) (r : Result (List Requirement) LabelNo) → ReadsRequirements r (selector_of text) → (rs : List Requirement) → IsSelector text rs → ReadsRequirements r (Ok rs)
+is_only text r e rs is = subst (ReadsRequirements r) (is_read text rs is) e

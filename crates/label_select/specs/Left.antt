@@ -43,6 +43,6 @@ Finds (Ok requirements) read = read ≡ Ok requirements.items
 Finds (Err fault) read = Fails fault read
 
 -- The same of a selector, which is seen as the list of its requirements.
-abbrev pub Reads : Result (List Requirement) LabelNo → Result (List Requirement) LabelNo → Type 0
-Reads (Ok requirements) read = read ≡ Ok requirements
-Reads (Err fault) read = Fails fault read
+abbrev pub ReadsRequirements : Result (List Requirement) LabelNo → Result (List Requirement) LabelNo → Type 0
+ReadsRequirements (Ok requirements) read = read ≡ Ok requirements
+ReadsRequirements (Err fault) read = Fails fault read

@@ -4,7 +4,7 @@ ghost use Rattle.std.specs.Prelude.{◌≡◌, ◌↔◌, List, [], IfOk, IsTrue
 ghost use Rattle.label_select.specs.declared.requirements.Requirement.{Requirement as Asked};
 ghost use Rattle.label_select.specs.Grammar.{IsSelector};
 ghost use Rattle.label_select.specs.Reading.{selector_of};
-ghost use Rattle.label_select.specs.Left.{Reads};
+ghost use Rattle.label_select.specs.Left.{ReadsRequirements};
 ghost use Rattle.label_select.specs.Meaning.{Selects, selects};
 
 use crate::cursor::Cursor;
@@ -42,16 +42,16 @@ impl LabelSel {
         // What is read is in the grammar.
         ensures found { IfOk result (IsSelector text.now) }
         // What is in the grammar is read as what it stands for, unless memory ran out.
-        ensures only { (rs : List Asked) → IsSelector text.now rs → Reads result (Ok rs) }
+        ensures only { (rs : List Asked) → IsSelector text.now rs → ReadsRequirements result (Ok rs) }
         // Any other text is refused with its first fault from the left, unless memory ran out.
-        ensures exact { Reads result (selector_of text.now) }
+        ensures exact { ReadsRequirements result (selector_of text.now) }
     {
         LabelSel::of(alloc, text)
     }
 
     #[tactic(auto, unfolding(crate::specs::Reading::selector_of, crate::specs::Reading::selector_at))]
     fn of(alloc: Global, text: &str) -> Result<LabelSel, LabelNo>
-        ensures { Reads result (selector_of text.now) }
+        ensures { ReadsRequirements result (selector_of text.now) }
     {
         if text.len() > MOST_BYTES {
             return Err(LabelNo::TooLong);

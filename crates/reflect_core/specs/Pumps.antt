@@ -5,7 +5,7 @@ use Rattle.rev_front.specs.Passes.{Pass}
 use Rattle.rev_log.specs.Changes.{RevisionData}
 use Rattle.rev_log.specs.Logs.{Log}
 use Rattle.up_api.specs.Feeds.{PolledData, IsPoll, feed_at}
-use Rattle.up_api.specs.Sections.{counted}
+use Rattle.up_api.specs.Sections.{raised_once}
 use Rattle.up_api.specs.declared.feeds.Feed.{Feed}
 use Rattle.reflect_core.specs.declared.pump.Pumped.{Pumped}
 
@@ -65,7 +65,7 @@ pub record GoesOn (log : Log) (r s : ReflectorState) (p q : Pass RevisionData) (
 -- a count that goes up by so many
 abbrev pub raised : ℕ → ℕ → ℕ
 raised zero n = n
-raised (suc more) n = counted (raised more n)
+raised (suc more) n = raised_once (raised more n)
 
 -- why a cache that ended at a revision is built anew: the log was compacted past it, or the feeds were cut in this call
 abbrev pub HasCause : ℕ → Pass RevisionData → Pass RevisionData → Type 0
@@ -73,11 +73,11 @@ HasCause end p q = (end < q.floor) ⊎ (p.gen < q.gen)
 
 -- a count stands, or it went up by one for a cause
 abbrev pub RisesFor : Type 0 → ℕ → ℕ → Type 0
-RisesFor cause old new = (new ≡ old) ⊎ ((new ≡ counted old) × cause)
+RisesFor cause old new = (new ≡ old) ⊎ ((new ≡ raised_once old) × cause)
 
 -- the same of a count that may not be told
 abbrev pub MayRiseFor : Type 0 → Option ℕ → Option ℕ → Type 0
-MayRiseFor cause old new = (new ≡ old) ⊎ ((new ≡ option_map counted old) × cause)
+MayRiseFor cause old new = (new ≡ old) ⊎ ((new ≡ option_map raised_once old) × cause)
 
 abbrev pub raised_where_told : ℕ → Option ℕ → Option ℕ
 raised_where_told more count = option_map (raised more) count

@@ -1,7 +1,7 @@
 //! Bringing a cache to a revision.
 
 ghost use Rattle.std.specs.Prelude.{◌≡◌, ◌≤◌, ◌<◌, ◌+◌, ◌⊎◌, ℕ, Ok, None, Some, IfOk, IfErr, OnErr, IfSome, option_map};
-ghost use Rattle.up_api.specs.Sections.{log_of, Learns, StaysOrSeesAll, StandsAt, Knows, counted};
+ghost use Rattle.up_api.specs.Sections.{log_of, Learns, StaysOrSeesAll, StandsAt, Knows, raised_once};
 ghost use Rattle.reflect_core.specs.Pumps.{generation_of, unmoved, GoesOn, IsKnown, HasCause, RisesFor, MayRiseFor, raised, raised_where_told};
 
 use crate::following::Followed;
@@ -148,9 +148,9 @@ fn rebuild<N: LogFacts, H: Held<N>, U: Upstream<N>>(
     ensures reached { IfOk result (λ pumped. told.old.shown ≤ pumped.end) }
     ensures end { IfOk result (λ pumped. pumped.end ≡ H.ends_at held.new) }
     ensures answer { IfOk result (λ pumped. (pumped.cuts ≡ cuts) × (pumped.rebuilds ≡ 1)) }
-    ensures rebuilds { IfOk result (λ pumped. H.rebuilds held.new ≡ counted (H.rebuilds held.old)) }
+    ensures rebuilds { IfOk result (λ pumped. H.rebuilds held.new ≡ raised_once (H.rebuilds held.old)) }
     ensures kept { OnErr result (H.rebuilds held.new ≡ H.rebuilds held.old) }
-    ensures reads { U.reads up.new ≡ option_map counted (U.reads up.old) }
+    ensures reads { U.reads up.new ≡ option_map raised_once (U.reads up.old) }
 {
     let history = up.history(resource, told)?;
     held.rebuild(history, told)?;

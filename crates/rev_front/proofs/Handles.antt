@@ -8,7 +8,7 @@ use Rattle.atomic_table.specs.Table.{State, Me, step}
 use Rattle.rev_front.specs.declared.sight.Sight.{Sight}
 use Rattle.rev_front.specs.Passes.{LogId, Pass, Extends, Met, Whole, Covers, briefed, pass_from, revision, longer, last_or, looked}
 use Rattle.rev_front.specs.Rule.{looks, pass_of, whole_of, Rule, Stands}
-use Rattle.rev_front.specs.Kept.{Sits, Comes, Writes, Reads}
+use Rattle.rev_front.specs.Kept.{Sits, Comes, Writes, IsReaderOf}
 use Rattle.rev_front.proofs.Beginnings.{prefix_self, prefix_grown, longer_of_prefix, last_push}
 use Rattle.rev_front.proofs.Passing.{looked_on, commit_leads}
 
@@ -37,14 +37,14 @@ module _ {E : Type 0} where
       let moved : pass_of first k m'.0 ≡ pass_of first j (record v { loads = v.loads ++ n ∷ []; shown = n }) = λ i. pass_of first (same i) (e.2 i).0 in
       moved ∙ (λ i. record { first = first; seen = v.seen; shown = n; loads = v.loads ++ n ∷ []; looks = long i; last = last i; floor = v.floor; gen = v.generation; seat = j })
 
-  pub looks_reads : (fits : ℕ → E → Type 0) (first j k n : ℕ) (m m' : Me E (Sight E)) (end last told floor : ℕ) → k ≡ j → looks (step 0 0 0 0 none) m n m' → Reads fits first j m.0 end last told floor → Reads fits first k m'.0 end n told floor
+  pub looks_reads : (fits : ℕ → E → Type 0) (first j k n : ℕ) (m m' : Me E (Sight E)) (end last told floor : ℕ) → k ≡ j → looks (step 0 0 0 0 none) m n m' → IsReaderOf fits first j m.0 end last told floor → IsReaderOf fits first k m'.0 end n told floor
   looks_reads fits first j k n m m' end last told floor same e r =
       let was = r.shown_is in
       let later = e.0 in
       let v = m.0 in
       let w : Sight E = record v { loads = v.loads ++ n ∷ []; shown = n } in
-      let now : Reads fits first j w end n told floor = record { role = r.role; lawful = looked_on fits first j n v r.lawful e.0 e.1; end_is = r.end_is; last_is = sym (last_push 0 n v.loads); shown_is = omega arith; floor_is = r.floor_is } in
-      subst (λ (z : ℕ × Sight E). Reads fits first z.0 z.1 end n told floor) (λ i. (sym same i, sym (ap (λ (x : Me E (Sight E)). x.0) e.2) i)) now
+      let now : IsReaderOf fits first j w end n told floor = record { role = r.role; lawful = looked_on fits first j n v r.lawful e.0 e.1; end_is = r.end_is; last_is = sym (last_push 0 n v.loads); shown_is = omega arith; floor_is = r.floor_is } in
+      subst (λ (z : ℕ × Sight E). IsReaderOf fits first z.0 z.1 end n told floor) (λ i. (sym same i, sym (ap (λ (x : Me E (Sight E)). x.0) e.2) i)) now
 
   -- the pen after a commit
   pub commit_writes : (fits : ℕ → E → Type 0) (first j k : ℕ) (m m' : Me E (Sight E)) (e : E) (reached gen floor : ℕ) → k ≡ j → m' ≡ (record m.0 { seen = m.0.seen ++ e ∷ []; shown = m.0.shown + 1 }, m.1)

@@ -30,7 +30,7 @@ pub record Writes {E : Type 0} (fits : ℕ → E → Type 0) (first seat : ℕ) 
   pub floor_is : floor ≡ v.floor
 
 -- the numbers of a pass are those of its seat. The greatest revision that it was told came from its last load, or otherwise
-pub record Reads {E : Type 0} (fits : ℕ → E → Type 0) (first seat : ℕ) (v : Sight E) (end last told floor : ℕ) : Type 0 where
+pub record IsReaderOf {E : Type 0} (fits : ℕ → E → Type 0) (first seat : ℕ) (v : Sight E) (end last told floor : ℕ) : Type 0 where
   pub role : v.role ≡ Reader
   pub lawful : IsPass fits (pass_of first seat v)
   pub end_is : end ≡ end_from first v.seen

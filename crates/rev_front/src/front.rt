@@ -32,11 +32,11 @@ impl<E: Entry, N: LogName> Model for Front<E, N> {
     ghost Value = { Pass E };
 
     ghost use Rattle.rev_front.specs.Rule.{pass_of};
-    ghost use Rattle.rev_front.specs.Kept.{Sits, Reads};
+    ghost use Rattle.rev_front.specs.Kept.{Sits, IsReaderOf};
 
     ghost view = { λ f. pass_of N.log.first f.seat.id f.seat.me.0 };
 
-    ghost invariant = { λ f. Sits N.log (arc_value f.board).shared.table_id (arc_value f.board).shared.key f.seat.table_id f.seat.me.1 × Reads E.fits N.log.first f.seat.id f.seat.me.0 f.end f.last f.told f.floor };
+    ghost invariant = { λ f. Sits N.log (arc_value f.board).shared.table_id (arc_value f.board).shared.key f.seat.table_id f.seat.me.1 × IsReaderOf E.fits N.log.first f.seat.id f.seat.me.0 f.end f.last f.told f.floor };
 }
 
 impl<E: Entry, N: LogName> Front<E, N> {

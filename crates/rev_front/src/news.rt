@@ -21,9 +21,9 @@ impl<E: Entry, N: LogName> Model for News<E, N> {
     ghost Value = { Pass E };
 
     ghost use Rattle.rev_front.specs.Rule.{pass_of};
-    ghost use Rattle.rev_front.specs.Kept.{Comes, Reads};
+    ghost use Rattle.rev_front.specs.Kept.{Comes, IsReaderOf};
 
     ghost view = { λ n. pass_of N.log.first n.seat.id n.seat.me.0 };
 
-    ghost invariant = { λ n. Comes N.log n.seat.table_id n.seat.me.1 × Reads E.fits N.log.first n.seat.id n.seat.me.0 n.end n.last n.told n.floor };
+    ghost invariant = { λ n. Comes N.log n.seat.table_id n.seat.me.1 × IsReaderOf E.fits N.log.first n.seat.id n.seat.me.0 n.end n.last n.told n.floor };
 }

@@ -22,10 +22,10 @@ use Rattle.select_all.specs.declared.selection.Selection.{Selection}
 use Rattle.select_all.specs.declared.selection.SelNo.{SelNo}
 use Rattle.select_all.specs.Selecting.{IsWithin, is_within}
 use Rattle.select_all.specs.ListingLaws.{SelectionsDecide, WantedIsNeeded}
-use Rattle.select_all.specs.Reading.{IsRead, Reads, label_refusal}
+use Rattle.select_all.specs.Reading.{IsRead, ReadsSelection, label_refusal}
 
 -- where the label text is in the grammar, its reader refuses it for want of memory alone
-pub label_only : (fault : LabelNo) (requirements : List Requirement) (s : Selection) → LabelFails fault (Ok requirements) → Reads (Err (label_refusal fault)) (Ok s)
+pub label_only : (fault : LabelNo) (requirements : List Requirement) (s : Selection) → LabelFails fault (Ok requirements) → ReadsSelection (Err (label_refusal fault)) (Ok s)
 label_only Memory requirements s e = tt
 label_only (Syntax at) requirements s e = absurd cc
 label_only (BadKey at) requirements s e = absurd cc

@@ -41,7 +41,7 @@ abbrev pub selection_of : Resource → Option (List ℕ) → List ℕ → List �
 selection_of resource ns label field = both_read resource ns (label_selector_of label) (field_selector_of resource field)
 
 -- What was read is what reading gives; what was refused is what reading refuses, unless memory ran out.
-abbrev pub Reads : Result Selection SelNo → Result Selection SelNo → Type 0
-Reads (Ok s) read = read ≡ Ok s
-Reads (Err Memory) read = Unit {0}
-Reads (Err fault) read = read ≡ Err fault
+abbrev pub ReadsSelection : Result Selection SelNo → Result Selection SelNo → Type 0
+ReadsSelection (Ok s) read = read ≡ Ok s
+ReadsSelection (Err Memory) read = Unit {0}
+ReadsSelection (Err fault) read = read ≡ Err fault

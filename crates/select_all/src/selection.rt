@@ -2,7 +2,7 @@
 
 ghost use Rattle.std.specs.Prelude.{◌≡◌, ◌↔◌, IfOk, IsTrue, Ok, option_copied};
 ghost use Rattle.select_all.specs.declared.selection.Selection.{Selection as Asked};
-ghost use Rattle.select_all.specs.Reading.{IsRead, Reads, selection_of, label_refusal, field_refusal};
+ghost use Rattle.select_all.specs.Reading.{IsRead, ReadsSelection, selection_of, label_refusal, field_refusal};
 ghost use Rattle.select_all.specs.Selecting.{Selects, is_within, selects, holds, kind_of_change, told_of};
 
 use field_select::{FieldNo, FieldSel};
@@ -101,10 +101,10 @@ impl Selection {
         // What is read is in the grammars.
         ensures found { IfOk result (IsRead resource ns label.now field.now) }
         // What is in the grammars is read as what it stands for, unless memory ran out.
-        ensures only { (s : Asked) → IsRead resource ns label.now field.now s → Reads result (Ok s) }
+        ensures only { (s : Asked) → IsRead resource ns label.now field.now s → ReadsSelection result (Ok s) }
         // Any other texts are refused with the first fault of the label text or, where that is read, of
         // the field text, unless memory ran out.
-        ensures exact { Reads result (selection_of resource ns label.now field.now) }
+        ensures exact { ReadsSelection result (selection_of resource ns label.now field.now) }
     {
         let labels = match LabelSel::read(alloc, label) {
             Ok(labels) => labels,

@@ -88,5 +88,5 @@ RefusesPoll q feed (Future asked current) = ⊥
 RefusesPoll q feed Memory = Unit {0}
 
 -- a count goes up by one, and stays at its last value, 2 ^ 62
-abbrev pub counted : ℕ → ℕ
-counted n = min (n + 1) (2 ^ 62)
+abbrev pub raised_once : ℕ → ℕ
+raised_once n = min (n + 1) (2 ^ 62)

@@ -4,7 +4,7 @@ ghost use Rattle.std.specs.Prelude.{◌≡◌, ◌≤◌, ℕ, OnOk, OnErr};
 ghost use Rattle.kube_meta.specs.declared.resources.Resource.{Resource};
 ghost use Rattle.rev_log.specs.Logs.{Log};
 ghost use Rattle.up_api.specs.Feeds.{IsFed, IsHistory};
-ghost use Rattle.up_api.specs.Sections.{log_of, StandsAt, counted};
+ghost use Rattle.up_api.specs.Sections.{log_of, StandsAt, raised_once};
 
 use crate::feeds::{History, Polled};
 use crate::named::LogFacts;
@@ -58,7 +58,7 @@ pub trait Held<N: LogFacts> {
         ensures stands { StandsAt (stands_for self.new) N.base told.new (ends_at self.new) }
         ensures done { OnOk result (ends_at self.new ≡ history.upto) }
         ensures base { OnOk result (base self.new ≡ history.floor) }
-        ensures rebuilds { OnOk result (rebuilds self.new ≡ counted (rebuilds self.old)) }
+        ensures rebuilds { OnOk result (rebuilds self.new ≡ raised_once (rebuilds self.old)) }
         ensures kept { OnErr result (self.new ≡ self.old) }
         ensures resource { resource self.new ≡ resource self.old }
         ensures window { window self.new ≡ window self.old };

@@ -2,7 +2,7 @@
 
 ghost use Rattle.std.specs.Prelude.{◌≡◌, ◌≤◌, ℕ, OnOk, OnErr};
 ghost use Rattle.rev_log.specs.Logs.{Log, end_of};
-ghost use Rattle.up_api.specs.Sections.{counted};
+ghost use Rattle.up_api.specs.Sections.{raised_once};
 
 use crate::*;
 use kube_meta::{Memory, Resource};

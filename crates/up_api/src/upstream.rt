@@ -5,7 +5,7 @@ ghost use Rattle.rev_front.specs.Passes.{Whole, end_from};
 ghost use Rattle.rev_log.specs.Changes.{RevisionData};
 ghost use Rattle.rev_log.specs.States.{IsStateAt};
 ghost use Rattle.up_api.specs.Feeds.{IsPoll, IsHistory, PollsJoin, feed_at};
-ghost use Rattle.up_api.specs.Sections.{log_of, Learns, LogsGrow, Sections, SectionsAll, Knows, StaysOrKnows, StaysOrKnowsAll, RefusesAt, RefusesPoll, counted};
+ghost use Rattle.up_api.specs.Sections.{log_of, Learns, LogsGrow, Sections, SectionsAll, Knows, StaysOrKnows, StaysOrKnowsAll, RefusesAt, RefusesPoll, raised_once};
 
 use crate::feeds::{Feed, History, Polled};
 use crate::named::LogFacts;
@@ -37,7 +37,7 @@ pub trait Upstream<N: LogFacts> {
         ensures refused { IfErr result (RefusesAt told.new at) }
         ensures own { own self.new ≡ own self.old }
         ensures knows { IfSome (own self.old) (λ w. StaysOrKnows w result told.old told.new) }
-        ensures reads { reads self.new ≡ option_map counted (reads self.old) }
+        ensures reads { reads self.new ≡ option_map raised_once (reads self.old) }
         ensures history_stays { history self.new ≡ history self.old };
 
     /// A feed of the resource that is complete up to the revision `at`.
@@ -78,7 +78,7 @@ pub trait Upstream<N: LogFacts> {
         ensures upto { IfOk result (λ history. history.upto ≡ end_from told.new.first told.new.seen) }
         ensures own { own self.new ≡ own self.old }
         ensures knows { IfSome (own self.old) (λ w. StaysOrKnowsAll w result told.old told.new) }
-        ensures reads { reads self.new ≡ option_map counted (reads self.old) }
+        ensures reads { reads self.new ≡ option_map raised_once (reads self.old) }
         ensures history_stays { history self.new ≡ history self.old };
 }
 

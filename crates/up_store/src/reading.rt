@@ -1,7 +1,7 @@
 //! The store as an upstream.
 
 ghost use Rattle.std.specs.Prelude.{◌≡◌, ◌≤◌, min};
-ghost use Rattle.up_api.specs.Sections.{counted};
+ghost use Rattle.up_api.specs.Sections.{raised_once};
 
 use crate::Store;
 use crate::store::{LAST, meet};

@@ -20,14 +20,14 @@ abbrev pub Allows : Connection → List ℕ → Type 0
 Allows client payload = FitsLimit client.config.max_message_size payload × FitsLimit client.config.max_frame_size payload
 
 -- where these bytes come, the client reads exactly them as this message, whatever follows
-abbrev pub Reads : Connection → List ℕ → Content → Type 0
-Reads client bytes content =
+abbrev pub ReadsMessages : Connection → List ℕ → Content → Type 0
+ReadsMessages client bytes content =
     (rest : List ℕ)
     → (effect : Effect) × (read_step client (bytes ++ rest) ≡ Ok (Complete (length bytes, effect))) × (effect.message ≡ Some content)
 
 -- a message is read as the text that was written, where that is UTF-8, and the close as a normal closure without a reason
 pub record ClientsRead : Type 0 where
   pub messages : (client : Connection) (line : List ℕ) → IsWaiting client → Allows client line → IsUtf8 line → length line < 2 ^ 63
-      → Reads client (message_text line) (text line)
+      → ReadsMessages client (message_text line) (text line)
   pub end : (client : Connection) → IsWaiting client → Allows client (to_be_bytes w16 1000)
-      → Reads client socket_end_text (close (Some (Normal, [])))
+      → ReadsMessages client socket_end_text (close (Some (Normal, [])))

@@ -2,7 +2,7 @@ use Rattle.std.proofs.Common.{ap, subst, ◌∙◌, ◌++◌, append_assoc}
 use Rattle.std.specs.Prelude.{Err}
 use Rattle.edge_io.specs.Told.{prepended}
 use Rattle.edge_io.proofs.ToldLemmas.{prepended-prepended}
-use Rattle.http_read.specs.Answers.{Reads}
+use Rattle.http_read.specs.Answers.{ReadsNext}
 use Rattle.http_read.proofs.BodyLemmas.{no-head, reads-later}
 use Rattle.http_read.proofs.IdleLemmas.{none-taken}
 use Rattle.http_read.specs.Requests.{IsUnfinished}
@@ -17,7 +17,7 @@ returns-in-Ok-Some-clause-reads g c =
     let new_faults = g.S.Source.faults c.read_found.new.source in (
       first.0 ++ more.0,
       first.1 ∙ ap (prepended first.0) more.1 ∙ prepended-prepended first.0 more.0 _,
-      subst (λ b. Reads b c.read_found.result c.read_found.new.kept left old_faults new_faults)
+      subst (λ b. ReadsNext b c.read_found.result c.read_found.new.kept left old_faults new_faults)
           (ap (λ l. l ++ more.0) first.2 ∙ append_assoc c.args.kept.now first.0 more.0)
           (reads-later _ c.read_found.result c.read_found.new.kept left old_faults _ new_faults c.read_head.ensures.never_falls c.read_found.ensures.never_falls more.2),
       λ finished.
@@ -34,7 +34,7 @@ returns-in-Err-clause-reads g c =
     let new_faults = g.S.Source.faults c.read_head.new.source in (
       came.0,
       came.1,
-      subst (λ b. Reads b (Err c.in-Err.why) c.read_head.new.kept left old_faults new_faults) came.2
+      subst (λ b. ReadsNext b (Err c.in-Err.why) c.read_head.new.kept left old_faults new_faults) came.2
           (no-head c.read_head.new.kept c.read_head.new.spans left old_faults new_faults c.in-Err.why came.3),
       λ finished. none-taken c.args.kept.now c.read_head.new.kept came.0 came.2 (c.in-Err.ensures.idle finished).0,
     )

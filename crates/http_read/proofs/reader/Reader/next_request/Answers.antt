@@ -1,5 +1,5 @@
 use Rattle.std.proofs.Common.{◌≡◌, ◌++◌, [], ap, subst}
-use Rattle.http_read.specs.Answers.{Reads}
+use Rattle.http_read.specs.Answers.{ReadsNext}
 use Rattle.http_read.specs.Requests.{IsUnfinished}
 use Rattle.http_read.proofs.reader.Reader.next_request.Goals as goal
 
@@ -12,7 +12,7 @@ returns-clause-reads g c = λ none.
     let new_faults = g.S.Source.faults c.read_next-answer.new.source in record {
       taken = came.0;
       left = came.1;
-      answers = subst (λ k. Reads (k ++ came.0) c.read_next-answer.result c.read_next-answer.new.kept left old_faults new_faults) kept came.2;
+      answers = subst (λ k. ReadsNext (k ++ came.0) c.read_next-answer.result c.read_next-answer.new.kept left old_faults new_faults) kept came.2;
       idle = subst (λ k. (IsUnfinished k → ⊥) → came.0 ≡ []) kept came.3;
       refusal = c.refusal_of-self-inside.ensures;
     }
