@@ -1,7 +1,7 @@
 //! Times the tree of a cache's objects and its ring of events beside the plain collections of std, for
 //! 1,000 and for 100,000 objects.
 //!
-//! Without words it compares the tree with a plain map once and prints one line. With the word `time` it
+//! Without words it compares the tree with a plain map once, counts who holds its objects, and prints a line of each. With the word `time` it
 //! prints, for each step and each size, the nanoseconds that it and its plain fellow take and their ratio,
 //! as the best of some runs that take turns.
 #![tactic(auto)]
@@ -18,6 +18,7 @@ use rows::{Map, keys, mixed, mixed_entries, rows};
 use std::alloc::Global;
 use std::collections::BTreeMap;
 use std::rt::Runtime;
+use std::sync::Arc;
 use std::{env, io};
 
 fn main(rt: HostRuntime) -> io::Result<()> {
@@ -50,10 +51,28 @@ fn agree(alloc: Global) -> Result<bool, Memory> {
     )
 }
 
+/// How often a thousand objects are held by a list, a tree that they were put into and a snapshot of it. An object that is
+/// shared is held by the list and by a page, which the snapshot shares: 2,000 times in all. No contract can say this.
+fn holders(alloc: Global) -> Result<usize, Memory> {
+    let rows = rows(alloc, 1_000)?;
+    let mut tree = Tree::new(alloc)?;
+    let _ = tree::puts(&mut tree, mixed(alloc, &rows)?);
+    let snapshot = tree.snapshot()?;
+    let mut held = 0usize;
+    for shown in snapshot.range(None) {
+        held = held.saturating_add(Arc::strong_count(shown));
+    }
+    Ok(held)
+}
+
 fn check<R: Runtime>(rt: &R, alloc: Global) -> io::Result<()> {
     if let Ok(true) = agree(alloc) {
-        println!(rt; "bench_store: a tree of 1000 objects is as a map")
+        println!(rt; "bench_store: a tree of 1000 objects is as a map")?;
     } else {
-        println!(rt; "bench_store: a tree is not as a map")
+        println!(rt; "bench_store: a tree is not as a map")?;
     }
+    let held = holders(alloc).unwrap_or(0);
+    println!(rt;
+        "bench_store: a list, a tree and a snapshot of 1000 objects hold them {held} times"
+    )
 }

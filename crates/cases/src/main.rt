@@ -20,7 +20,6 @@ mod routes;
 mod rows;
 mod samples;
 mod selections;
-mod sessions;
 mod subject;
 mod watches;
 

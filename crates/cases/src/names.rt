@@ -7,7 +7,7 @@ use kube_meta::{
 use std::alloc::Global;
 
 /// Rows: `namespace T`, `name T`, `label key T`, `label value T`, `revision T`, `key NAMESPACE NAME`, `read T`,
-/// `order KEY KEY`, `resource PLURAL`, `group GROUP VERSION PLURAL`, where the core group is `core`.
+/// `order KEY KEY`, `rank PLURAL PLURAL`, `resource PLURAL`, `group GROUP VERSION PLURAL`, where the core group is `core`.
 pub fn answer(alloc: Global, input: &str) -> Answer {
     let (what, text) = input.split_once(' ').unwrap_or((input, ""));
     match what {
@@ -18,6 +18,7 @@ pub fn answer(alloc: Global, input: &str) -> Answer {
         "key" => key(alloc, text),
         "read" => read(alloc, text),
         "order" => order(alloc, text),
+        "rank" => rank(alloc, text),
         "resource" => found(alloc, Resource::of_plural(text.as_bytes())),
         "group" => group(alloc, text),
         _ => Ok(None),
@@ -79,6 +80,20 @@ fn sign(one: &Key, other: &Key) -> &'static str {
         "same"
     } else {
         "behind"
+    }
+}
+
+/// The order of two resources.
+fn rank(alloc: Global, text: &str) -> Answer {
+    let (one, other) = text.split_once(' ').unwrap_or((text, ""));
+    let Some(one) = Resource::of_plural(one.as_bytes()) else {
+        return Ok(None);
+    };
+    match Resource::of_plural(other.as_bytes()) {
+        Some(other) if one < other => words(alloc, "before"),
+        Some(other) if one == other => words(alloc, "same"),
+        Some(_) => words(alloc, "behind"),
+        None => Ok(None),
     }
 }
 

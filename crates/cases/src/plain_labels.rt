@@ -171,7 +171,19 @@ fn unlike(alloc: Global, len: usize, texts: u32) -> u32 {
     unlike
 }
 
-/// The texts of a length, up to 6, and how many of them the two readers tell in another way.
+/// How many texts of this length are selectors, by the plain reader.
+fn selectors(len: usize, texts: u32) -> u32 {
+    let mut read = 0u32;
+    for number in 0..texts {
+        let bytes = text_of(len, number);
+        if first_fault(&bytes[..len.min(6)]).is_none() {
+            read = read.saturating_add(1);
+        }
+    }
+    read
+}
+
+/// The texts of a length, up to 6, how many of them are selectors, and how many the two readers tell in another way.
 pub fn answer(alloc: Global, text: &str) -> Answer {
     let (len, texts) = match text {
         "0" => (0, 1),
@@ -183,10 +195,11 @@ pub fn answer(alloc: Global, text: &str) -> Answer {
         "6" => (6, 531441),
         _ => return Ok(None),
     };
+    let read = selectors(len, texts);
     let unlike = unlike(alloc, len, texts);
-    Ok(Some(unlike_words(alloc, texts, unlike)?))
+    Ok(Some(alike_words(alloc, texts, read, unlike)?))
 }
 
-fn unlike_words(alloc: Global, texts: u32, unlike: u32) -> Result<String, AllocError> {
-    format!(in alloc; "{texts} texts, {unlike} told in another way")
+fn alike_words(alloc: Global, texts: u32, read: u32, unlike: u32) -> Result<String, AllocError> {
+    format!(in alloc; "{texts} texts, {read} read, {unlike} told in another way")
 }

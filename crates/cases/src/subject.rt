@@ -2,7 +2,7 @@
 
 use crate::{
     fields, labels, lists, names, objects, params, refusals, replies, requests, routes, selections,
-    sessions, watches,
+    watches,
 };
 use std::alloc::{AllocError, Global};
 
@@ -33,8 +33,6 @@ pub enum Subject {
     Refusals,
     /// Texts of replies.
     Replies,
-    /// Whole sessions.
-    Sessions,
 }
 
 impl Subject {
@@ -53,7 +51,6 @@ impl Subject {
             "objects.txt" => Some(Subject::Objects),
             "refusals.txt" => Some(Subject::Refusals),
             "replies.txt" => Some(Subject::Replies),
-            "sessions.txt" => Some(Subject::Sessions),
             _ => None,
         }
     }
@@ -73,7 +70,6 @@ impl Subject {
             Subject::Objects => objects::answer(alloc, input)?,
             Subject::Refusals => refusals::answer(alloc, input)?,
             Subject::Replies => replies::answer(alloc, input)?,
-            Subject::Sessions => sessions::answer(alloc, input)?,
         };
         match answer {
             Some(answer) => Ok(answer),

@@ -88,6 +88,30 @@ fn a_stream_has_its_head_and_end(rt: HostRuntime) -> Result<(), Fail> {
     Ok(())
 }
 
+// The line with a chunk's length.
+fn length_line(alloc: Global, length: u64) -> Result<Vec<u8>, AllocError> {
+    let mut sink = sink(alloc);
+    let _ = begin_chunk(&mut sink, length.clamp(1, u64::MAX / 2));
+    sink.bytes().to_vec(alloc)
+}
+
+#[test]
+fn lengths_of_chunks_are_hexadecimal(rt: HostRuntime) -> Result<(), Fail> {
+    for (length, line) in [
+        (1u64, "1\r\n"),
+        (16, "10\r\n"),
+        (151, "97\r\n"),
+        (0xab_cdef, "abcdef\r\n"),
+        (u64::MAX / 2, "7fffffffffffffff\r\n"),
+    ] {
+        assert_eq!(rt;
+            length_line(rt.alloc(), length)?.as_slice(),
+            line.as_bytes()
+        );
+    }
+    Ok(())
+}
+
 #[test]
 fn a_chunk_stands_between_its_length_and_a_line_end(rt: HostRuntime) -> Result<(), Fail> {
     let mut sink = sink(rt.alloc());
