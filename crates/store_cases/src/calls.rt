@@ -1,100 +1,166 @@
-//! The calls of a script, and what a store answers to each.
-use crate::things::{creation, removal, replacement};
+//! What is answered to the steps of a script, in words.
+
+ghost use Rattle.std.specs.Prelude.{◌≡◌, true};
+
+use crate::served::Served;
+use crate::steps::Step;
+use crate::things::{unchanged, write_of, writes_of, written};
 use kube_meta::{Memory, Resource, Row};
 use rev_log::Revision;
 use std::alloc::Global;
-use up_api::{Feed, LogFacts, Pass, UpNo, Upstream};
-use up_store::{OpNo, Store, WriteAsk};
+use up_api::{Feed, LogFacts, Pass, UpNo};
+use up_store::{OpNo, Store, Transaction, TxWriteNo, Written};
 
-/// A store, a pass of it, and a feed that was begun.
+/// The greatest revision: 2 ^ 62.
+const LAST: u64 = 1 << 62;
+
+/// A store, or a door to one, a pass of it, and a feed that was begun.
 #[derive(Drop)]
-pub struct Client<N: LogFacts> {
-    pub store: Store<N>,
+pub struct Client<N: LogFacts, U: Served<N>> {
+    pub served: U,
     pub told: Pass<N>,
     pub feed: Option<Feed>,
 }
 
-/// One call. Writes are of pods where no resource is named.
-#[derive(Clone, Copy, Debug)]
-pub enum Call {
-    Create(&'static str),
-    Replace(&'static str, u64),
-    Remove(Resource, &'static str),
-    List(u64),
-    Begin(u64),
-    Poll(usize),
-    History,
-    Cut,
-    Compact(u64),
-}
-
-/// What is answered to a call, in words.
-pub fn answer<N: LogFacts>(
+/// What is answered to a step that any store serves.
+pub fn answer<N: LogFacts, U: Served<N>>(
     alloc: Global,
-    client: &mut Client<N>,
-    call: &Call,
+    client: &mut Client<N, U>,
+    step: &Step<'_>,
 ) -> Result<String, Memory> {
-    match call {
-        Call::Create(name) => write(alloc, client, &creation(alloc, name)?),
-        Call::Replace(name, given) => write(alloc, client, &replacement(alloc, name, *given)?),
-        Call::Remove(resource, name) => write(alloc, client, &removal(alloc, *resource, name)?),
-        Call::List(at) => list(alloc, client, *at),
-        Call::Begin(at) => begin(alloc, client, *at),
-        Call::Poll(max) => poll(alloc, client, *max),
-        Call::History => history(alloc, client),
-        Call::Cut => {
-            let answered = client.store.drop_feeds(&mut client.told);
+    match step {
+        Step::Write(text) => write(alloc, client, text),
+        Step::Transact(text) => transact(alloc, client, text),
+        Step::List(at) => list(alloc, client, *at),
+        Step::Begin(at) => begin(alloc, client, *at),
+        Step::Poll(max) => poll(alloc, client, *max),
+        Step::History => history(alloc, client),
+        Step::Cut => {
+            let answered = client.served.drop_feeds(&mut client.told);
             operated(alloc, answered)
         }
-        Call::Compact(at) => {
-            let answered = client.store.compact(*at, &mut client.told);
+        Step::Compact(at) => {
+            let answered = client.served.compact(*at, &mut client.told);
             operated(alloc, answered)
         }
+        Step::Hear(_, _) => Ok(format!(in alloc; "no mirror")?),
     }
 }
 
-fn write<N: LogFacts>(
+/// What a mirror's store answers to a revision.
+pub fn hear<N: LogFacts>(
     alloc: Global,
-    client: &mut Client<N>,
-    ask: &WriteAsk,
+    store: &mut Store<N>,
+    told: &mut Pass<N>,
+    rev: u64,
+    name: &str,
+) -> Result<String, Memory>
+    requires { N.mirror ≡ true }
+{
+    if rev > LAST {
+        return Ok(format!(in alloc; "no revision")?);
+    }
+    let answered = if name.is_empty() {
+        store.hear_next(unchanged(alloc, rev), told)
+    } else {
+        store.hear_next(written(alloc, rev, name)?, told)
+    };
+    let floor = told.floor();
+    match answered {
+        Ok(rev) => Ok(format!(in alloc; "{rev}; floor {floor}")?),
+        Err(no) => Ok(format!(in alloc; "{no:?}; floor {floor}")?),
+    }
+}
+
+fn write<N: LogFacts, U: Served<N>>(
+    alloc: Global,
+    client: &mut Client<N, U>,
+    text: &str,
 ) -> Result<String, Memory> {
-    let line = match client.store.write(ask, &mut client.told) {
-        Ok(written) => format!(in alloc; "{} at {}", written.row.obj.key.name(), written.rev)?,
+    let Some(ask) = write_of(alloc, text)? else {
+        return Ok(format!(in alloc; "no write")?);
+    };
+    let line = match client.served.write(&ask, &mut client.told) {
+        Ok(written) => written_text(alloc, &written)?,
         Err(no) => format!(in alloc; "{no:?}")?,
     };
     let floor = client.told.floor();
-    Ok(format!(in alloc; "{line}; the floor is {floor}")?)
+    Ok(format!(in alloc; "{line}; floor {floor}")?)
 }
 
-fn list<N: LogFacts>(alloc: Global, client: &mut Client<N>, at: u64) -> Result<String, Memory> {
-    match client.store.list_at(Resource::Pods, at, &mut client.told) {
+fn transact<N: LogFacts, U: Served<N>>(
+    alloc: Global,
+    client: &mut Client<N, U>,
+    text: &str,
+) -> Result<String, Memory> {
+    let ask = match Transaction::new(writes_of(alloc, text)?) {
+        Ok(ask) => ask,
+        Err(no) => return Ok(format!(in alloc; "{no:?}")?),
+    };
+    let answered = client.served.transact(&ask, &mut client.told);
+    let line = transacted(alloc, answered)?;
+    let floor = client.told.floor();
+    Ok(format!(in alloc; "{line}; floor {floor}")?)
+}
+
+fn transacted(alloc: Global, answered: Result<Vec<Written>, TxWriteNo>) -> Result<String, Memory> {
+    let answers = match answered {
+        Ok(answers) => answers,
+        Err(no) => return Ok(format!(in alloc; "{no:?}")?),
+    };
+    let mut text = String::new(alloc);
+    for written in &answers {
+        let one = written_text(alloc, written)?;
+        text = format!(in alloc; "{text}[{one}]")?;
+    }
+    Ok(text)
+}
+
+fn written_text(alloc: Global, written: &Written) -> Result<String, Memory> {
+    Ok(format!(in alloc; "{} {}", written.row.obj.key.name(), written.rev)?)
+}
+
+fn list<N: LogFacts, U: Served<N>>(
+    alloc: Global,
+    client: &mut Client<N, U>,
+    at: u64,
+) -> Result<String, Memory> {
+    match client.served.list_at(Resource::Pods, at, &mut client.told) {
         Ok(rows) => rows_text(alloc, &rows),
         Err(no) => refused(alloc, no),
     }
 }
 
-fn begin<N: LogFacts>(alloc: Global, client: &mut Client<N>, at: u64) -> Result<String, Memory> {
-    match client.store.begin(Resource::Pods, at, &mut client.told) {
+fn begin<N: LogFacts, U: Served<N>>(
+    alloc: Global,
+    client: &mut Client<N, U>,
+    at: u64,
+) -> Result<String, Memory> {
+    match client.served.begin(Resource::Pods, at, &mut client.told) {
         Ok(feed) => {
             client.feed = Some(feed);
-            Ok(format!(in alloc; "a feed at {} of generation {}", feed.upto, feed.gen_)?)
+            Ok(format!(in alloc; "upto {}, generation {}", feed.upto, feed.gen_)?)
         }
         Err(no) => refused(alloc, no),
     }
 }
 
-fn poll<N: LogFacts>(alloc: Global, client: &mut Client<N>, max: usize) -> Result<String, Memory> {
+fn poll<N: LogFacts, U: Served<N>>(
+    alloc: Global,
+    client: &mut Client<N, U>,
+    max: usize,
+) -> Result<String, Memory> {
     let Some(mut feed) = client.feed else {
         return Ok(format!(in alloc; "no feed")?);
     };
     if max < 1 || feed.upto > client.told.end() {
         return Ok(format!(in alloc; "nothing to poll")?);
     }
-    let polled = client.store.poll(&mut feed, max, &mut client.told);
+    let polled = client.served.poll(&mut feed, max, &mut client.told);
     client.feed = Some(feed);
     match polled {
         Ok(polled) => Ok(format!(in alloc;
-            "up to {}: {}",
+            "upto {}: {}",
             polled.upto,
             revisions_text(alloc, &polled.revisions)?
         )?),
@@ -102,13 +168,16 @@ fn poll<N: LogFacts>(alloc: Global, client: &mut Client<N>, max: usize) -> Resul
     }
 }
 
-fn history<N: LogFacts>(alloc: Global, client: &mut Client<N>) -> Result<String, Memory> {
-    let history = client.store.history(Resource::Pods, &mut client.told)?;
+fn history<N: LogFacts, U: Served<N>>(
+    alloc: Global,
+    client: &mut Client<N, U>,
+) -> Result<String, Memory> {
+    let history = client.served.history(Resource::Pods, &mut client.told)?;
     let rows = rows_text(alloc, &history.rows)?;
     let revisions = revisions_text(alloc, &history.revisions)?;
-    let reads = client.store.reads();
+    let reads = client.served.reads();
     Ok(format!(in alloc;
-        "at {}: {rows}, up to {}: {revisions}; {reads} reads",
+        "floor {}: {rows}, upto {}: {revisions}; {reads} reads",
         history.floor, history.upto
     )?)
 }

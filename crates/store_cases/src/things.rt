@@ -1,34 +1,85 @@
-//! Small writes.
-use kube_meta::{Fields, Key, Labels, Memory, Obj, Resource, Text};
+//! Small writes and rows.
+
+ghost use Rattle.std.specs.Prelude.{◌≡◌, [], All, IfOk};
+ghost use Rattle.kube_meta.specs.declared.resources.Resource.TheVariants.{Pods};
+
+use crate::steps::{named, split};
+use kube_meta::{Fields, Key, Labels, Memory, Obj, Resource, Row, Text};
+use rev_log::{Change, Revision};
 use std::alloc::Global;
+use std::sync::Arc;
 use up_store::WriteAsk;
 
-/// Creates a pod.
-pub fn creation(alloc: Global, name: &str) -> Result<WriteAsk, Memory> {
-    Ok(WriteAsk::Create {
+/// The write that is written so, if it is one.
+pub fn write_of(alloc: Global, text: &str) -> Result<Option<WriteAsk>, Memory> {
+    let (word, rest) = split(text);
+    let (words, given) = split(rest);
+    let Some((resource, name)) = named(words) else {
+        return Ok(None);
+    };
+    Ok(match word {
+        "create" => Some(WriteAsk::Create {
+            resource,
+            obj: object(alloc, name)?,
+        }),
+        "replace" => Some(WriteAsk::Replace {
+            resource,
+            obj: object(alloc, name)?,
+            given: given.parse::<u64>().ok(),
+        }),
+        "remove" => Some(WriteAsk::Remove {
+            resource,
+            key: key(alloc, name)?,
+        }),
+        _ => None,
+    })
+}
+
+/// The writes that are written so, with commas between them; what is none is left out.
+pub fn writes_of(alloc: Global, text: &str) -> Result<Vec<WriteAsk>, Memory> {
+    let mut asks = Vec::new(alloc);
+    for part in text.split(", ") {
+        if let Some(ask) = write_of(alloc, part)? {
+            asks.push(ask)?;
+        }
+    }
+    Ok(asks)
+}
+
+/// The row of a pod that was written at a revision.
+pub fn row(alloc: Global, name: &str, rev: u64) -> Result<Row, Memory>
+    ensures { IfOk result (λ row. row.rev ≡ rev) }
+{
+    Ok(Row {
+        obj: Arc::new(alloc, object(alloc, name)?)?,
+        rev,
+    })
+}
+
+/// The revision that writes one pod.
+pub fn written(alloc: Global, rev: u64, name: &str) -> Result<Revision, Memory>
+    ensures rev { IfOk result (λ revision. revision.rev ≡ rev) }
+    ensures pods { IfOk result (λ revision. All (λ change. change.resource ≡ Pods) revision.changes) }
+{
+    let obj = object(alloc, name)?;
+    let change = Change {
+        rev,
         resource: Resource::Pods,
-        obj: object(alloc, name)?,
-    })
+        key: obj.key.clone()?,
+        new: Some(Arc::new(alloc, obj)?),
+    };
+    Ok(Revision::single(alloc, change)?)
 }
 
-/// Replaces a pod that was written at this revision.
-pub fn replacement(alloc: Global, name: &str, given: u64) -> Result<WriteAsk, Memory> {
-    Ok(WriteAsk::Replace {
-        resource: Resource::Pods,
-        obj: object(alloc, name)?,
-        given: Some(given),
-    })
+/// The revision that changes nothing.
+pub fn unchanged(alloc: Global, rev: u64) -> Revision
+    ensures rev { result.rev ≡ rev }
+    ensures none { result.changes ≡ [] }
+{
+    Revision::sorted(rev, Vec::new(alloc))
 }
 
-/// Removes an object.
-pub fn removal(alloc: Global, resource: Resource, name: &str) -> Result<WriteAsk, Memory> {
-    Ok(WriteAsk::Remove {
-        resource,
-        key: key(alloc, name)?,
-    })
-}
-
-// The names of the script are good ones, so all that can be missing is memory.
+// The names of the scripts are good ones, so all that can be missing is memory.
 fn key(alloc: Global, name: &str) -> Result<Key, Memory> {
     Key::new(Text::new(alloc, "default")?, Text::new(alloc, name)?).map_err(|_| Memory)
 }

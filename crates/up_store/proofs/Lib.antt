@@ -7,4 +7,5 @@ pub mod Repeats
 pub mod ReplayLemmas
 pub mod ReplyLemmas
 pub mod StoreLemmas
+pub mod TransactLemmas
 pub mod WriteLemmas

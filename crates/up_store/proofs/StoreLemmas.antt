@@ -1,8 +1,8 @@
 -- A store's log as it grows, and what a pass knows once the store met it.
-use Rattle.std.proofs.Common.{◌≡◌, ℕ, ◌+◌, ◌^◌, ◌<◌, ◌≤◌, List, [], ◌∷◌, ◌++◌, Bool, sym, ap, ◌∙◌, subst, arith}
+use Rattle.std.proofs.Common.{◌≡◌, ℕ, ◌+◌, ◌^◌, ◌<◌, ◌≤◌, List, [], ◌∷◌, ◌++◌, Bool, refl, sym, ap, ◌∙◌, subst, arith}
 use Rattle.kube_meta.specs.Rows.{RowData}
 use Rattle.rev_front.specs.Passes.{Pass, Whole, Covers, revision, empty_log, end_from}
-use Rattle.rev_front.proofs.Passing.{extends_trans}
+use Rattle.rev_front.proofs.Passing.{extends_self, extends_trans}
 use Rattle.rev_log.specs.Changes.{RevisionData}
 use Rattle.kube_meta.specs.declared.resources.Resource.{Resource}
 use Rattle.rev_log.specs.Logs.{Log, end_of}
@@ -86,6 +86,14 @@ store-after base is_mirror mirror w met after last kept new history reads same a
 -- a higher generation
 pub keeps-cut : (base : List RowData) (w after : Whole RevisionData) (kept : Kept) → after ≡ record w { gen = after.gen } → Keeps (log_in base w) w.floor kept → Keeps (log_in base after) after.floor kept
 keeps-cut base w after kept is keeps = subst (λ (v : Whole RevisionData). Keeps (log_in base v) v.floor kept) (sym is) keeps
+
+-- what was learnt, and then more
+pub learns-join : (p m q : Pass RevisionData) → Learns p m → Learns m q → Learns p q
+learns-join p m q one two = record { extends = extends_trans p m q one.extends two.extends; loads_stay = two.loads_stay ∙ one.loads_stay; last_stays = two.last_stays ∙ one.last_stays }
+
+-- nothing was learnt
+pub learns-nothing : (p : Pass RevisionData) → Learns p p
+learns-nothing p = record { extends = extends_self p; loads_stay = refl; last_stays = refl }
 
 -- what a history gives, of the log as the pass knows it
 pub history-of : (base : List RowData) (w : Whole RevisionData) (p q : Pass RevisionData) (kept : Kept) (resource : Resource) (floor upto : ℕ) (rows : List RowData) (revisions : List RevisionData) →

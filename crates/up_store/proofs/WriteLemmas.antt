@@ -17,7 +17,7 @@ use Rattle.up_store.specs.declared.writes.WriteNo.TheVariants.{Exists, Absent, S
 use Rattle.up_store.specs.Stores.{IsStore, log_in, accepted}
 use Rattle.up_store.specs.Writes.{fault_at, fault_of, used_up, refusal_of, row_before, change_of, write_of, IsPrepared, IsWriteAnswer}
 
-fault-there : (log : Log) (at : ℕ) (ask : WriteAsk) (row : Option RowData) (fault : Option WriteNo) → row ≡ row_before log ask → at ≡ end_of log → fault_at at ask row ≡ fault → fault_of log ask ≡ fault
+pub fault-there : (log : Log) (at : ℕ) (ask : WriteAsk) (row : Option RowData) (fault : Option WriteNo) → row ≡ row_before log ask → at ≡ end_of log → fault_at at ask row ≡ fault → fault_of log ask ≡ fault
 fault-there log at ask row fault found end is = ap (λ n. fault_at n ask (row_before log ask)) (sym end) ∙ ap (fault_at at ask) (sym found) ∙ is
 
 -- a fault refuses
@@ -57,7 +57,7 @@ answer-refused base mirror history ask w after (ReadOnly at) same why = elim why
 
 -- ---- the revision of one write
 
-change-number : (n : ℕ) (ask : WriteAsk) → (change_of n ask).rev ≡ n
+pub change-number : (n : ℕ) (ask : WriteAsk) → (change_of n ask).rev ≡ n
 change-number n (Create resource obj) = refl
 change-number n (Replace resource obj given) = refl
 change-number n (Remove resource key) = refl

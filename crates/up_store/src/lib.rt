@@ -3,18 +3,27 @@
 #![tactic(auto)]
 
 mod committing;
+mod crossing;
+mod door;
+mod hearing;
 mod kept;
 mod operations;
 mod parts;
 mod reading;
+mod scripted;
 mod store;
 mod tables;
+mod transacting;
 mod transactions;
 mod writes;
 mod writing;
 
+pub use door::StoreDoor;
+pub use hearing::HearNo;
 pub use operations::{OpNo, Operate};
+pub use scripted::ScriptedStore;
 pub use store::Store;
+pub use transacting::share_all;
 pub use transactions::{Transaction, TxNo, TxWriteNo, revisions_of_are_unique};
 pub use writes::{WriteAsk, WriteNo, Written};
 pub use writing::share;

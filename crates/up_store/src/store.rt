@@ -1,9 +1,11 @@
 //! The store.
 
-ghost use Rattle.std.specs.Prelude.{◌≡◌, ◌≤◌, [], false, IfOk};
+ghost use Rattle.std.specs.Prelude.{◌≡◌, ◌≤◌, ◌^◌, [], false, IfOk};
 ghost use Rattle.rev_front.specs.Passes.{Covers, IsWhole, empty_log, pass_from, revision};
 ghost use Rattle.rev_log.specs.Logs.{Fits};
+ghost use Rattle.rev_log.specs.States.{row_in_base};
 ghost use Rattle.up_api.specs.Sections.{Learns};
+ghost use Rattle.up_store.specs.Kept.{HoldEach};
 ghost use Rattle.up_store.specs.Replies.{IsCutReply, IsCompactionReply};
 ghost use Rattle.up_store.specs.Stores.{HasMet, KnowsAll, IsCutAnswer, IsCompactionAnswer};
 
@@ -56,23 +58,49 @@ impl<N: LogFacts> Store<N> {
         requires history { 1 ≤ history }
         ensures { IfOk result (λ store. store ≡ record { whole = empty_log N.log.first; history = history; reads = 0 }) }
     {
+        Ok(Store::open(
+            alloc,
+            blank,
+            Tables::new(alloc),
+            Tables::new(alloc),
+            false,
+            history,
+        ))
+    }
+
+    // The store of a log whose base rows stand in both tables.
+    pub(crate) fn open(
+        alloc: Global,
+        blank: Blank<Revision>,
+        floor_rows: Tables,
+        last_rows: Tables,
+        mirror: bool,
+        history: u64,
+    ) -> Store<N>
+        requires name { blank ≡ N.log }
+        requires floor { HoldEach floor_rows (row_in_base N.base) }
+        requires last { HoldEach last_rows (row_in_base N.base) }
+        requires mirror { mirror ≡ N.mirror }
+        requires history { 1 ≤ history }
+        ensures { result ≡ record { whole = empty_log N.log.first; history = history; reads = 0 } }
+    {
         let pen: Pen<Revision, N> = start(blank);
         let first = pen.revision();
         let kept = Kept {
             from: first,
             revisions: VecDeque::new(alloc),
-            floor_rows: Tables::new(alloc),
-            last_rows: Tables::new(alloc),
+            floor_rows,
+            last_rows,
             last_at: first,
         };
-        Ok(Store {
+        Store {
             alloc,
             pen,
             kept,
-            mirror: false,
+            mirror,
             history,
             reads: 0,
-        })
+        }
     }
 
     /// A pass that knows the whole log.
@@ -81,6 +109,16 @@ impl<N: LogFacts> Store<N> {
         ensures pass { IfOk result (λ p. p ≡ pass_from self.old.whole p.seat) }
     {
         Ok(self.pen.front()?)
+    }
+
+    /// Tells a pass the whole log.
+    pub fn tell(&mut self, told: &mut Pass<N>)
+        ensures same { self.new ≡ self.old }
+        ensures covered { Covers self.old.whole told.old }
+        ensures learns { Learns told.old told.new }
+        ensures tells { KnowsAll self.new.whole told.new }
+    {
+        meet(&mut self.pen, told);
     }
 
     /// The revision that the log has reached.
@@ -94,7 +132,8 @@ impl<N: LogFacts> Store<N> {
 
     /// How many times states and histories were read, refused calls included, up to 2 ^ 62.
     pub fn reads(&self) -> u64
-        ensures { result ≡ self.now.reads }
+        ensures answer { result ≡ self.now.reads }
+        ensures fits { result ≤ 2 ^ 62 }
     {
         self.reads
     }

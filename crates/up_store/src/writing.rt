@@ -164,8 +164,8 @@ pub fn object(
     }
 }
 
-// Why the write is refused that finds this row.
-fn fault(ask: &WriteAsk, at: u64, row: Option<&Row>) -> Option<WriteNo>
+/// Why the write is refused that finds this row. It takes no memory.
+pub fn fault(ask: &WriteAsk, at: u64, row: Option<&Row>) -> Option<WriteNo>
     ensures { result ≡ fault_at at ask.now (option_copied row.entry) }
 {
     match (ask, row) {

@@ -1,0 +1,29 @@
+-- What a mirror's store answers to the revisions of its peer's log, and what they leave.
+use Rattle.std.specs.Prelude.{◌≡◌, ℕ, ◌+◌, ◌≤◌, List, [], ◌∷◌, Result, Ok, Err}
+use Rattle.kube_meta.specs.Rows.{RowData}
+use Rattle.rev_front.specs.Passes.{Pass, Whole, end_from}
+use Rattle.rev_log.specs.Changes.{RevisionData}
+use Rattle.rev_log.specs.Logs.{Log, end_of, grown}
+use Rattle.up_api.specs.Sections.{log_of}
+use Rattle.up_store.specs.declared.hearing.HearNo.{HearNo}
+use Rattle.up_store.specs.declared.hearing.HearNo.TheVariants.{Passed, Memory}
+use Rattle.up_store.specs.Stores.{accepted}
+
+-- an added revision: it is the last one seen, and the next after a log that has all that was shown before
+pub record IsHeard (base : List RowData) (p : Pass RevisionData) (revision : RevisionData) (rev : ℕ) (q : Pass RevisionData) : Type 0 where
+  pub before : Log
+  pub shown : p.shown ≤ end_of before
+  pub number : rev ≡ revision.rev
+  pub next : revision.rev ≡ end_of before + 1
+  pub committed : log_of base q ≡ grown before (revision ∷ [])
+
+-- what is answered to a revision: it is added, or it isn't the one after the log's end, which is seen then
+abbrev pub IsHearReply : List RowData → Pass RevisionData → RevisionData → Result ℕ HearNo → Pass RevisionData → Type 0
+IsHearReply base p revision (Ok rev) q = IsHeard base p revision rev q
+IsHearReply base p revision (Err (Passed at)) q = (at ≡ end_from q.first q.seen) × (p.shown ≤ at) × ¬ (revision.rev ≡ at + 1)
+IsHearReply base p revision (Err Memory) q = Unit {0}
+
+-- what is answered to the next revision, and what it leaves; where there was no memory nothing is added
+abbrev pub IsHearAnswer : {E : Type 0} → ℕ → RevisionData → Whole RevisionData → Whole RevisionData → Result ℕ E → Type 0
+IsHearAnswer history revision w after (Ok rev) = (rev ≡ revision.rev) × (after ≡ accepted history w revision)
+IsHearAnswer history revision w after (Err memory) = after ≡ w

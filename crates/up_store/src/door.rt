@@ -1,0 +1,159 @@
+//! Doors to one store, for many threads.
+
+ghost use Rattle.std.specs.Prelude.{◌≡◌, ◌≤◌, ◌^◌, All, IfOk, true};
+ghost use Rattle.kube_meta.specs.declared.resources.Resource.TheVariants.{Pods};
+ghost use Rattle.rev_front.specs.Passes.{Whole, pass_from};
+ghost use Rattle.rev_log.specs.Changes.{RevisionData};
+ghost use Rattle.up_api.specs.Sections.{Learns, HasSeenAll};
+ghost use Rattle.up_store.specs.Hearing.{IsHearReply};
+ghost use Rattle.up_store.specs.Replies.{IsWriteReply, IsTransactionReply, IsCutReply, IsCompactionReply};
+ghost use Rattle.up_store.specs.Transacting.{answers_in};
+
+use crate::transacting::share_all;
+use crate::writing::share;
+use crate::{HearNo, OpNo, Store, Transaction, TxWriteNo, WriteAsk, WriteNo, Written};
+use kube_meta::{Memory, Resource, Row};
+use rev_log::Revision;
+use std::alloc::Global;
+use std::sync::{Arc, Mutex, Wait};
+use up_api::{Feed, History, LogFacts, Pass, Polled, UpNo, Upstream};
+
+/// A door to one store, which stands behind a lock. Each call is one section under the lock. Another thread may have
+/// changed the store between two of them, so contracts tell a call by what its pass knew before and knows afterwards.
+#[derive(Drop)]
+pub struct StoreDoor<N: LogFacts, R: Wait + Copy> {
+    rt: R,
+    alloc: Global,
+    store: Arc<Mutex<Store<N>>>,
+}
+
+impl<N: LogFacts, R: Wait + Copy> StoreDoor<N, R> {
+    /// The first door to this store, which waits for the lock by `rt`.
+    pub fn new(rt: R, store: Store<N>) -> Result<StoreDoor<N, R>, Memory> {
+        let alloc = store.alloc;
+        Ok(StoreDoor {
+            rt,
+            alloc,
+            store: Arc::new(alloc, Mutex::new(store))?,
+        })
+    }
+
+    /// Another door to the same store.
+    pub fn again(&self) -> Result<StoreDoor<N, R>, Memory> {
+        Ok(StoreDoor {
+            rt: self.rt,
+            alloc: self.alloc,
+            store: self.store.clone()?,
+        })
+    }
+
+    /// Makes a write, if nothing refuses it; the first refusal that holds is answered. The object is copied before the
+    /// lock is taken.
+    pub fn write(&self, ask: &WriteAsk, told: &mut Pass<N>) -> Result<Written, WriteNo>
+        ensures learns { Learns told.old told.new }
+        ensures section { HasSeenAll told.new }
+        ensures reply { IsWriteReply N.base N.mirror told.old ask.now result told.new }
+    {
+        match share(self.alloc, ask) {
+            Ok(shared) => self.store.lock(&self.rt).write_shared(ask, shared, told),
+            Err(_) => {
+                self.store.lock(&self.rt).tell(told);
+                Err(WriteNo::Memory)
+            }
+        }
+    }
+
+    /// Makes a transaction: all its writes at one revision, or none of them. The answers stand in the order of the
+    /// writes. The objects are copied before the lock is taken.
+    pub fn transact(&self, ask: &Transaction, told: &mut Pass<N>) -> Result<Vec<Written>, TxWriteNo>
+        ensures learns { Learns told.old told.new }
+        ensures section { HasSeenAll told.new }
+        ensures reply { IsTransactionReply N.base N.mirror told.old ask.now (answers_in result) told.new }
+    {
+        match share_all(self.alloc, ask.items()) {
+            Ok(shared) => self
+                .store
+                .lock(&self.rt)
+                .transact_shared(ask, &shared, told),
+            Err(_) => {
+                self.store.lock(&self.rt).tell(told);
+                Err(TxWriteNo::Memory)
+            }
+        }
+    }
+
+    /// Adds a revision of the peer's log, which is a mirror's next one, and answers its number.
+    pub fn hear(&self, revision: Revision, told: &mut Pass<N>) -> Result<u64, HearNo>
+        requires mirror { N.mirror ≡ true }
+        requires last { revision.rev ≤ 2 ^ 62 }
+        requires pods { All (λ change. change.resource ≡ Pods) revision.changes }
+        ensures learns { Learns told.old told.new }
+        ensures section { HasSeenAll told.new }
+        ensures reply { IsHearReply N.base told.old revision result told.new }
+    {
+        self.store.lock(&self.rt).hear_next(revision, told)
+    }
+
+    /// Cuts all feeds: their next polls are refused. Answers the new generation of feeds.
+    pub fn drop_feeds(&self, told: &mut Pass<N>) -> Result<u64, OpNo>
+        ensures learns { Learns told.old told.new }
+        ensures section { HasSeenAll told.new }
+        ensures reply { IsCutReply told.old result told.new }
+    {
+        self.store.lock(&self.rt).drop_feeds(told)
+    }
+
+    /// Compacts the log: states and feeds below the revision `at` are refused from then on. Answers the floor.
+    pub fn compact(&self, at: u64, told: &mut Pass<N>) -> Result<u64, OpNo>
+        ensures learns { Learns told.old told.new }
+        ensures section { HasSeenAll told.new }
+        ensures reply { IsCompactionReply at told.old result told.new }
+    {
+        self.store.lock(&self.rt).compact(at, told)
+    }
+
+    /// A pass that knows the whole log.
+    pub fn pass(&self) -> Result<Pass<N>, Memory>
+        ensures { IfOk result (λ p. (whole : Whole RevisionData) × (p ≡ pass_from whole p.seat)) }
+    {
+        self.store.lock(&self.rt).pass()
+    }
+
+    /// How many times states and histories were read, refused calls included, up to 2 ^ 62.
+    pub fn reads(&self) -> u64
+        ensures { result ≤ 2 ^ 62 }
+    {
+        self.store.lock(&self.rt).reads()
+    }
+}
+
+impl<N: LogFacts, R: Wait + Copy> Upstream<N> for StoreDoor<N, R> {
+    ghost use Rattle.std.specs.Prelude.{None};
+
+    ghost own = { λ _. None };
+
+    ghost reads = { λ _. None };
+
+    ghost history = { λ _. None };
+
+    fn list_at(
+        &mut self,
+        resource: Resource,
+        at: u64,
+        told: &mut Pass<N>,
+    ) -> Result<Vec<Row>, UpNo> {
+        self.store.lock(&self.rt).list_at(resource, at, told)
+    }
+
+    fn begin(&mut self, resource: Resource, at: u64, told: &mut Pass<N>) -> Result<Feed, UpNo> {
+        self.store.lock(&self.rt).begin(resource, at, told)
+    }
+
+    fn poll(&mut self, feed: &mut Feed, max: usize, told: &mut Pass<N>) -> Result<Polled, UpNo> {
+        self.store.lock(&self.rt).poll(feed, max, told)
+    }
+
+    fn history(&mut self, resource: Resource, told: &mut Pass<N>) -> Result<History, Memory> {
+        self.store.lock(&self.rt).history(resource, told)
+    }
+}

@@ -1,0 +1,127 @@
+//! The store of a mirror: its log begins with pods, and its revisions come from a peer.
+
+ghost use Rattle.std.specs.Prelude.{◌≡◌, ◌+◌, ◌^◌, ◌<◌, ◌≤◌, List, All, IfOk, true};
+ghost use Rattle.kube_meta.specs.Rows.{RowData, AreRising};
+ghost use Rattle.kube_meta.specs.declared.resources.Resource.TheVariants.{Pods};
+ghost use Rattle.rev_front.specs.Passes.{Covers, empty_log, revision as reached};
+ghost use Rattle.rev_log.specs.Logs.{Fits};
+ghost use Rattle.up_api.specs.Sections.{Learns};
+ghost use Rattle.up_store.specs.Hearing.{IsHeard, IsHearAnswer, IsHearReply};
+ghost use Rattle.up_store.specs.Kept.{Keeps};
+ghost use Rattle.up_store.specs.Stores.{KnowsAll, log_in};
+
+use crate::Store;
+use crate::committing::commit;
+use crate::kept::Kept;
+use crate::store::meet;
+use crate::tables::Tables;
+use kube_meta::{Memory, Row};
+use rev_front::{Blank, Pen};
+use rev_log::Revision;
+use std::alloc::Global;
+use up_api::{LogFacts, Pass};
+
+/// Why a revision of the peer's log isn't added.
+#[derive(Clone, Copy, Debug, PartialEq, Eq)]
+pub enum HearNo {
+    /// It isn't the one after `at`, the revision of the log's end.
+    Passed { at: u64 },
+    /// There was no memory. The log is then as it was.
+    Memory,
+}
+
+impl From<Memory> for HearNo {
+    ghost use Rattle.std.specs.Prelude.{◌≡◌};
+    ghost use Rattle.up_store.specs.declared.hearing.HearNo.TheVariants as refusals;
+
+    ghost from_gives = { λ _ refusal. refusal ≡ refusals.Memory };
+
+    fn from(_: Memory) -> HearNo {
+        HearNo::Memory
+    }
+}
+
+impl<N: LogFacts> Store<N> {
+    /// The store of a mirror's log, which begins with these pods.
+    pub fn from_base(
+        alloc: Global,
+        blank: Blank<Revision>,
+        rows: Vec<Row>,
+        history: u64,
+    ) -> Result<Store<N>, Memory>
+        requires name { blank ≡ N.log }
+        requires base { N.base ≡ rows.items }
+        requires mirror { N.mirror ≡ true }
+        requires rising { AreRising rows.items }
+        requires old { All (λ row. row.rev ≤ blank.first) rows.items }
+        requires history { 1 ≤ history }
+        ensures { IfOk result (λ store. store ≡ record { whole = empty_log N.log.first; history = history; reads = 0 }) }
+    {
+        let floor_rows = Tables::of_pods(alloc, &rows)?;
+        let last_rows = Tables::of_pods(alloc, &rows)?;
+        Ok(Store::open(alloc, blank, floor_rows, last_rows, true, history))
+    }
+
+    /// Adds the next revision of the peer's log, and answers its number.
+    pub fn hear(&mut self, revision: Revision, told: &mut Pass<N>) -> Result<u64, Memory>
+        requires mirror { N.mirror ≡ true }
+        requires next { revision.rev ≡ reached self.old.whole + 1 }
+        requires last { revision.rev ≤ 2 ^ 62 }
+        requires pods { All (λ change. change.resource ≡ Pods) revision.changes }
+        ensures covered { Covers self.old.whole told.old }
+        ensures learns { Learns told.old told.new }
+        ensures tells { KnowsAll self.new.whole told.new }
+        ensures answer { IsHearAnswer self.old.history revision self.old.whole self.new.whole result }
+        ensures reply { IfOk result (λ rev. IsHeard N.base told.old revision rev told.new) }
+        ensures rest { self.new ≡ record self.old { whole = self.new.whole } }
+    {
+        meet(&mut self.pen, told);
+        let answer = append(&mut self.pen, &mut self.kept, self.history, revision);
+        meet(&mut self.pen, told);
+        answer
+    }
+
+    /// Adds a revision of the peer's log, if it is the next one.
+    pub fn hear_next(&mut self, revision: Revision, told: &mut Pass<N>) -> Result<u64, HearNo>
+        requires mirror { N.mirror ≡ true }
+        requires last { revision.rev ≤ 2 ^ 62 }
+        requires pods { All (λ change. change.resource ≡ Pods) revision.changes }
+        ensures covered { Covers self.old.whole told.old }
+        ensures learns { Learns told.old told.new }
+        ensures tells { KnowsAll self.new.whole told.new }
+        ensures answer { IsHearAnswer self.old.history revision self.old.whole self.new.whole result }
+        ensures reply { IsHearReply N.base told.old revision result told.new }
+        ensures rest { self.new ≡ record self.old { whole = self.new.whole } }
+    {
+        let at = self.pen.revision();
+        if revision.rev != at + 1 {
+            meet(&mut self.pen, told);
+            return Err(HearNo::Passed { at });
+        }
+        match self.hear(revision, told) {
+            Ok(rev) => Ok(rev),
+            Err(_) => Err(HearNo::Memory),
+        }
+    }
+}
+
+// Adds the next revision to the log, if there is memory to keep it.
+fn append<N: LogFacts>(
+    pen: &mut Pen<Revision, N>,
+    kept: &mut Kept,
+    history: u64,
+    revision: Revision,
+) -> Result<u64, Memory>
+    requires last { reached pen.old < 2 ^ 62 }
+    requires fits { Fits (reached pen.old + 1) revision }
+    requires history { 1 ≤ history }
+    requires keeps { (base : List RowData) × Keeps (log_in base pen.old) pen.old.floor kept.old }
+    ensures answer { IsHearAnswer history revision pen.old pen.new result }
+    ensures keeps { (base : List RowData) → Keeps (log_in base pen.old) pen.old.floor kept.old → Keeps (log_in base pen.new) pen.new.floor kept.new }
+    ensures generation { pen.new.gen ≡ pen.old.gen }
+{
+    kept.reserve()?;
+    let rev = revision.rev;
+    let _ = commit(pen, kept, history, revision);
+    Ok(rev)
+}
