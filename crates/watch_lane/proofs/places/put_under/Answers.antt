@@ -1,0 +1,12 @@
+use Rattle.std.proofs.Common.{arith}
+use Rattle.std.proofs.lemmas.Map.Text.{text_keys}
+use Rattle.watch_lane.proofs.places.put_under.Goals as goal
+
+pub returns-in-Some-clause-ok : goal.returns-in-Some-clause-ok
+returns-in-Some-clause-ok c = grind (arith, text_keys)
+
+pub returns-in-Some-clause-err : goal.returns-in-Some-clause-err
+returns-in-Some-clause-err c = grind (arith, text_keys)
+
+pub returns-clause-ok : goal.returns-clause-ok
+returns-clause-ok c = λ v i. grind (arith, text_keys)

@@ -1,0 +1,4 @@
+pub mod Batches
+pub mod Queues
+pub mod Index
+pub mod Places

@@ -1,0 +1,15 @@
+//! The lane between a watch cache and one watcher: a queue of batches that is read without the cache's
+//! lock, and an index that finds the lanes that a change may concern.
+#![tactic(auto)]
+
+mod batch;
+mod index;
+mod places;
+mod queue;
+
+pub use batch::{Batch, Line};
+pub use index::LaneIndex;
+pub use queue::{LaneIn, LaneOut, lane};
+
+#[cfg(test)]
+mod tests;
