@@ -1,0 +1,9 @@
+pub mod PartLemmas
+pub mod RowLemmas
+pub mod HeadLemmas
+pub mod RingLemmas
+pub mod FeedLemmas
+pub mod HistoryLemmas
+pub mod UndoLemmas
+pub mod CapacityLemmas
+pub mod EmptyLemmas
