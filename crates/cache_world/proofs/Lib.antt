@@ -1,0 +1,9 @@
+pub mod LaneLemmas
+pub mod WatchLemmas
+pub mod PassLemmas
+pub mod PlaceLemmas
+pub mod GrowthLemmas
+pub mod StepLemmas
+pub mod LawLemmas
+pub mod TieLemmas
+pub mod ServeLemmas
