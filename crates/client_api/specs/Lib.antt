@@ -1,0 +1,13 @@
+pub mod Answers
+pub mod Facts
+pub mod Told
+pub mod Fresh
+pub mod Refusals
+pub mod Lists
+pub mod Gets
+pub mod Starts
+pub mod Turns
+pub mod Alone
+pub mod Caches
+pub mod Laws
+pub mod Calling

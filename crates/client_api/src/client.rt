@@ -1,0 +1,132 @@
+//! What a client of a log promises.
+
+ghost use Rattle.std.specs.Prelude.{◌≡◌, ◌≤◌, ℕ, max, Bool, List, None, IsSome, OnOk, IfSome};
+ghost use Rattle.kube_meta.specs.Rows.{RowData};
+ghost use Rattle.rev_front.specs.Passes.{Pass};
+ghost use Rattle.rev_log.specs.Changes.{RevisionData};
+ghost use Rattle.up_store.specs.Replies.{IsWriteReply, IsTransactionReply, IsOperationReply};
+ghost use Rattle.up_store.specs.Transacting.{answers_in};
+ghost use Rattle.client_api.specs.Alone.{SoleRead, SoleTake, SoleWrite, SoleTransact, SoleOperate};
+ghost use Rattle.client_api.specs.Caches.{ListsCache, GetsCache, BeginsCache, TakesCache};
+ghost use Rattle.client_api.specs.Facts.{Facts, Cached, IsOnward};
+ghost use Rattle.client_api.specs.Gets.{IsGetAnswer};
+ghost use Rattle.client_api.specs.Lists.{IsListAnswer};
+ghost use Rattle.client_api.specs.Starts.{IsWatchAnswer, begun_watch};
+ghost use Rattle.client_api.specs.Told.{IsToldRead, IsToldWrite, IsToldTx, IsToldOperation};
+ghost use Rattle.client_api.specs.Turns.{IsTurnAnswer, watch_left};
+
+use crate::answers::{Begun, Got, ListNo, Listed, Took};
+use kube_meta::Memory;
+use list_rules::{GetAsk, ListAsk};
+use up_store::{OpNo, Operate, Transaction, TxWriteNo, WriteAsk, WriteNo, Written};
+use watch_rules::WatchAsk;
+
+/// A client of one log of revisions. After each call it knows no less of the log than before. A refusal changes
+/// nothing beside what it knows and what is cached.
+pub trait Client {
+    // the pods that stood at the log's first revision
+    ghost base: { List RowData };
+
+    // whether the log is a mirror's, which takes its revisions from a peer alone
+    ghost mirror: { Bool };
+
+    // what the client knows of the log
+    ghost pass: { Self → Pass RevisionData };
+
+    // its watch, and what else no read or write changes
+    ghost facts: { Self → Facts };
+
+    // nobody else holds the log, and the pass knows it whole: its end, which is all that was shown, its floor and its
+    // generation
+    ghost whole: { Self → Type 0 };
+
+    // of a log that nobody else holds: how often its store was read, and how far the caches are
+    ghost cached: { Self → Cached };
+
+    /// Asks for a write. An accepted one adds exactly its change to the log, at a revision of its own.
+    fn write(&mut self, ask: &WriteAsk) -> Result<Written, WriteNo>
+        ensures onward { IsOnward (pass self.old) (pass self.new) }
+        ensures answer { IsWriteReply base mirror (pass self.old) ask.now result (pass self.new) }
+        ensures facts { facts self.new ≡ facts self.old }
+        ensures sole { whole self.old → IfSome (facts self.old).alone
+            (λ history. SoleWrite base mirror history (pass self.old) ask.now result (pass self.new)) }
+        ensures kept { whole self.old → IsToldWrite result → whole self.new }
+        ensures reads { whole self.old → (cached self.new).reads ≡ (cached self.old).reads };
+
+    /// Asks for several writes at one revision: all of them are done, or none.
+    fn transact(&mut self, ask: &Transaction) -> Result<Vec<Written>, TxWriteNo>
+        ensures onward { IsOnward (pass self.old) (pass self.new) }
+        ensures answer { IsTransactionReply base mirror (pass self.old) ask.now (answers_in result) (pass self.new) }
+        ensures facts { facts self.new ≡ facts self.old }
+        ensures sole { whole self.old → IfSome (facts self.old).alone
+            (λ history. SoleTransact base mirror history (pass self.old) ask.now (answers_in result) (pass self.new)) }
+        ensures kept { whole self.old → IsToldTx result → whole self.new }
+        ensures reads { whole self.old → (cached self.new).reads ≡ (cached self.old).reads };
+
+    /// One object, as it stands at a revision of the ask's meaning.
+    fn get(&mut self, ask: &GetAsk) -> Result<Got, ListNo>
+        ensures onward { IsOnward (pass self.old) (pass self.new) }
+        ensures answer { IsGetAnswer base (pass self.old) ask.now result (pass self.new) }
+        ensures facts { facts self.new ≡ facts self.old }
+        ensures sole { whole self.old → SoleRead (pass self.old) result (pass self.new) }
+        ensures kept { whole self.old → IsToldRead result → whole self.new }
+        ensures cached { whole self.old →
+            GetsCache ask.now (pass self.old).floor (cached self.old) result (cached self.new) };
+
+    /// The objects of a selection, as they stand at a revision of the ask's meaning, or a page of them.
+    fn list(&mut self, ask: &ListAsk) -> Result<Listed, ListNo>
+        ensures onward { IsOnward (pass self.old) (pass self.new) }
+        ensures answer { IsListAnswer base (pass self.old) ask.now result (pass self.new) }
+        ensures facts { facts self.new ≡ facts self.old }
+        ensures sole { whole self.old → SoleRead (pass self.old) result (pass self.new) }
+        ensures kept { whole self.old → IsToldRead result → whole self.new }
+        ensures cached { whole self.old →
+            ListsCache ask.now (pass self.old).floor (cached self.old) result (cached self.new) };
+
+    /// Begins a watch. Its turns follow by `take`.
+    fn watch(&mut self, ask: &WatchAsk) -> Result<Begun, ListNo>
+        requires idle { (facts self.old).watching ≡ None }
+        ensures onward { IsOnward (pass self.old) (pass self.new) }
+        ensures answer { IsWatchAnswer base (facts self.old).window (pass self.old) ask.now result (pass self.new) }
+        ensures facts { facts self.new ≡ record (facts self.old) { watching = begun_watch ask.now result } }
+        ensures sole { whole self.old → SoleRead (pass self.old) result (pass self.new) }
+        ensures kept { whole self.old → IsToldRead result → whole self.new }
+        ensures cached { whole self.old →
+            BeginsCache ask.now (pass self.old).floor (cached self.old) result (cached self.new) };
+
+    /// One turn of the watch, of about `max` lines at most. A loss ends the watch.
+    fn take(&mut self, max: usize) -> Result<Took, Memory>
+        requires watching { IsSome (facts self.old).watching }
+        requires max { 1 ≤ max }
+        ensures onward { IsOnward (pass self.old) (pass self.new) }
+        ensures answer { IsTurnAnswer base (facts self.old).window (pass self.old) (facts self.old).watching result
+            (pass self.new) }
+        ensures facts { facts self.new ≡
+            record (facts self.old) { watching = watch_left result (facts self.old).watching } }
+        ensures sole { whole self.old → SoleTake (pass self.old) result (pass self.new) }
+        ensures kept { whole self.old → OnOk result (whole self.new) }
+        ensures cached { whole self.old → IfSome (facts self.old).watching
+            (λ watched. TakesCache watched (pass self.old).floor (cached self.old) result (cached self.new)) };
+
+    /// Ends the watch, if there is one.
+    fn end_watch(&mut self)
+        ensures pass { pass self.new ≡ pass self.old }
+        ensures facts { facts self.new ≡ record (facts self.old) { watching = None } }
+        ensures whole { whole self.old → whole self.new }
+        ensures cached { cached self.new ≡ cached self.old };
+
+    /// Does an operation on the log and its server.
+    fn operate(&mut self, ask: Operate) -> Result<u64, OpNo>
+        ensures onward { IsOnward (pass self.old) (pass self.new) }
+        ensures answer { IsOperationReply (pass self.old) ask result (pass self.new) }
+        ensures facts { facts self.new ≡ facts self.old }
+        ensures sole { whole self.old → SoleOperate (pass self.old) ask result (pass self.new) }
+        ensures kept { whole self.old → IsToldOperation result → whole self.new };
+
+    /// Is told a time, by which the age of events is judged.
+    fn tick(&mut self, ms: u64)
+        ensures pass { pass self.new ≡ pass self.old }
+        ensures facts { facts self.new ≡ record (facts self.old) { heard = max (facts self.old).heard ms } }
+        ensures whole { whole self.old → whole self.new }
+        ensures cached { cached self.new ≡ cached self.old };
+}
