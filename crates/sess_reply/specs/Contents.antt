@@ -1,0 +1,118 @@
+-- What each answer says: a status, whether it is to be asked again in a second, and a JSON text. Nothing is said of want of
+-- memory.
+use Rattle.std.specs.Prelude.{ℕ, List, [], ◌∷◌, Bool, false, Option, None, Some, Result, Ok, Err, map, option_map, option_and_then, slice_get}
+use Rattle.kube_meta.specs.Keys.{name_of}
+use Rattle.kube_meta.specs.Rows.{RowData}
+use Rattle.kube_meta.specs.declared.resources.Resource.{Resource}
+use Rattle.json_obj.specs.Replies.{list_text, status_text, value_text}
+use Rattle.list_rules.specs.declared.ask.ListAsk.{ListAsk}
+use Rattle.list_rules.specs.declared.get.GetAsk.{GetAsk}
+use Rattle.up_store.specs.Transactions.{target_of}
+use Rattle.up_store.specs.declared.writes.WriteAsk.{WriteAsk}
+use Rattle.up_store.specs.declared.writes.WriteAsk.TheVariants.{Create, Replace, Remove}
+use Rattle.up_store.specs.declared.writes.WriteNo.{WriteNo}
+use Rattle.up_store.specs.declared.writes.Written.{Written}
+use Rattle.up_store.specs.declared.transactions.TxWriteNo.{TxWriteNo}
+use Rattle.up_store.specs.declared.transactions.TxWriteNo.TheVariants as transaction
+use Rattle.up_store.specs.declared.operations.OpNo.{OpNo}
+use Rattle.api_errors.specs.Reasons.{code_of, is_too_large}
+use Rattle.api_errors.specs.Told.{refusal_of, not_found, used_up, read_only, expired, too_large}
+use Rattle.api_errors.specs.Writes.{write_told, operation_told}
+use Rattle.api_errors.specs.declared.told.Told.{Told}
+use Rattle.meta_view.specs.Lines.{shown, version_in, list_kind_in}
+use Rattle.meta_view.specs.declared.form.Form.{Form}
+use Rattle.meta_view.specs.declared.form.Form.TheVariants.{Whole}
+use Rattle.client_api.specs.declared.answers.ListNo.{ListNo}
+use Rattle.client_api.specs.declared.answers.ListNo.TheVariants.{Expired, TooLarge, Absent, Memory}
+use Rattle.client_api.specs.Answers.{GotData, ListedData}
+
+-- the HTTP status, whether the client may ask again in a second, and the JSON text
+pub record Content : Type 0 where
+  pub code : ℕ
+  pub retry : Bool
+  pub json : List ℕ
+
+-- a request that isn't refused
+abbrev pub said : ℕ → List ℕ → Option Content
+said code json = Some (record { code = code; retry = false; json = json })
+
+-- a refusal says its Status; a revision that isn't reached yet is to be asked for again
+abbrev pub refused : Told → Content
+refused told = record { code = code_of told.reason; retry = is_too_large told.reason; json = status_text (refusal_of told) }
+
+abbrev pub refusal : Option Told → Option Content
+refusal told = option_map refused told
+
+-- an object in a form, at its row's revision
+abbrev pub shown_row : Form → RowData → List ℕ
+shown_row form row = shown form row.obj row.rev
+
+-- a number
+abbrev pub number : ℕ → Option Content
+number value = said 200 (value_text value)
+
+-- ---- writes
+
+-- a create is answered with 201 (Created), all else with 200
+abbrev pub accepted_code : WriteAsk → ℕ
+accepted_code (Create resource obj) = 201
+accepted_code (Replace resource obj given) = 200
+accepted_code (Remove resource key) = 200
+
+-- of an object, its resource and its name are told
+abbrev pub fault_told : WriteAsk → WriteNo → Option Told
+fault_told ask fault = let target = target_of ask in write_told target.0 (name_of target.1) fault
+
+-- an accepted write says its object, whole: the new one, or the one that was removed
+abbrev pub written_content : WriteAsk → Result Written WriteNo → Option Content
+written_content ask (Ok written) = said (accepted_code ask) (shown_row Whole written.row)
+written_content ask (Err fault) = refusal (fault_told ask fault)
+
+-- ---- transactions: an accepted one says its revision, which all its writes have
+
+abbrev pub revision_of : List Written → ℕ
+revision_of [] = 0
+revision_of (written ∷ more) = written.rev
+
+-- one that is refused for a write is told as that write would be by itself
+abbrev pub transaction_told : List WriteAsk → TxWriteNo → Option Told
+transaction_told asks (transaction.Item index fault) = option_and_then (λ ask. fault_told ask fault) (slice_get asks index)
+transaction_told asks (transaction.UsedUp at) = Some used_up
+transaction_told asks (transaction.ReadOnly at) = Some read_only
+transaction_told asks transaction.Memory = None
+
+abbrev pub transacted_content : List WriteAsk → Result (List Written) TxWriteNo → Option Content
+transacted_content asks (Ok answers) = number (revision_of answers)
+transacted_content asks (Err fault) = refusal (transaction_told asks fault)
+
+-- ---- operations: an accepted one says a number
+
+abbrev pub operated_content : Result ℕ OpNo → Option Content
+operated_content (Ok value) = number value
+operated_content (Err fault) = refusal (operation_told fault)
+
+-- ---- lists, gets and watches
+
+-- of a list or a watch no object is told to be absent
+abbrev pub read_told : ListNo → Option Told
+read_told (Expired asked floor) = Some (expired asked floor)
+read_told (TooLarge asked current) = Some (too_large asked current)
+read_told (Absent at) = None
+read_told Memory = None
+
+abbrev pub get_told : GetAsk → ListNo → Option Told
+get_told ask (Absent at) = Some (not_found ask.resource (name_of ask.key))
+get_told ask fault = read_told fault
+
+abbrev pub got_content : Form → GetAsk → Result GotData ListNo → Option Content
+got_content form ask (Ok answer) = said 200 (shown_row form answer.row)
+got_content form ask (Err fault) = refusal (get_told ask fault)
+
+-- the list of the rows, at the revision of the answer
+abbrev pub listed_json : Form → Resource → ListedData → List ℕ
+listed_json form resource answer =
+    list_text (version_in form resource) (list_kind_in form resource) answer.rev answer.more (map (shown_row form) answer.rows)
+
+abbrev pub listed_content : Form → ListAsk → Result ListedData ListNo → Option Content
+listed_content form ask (Ok answer) = said 200 (listed_json form ask.selection.resource answer)
+listed_content form ask (Err fault) = refusal (read_told fault)

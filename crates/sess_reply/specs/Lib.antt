@@ -1,0 +1,4 @@
+pub mod Replies
+pub mod Contents
+pub mod Sending
+pub mod Items

@@ -1,0 +1,78 @@
+//! Replies in pieces: the head, the pieces of the JSON, and the line feed.
+
+ghost use Rattle.std.specs.Prelude.{◌≡◌, ◌≤◌, [], ◌∷◌, ◌++◌, length, IfSome, OnOk, OnErr};
+ghost use Rattle.std.specs.List.{flat_map};
+ghost use Rattle.edge_io.specs.Told.{appended, AppendedSome};
+ghost use Rattle.http_send.specs.Replies.{reply_text};
+ghost use Rattle.sess_reply.specs.Sending.{Counts};
+
+use crate::Broken;
+use edge_io::Sink;
+use http_send::{begin_reply, part, parts};
+
+/// How many bytes these pieces have together, where a number of 64 bits holds it.
+pub(crate) fn length_in(pieces: &[&[u8]]) -> Option<u64>
+    ensures { IfSome result (λ n. n ≡ length (flat_map (λ piece. piece.now) pieces.now)) }
+{
+    let mut total = 0u64;
+    for piece in pieces {
+        total = total.checked_add(piece.len() as u64)?;
+    }
+    Some(total)
+}
+
+/// Writes a reply whose JSON is these pieces, and sends it on.
+pub(crate) fn send_pieces<K: Sink>(
+    sink: &mut K,
+    code: u16,
+    retry: bool,
+    close: bool,
+    pieces: &[&[u8]],
+) -> Result<(), Broken>
+    ensures sent { OnOk result (K.written sink.new ≡ appended (K.written sink.old)
+        (reply_text code retry close (flat_map (λ piece. piece.now) pieces.now ++ 10 ∷ []))) }
+    ensures settled { OnOk result (K.settled sink.new) }
+    ensures broken { OnErr result (AppendedSome (K.written sink.old) (K.written sink.new)
+        (reply_text code retry close (flat_map (λ piece. piece.now) pieces.now ++ 10 ∷ []))) }
+    ensures counts { Counts result (K.faults sink.old) (K.faults sink.new) }
+    ensures never_falls { K.faults sink.old ≤ K.faults sink.new }
+{
+    let Some(length) = body_length(pieces) else {
+        return Err(Broken::Memory);
+    };
+    begin_reply(sink, code, retry, close, length)?;
+    write_body(sink, pieces)
+}
+
+// How long the body is: the JSON and the line feed.
+fn body_length(pieces: &[&[u8]]) -> Option<u64>
+    ensures { IfSome result (λ n. n ≡ length (flat_map (λ piece. piece.now) pieces.now ++ 10 ∷ [])) }
+{
+    length_in(pieces)?.checked_add(1)
+}
+
+fn write_body<K: Sink>(sink: &mut K, pieces: &[&[u8]]) -> Result<(), Broken>
+    ensures sent { OnOk result (K.written sink.new ≡ appended (K.written sink.old)
+        (flat_map (λ piece. piece.now) pieces.now ++ 10 ∷ [])) }
+    ensures settled { OnOk result (K.settled sink.new) }
+    ensures broken { OnErr result (AppendedSome (K.written sink.old) (K.written sink.new)
+        (flat_map (λ piece. piece.now) pieces.now ++ 10 ∷ [])) }
+    ensures counts { Counts result (K.faults sink.old) (K.faults sink.new) }
+    ensures never_falls { K.faults sink.old ≤ K.faults sink.new }
+{
+    parts(sink, pieces)?;
+    end_reply(sink)
+}
+
+/// Writes the line feed that ends a reply, and sends the reply on.
+pub(crate) fn end_reply<K: Sink>(sink: &mut K) -> Result<(), Broken>
+    ensures sent { OnOk result (K.written sink.new ≡ appended (K.written sink.old) (10 ∷ [])) }
+    ensures settled { OnOk result (K.settled sink.new) }
+    ensures broken { OnErr result (AppendedSome (K.written sink.old) (K.written sink.new) (10 ∷ [])) }
+    ensures counts { Counts result (K.faults sink.old) (K.faults sink.new) }
+    ensures never_falls { K.faults sink.old ≤ K.faults sink.new }
+{
+    part(sink, b"\n")?;
+    sink.flush()?;
+    Ok(())
+}

@@ -1,0 +1,138 @@
+//! The items of a list, written as the pieces that their objects are kept in: nothing is copied or joined.
+
+ghost use Rattle.std.specs.Prelude.{◌≡◌, ◌≤◌, [], ◌∷◌, ◌++◌, length, map, IfSome, OnOk, OnErr};
+ghost use Rattle.std.specs.List.{flat_map};
+ghost use Rattle.edge_io.specs.Told.{appended, AppendedSome};
+ghost use Rattle.edge_io.specs.Counts.{Rose};
+ghost use Rattle.sess_reply.specs.Contents.{shown_row};
+ghost use Rattle.sess_reply.specs.Items.{rows_text, between};
+
+use crate::body::length_in;
+use edge_io::Sink;
+use encode_once::Shown;
+use http_send::{SendNo, parts};
+use meta_view::{Form, shown_pieces};
+use std::sync::Arc;
+
+const COMMA: &[u8] = b",";
+
+/// The JSON of an object in a form.
+pub(crate) fn item_pieces<'a>(form: Form, shown: &'a Arc<Shown>) -> [&'a [u8]; 5]
+    ensures { flat_map (λ piece. piece.now) result ≡ shown_row form shown.now.value }
+{
+    shown_pieces(form, &shown.row().obj, shown.digits())
+}
+
+// The same behind a comma.
+fn later_pieces<'a>(form: Form, shown: &'a Arc<Shown>) -> [&'a [u8]; 6]
+    ensures { flat_map (λ piece. piece.now) result ≡ 44 ∷ shown_row form shown.now.value }
+{
+    let [opens, front, digits, back, closes] = item_pieces(form, shown);
+    [COMMA, opens, front, digits, back, closes]
+}
+
+// ---- how long they are, where a number of 64 bits holds it
+
+/// How long the body of a list is: its JSON and the line feed.
+pub(crate) fn list_length(
+    form: Form,
+    front: &[&[u8]],
+    items: &[Arc<Shown>],
+    back: &[&[u8]],
+) -> Option<u64>
+    ensures { IfSome result (λ n. n ≡ length (between (flat_map (λ piece. piece.now) front.now) form
+        (map (λ shown. shown.value) items.now) (flat_map (λ piece. piece.now) back.now) ++ 10 ∷ [])) }
+{
+    let front = length_in(front)?;
+    let items = items_length(form, items)?;
+    let back = length_in(back)?;
+    front.checked_add(items)?.checked_add(back)?.checked_add(1)
+}
+
+fn items_length(form: Form, items: &[Arc<Shown>]) -> Option<u64>
+    ensures { IfSome result (λ n. n ≡ length (rows_text form (map (λ shown. shown.value) items.now))) }
+{
+    let Some((first, later)) = items.split_first() else {
+        return Some(0);
+    };
+    let first = length_in(&item_pieces(form, first))?;
+    first.checked_add(later_length(form, later)?)
+}
+
+fn later_length(form: Form, later: &[Arc<Shown>]) -> Option<u64>
+    ensures { IfSome result (λ n. n ≡ length (flat_map (λ shown. 44 ∷ shown_row form shown.value) later.now)) }
+{
+    let mut total = 0u64;
+    for shown in later {
+        total = total.checked_add(length_in(&later_pieces(form, shown))?)?;
+    }
+    Some(total)
+}
+
+// ---- writing them
+
+/// Writes the JSON of a list: the pieces before its items, the items, and the pieces after them.
+pub(crate) fn write_list<K: Sink>(
+    sink: &mut K,
+    form: Form,
+    front: &[&[u8]],
+    items: &[Arc<Shown>],
+    back: &[&[u8]],
+) -> Result<(), SendNo>
+    ensures sent { OnOk result (K.written sink.new ≡ appended (K.written sink.old) (between (flat_map (λ piece. piece.now) front.now) form
+        (map (λ shown. shown.value) items.now) (flat_map (λ piece. piece.now) back.now))) }
+    ensures broken { OnErr result (AppendedSome (K.written sink.old) (K.written sink.new) (between (flat_map (λ piece. piece.now) front.now) form
+        (map (λ shown. shown.value) items.now) (flat_map (λ piece. piece.now) back.now))) }
+    ensures quiet { OnOk result (K.faults sink.new ≡ K.faults sink.old) }
+    ensures counted { OnErr result (Rose (K.faults sink.old) (K.faults sink.new)) }
+    ensures never_falls { K.faults sink.old ≤ K.faults sink.new }
+{
+    parts(sink, front)?;
+    write_rest(sink, form, items, back)
+}
+
+// Writes the items and the pieces after them.
+fn write_rest<K: Sink>(
+    sink: &mut K,
+    form: Form,
+    items: &[Arc<Shown>],
+    back: &[&[u8]],
+) -> Result<(), SendNo>
+    ensures sent { OnOk result (K.written sink.new ≡ appended (K.written sink.old)
+        (rows_text form (map (λ shown. shown.value) items.now) ++ flat_map (λ piece. piece.now) back.now)) }
+    ensures broken { OnErr result (AppendedSome (K.written sink.old) (K.written sink.new)
+        (rows_text form (map (λ shown. shown.value) items.now) ++ flat_map (λ piece. piece.now) back.now)) }
+    ensures quiet { OnOk result (K.faults sink.new ≡ K.faults sink.old) }
+    ensures counted { OnErr result (Rose (K.faults sink.old) (K.faults sink.new)) }
+    ensures never_falls { K.faults sink.old ≤ K.faults sink.new }
+{
+    write_items(sink, form, items)?;
+    parts(sink, back)
+}
+
+fn write_items<K: Sink>(sink: &mut K, form: Form, items: &[Arc<Shown>]) -> Result<(), SendNo>
+    ensures sent { OnOk result (K.written sink.new ≡ appended (K.written sink.old) (rows_text form (map (λ shown. shown.value) items.now))) }
+    ensures broken { OnErr result (AppendedSome (K.written sink.old) (K.written sink.new) (rows_text form (map (λ shown. shown.value) items.now))) }
+    ensures quiet { OnOk result (K.faults sink.new ≡ K.faults sink.old) }
+    ensures counted { OnErr result (Rose (K.faults sink.old) (K.faults sink.new)) }
+    ensures never_falls { K.faults sink.old ≤ K.faults sink.new }
+{
+    let Some((first, later)) = items.split_first() else {
+        return Ok(());
+    };
+    parts(sink, &item_pieces(form, first))?;
+    write_later(sink, form, later)
+}
+
+fn write_later<K: Sink>(sink: &mut K, form: Form, later: &[Arc<Shown>]) -> Result<(), SendNo>
+    ensures sent { OnOk result (K.written sink.new ≡ appended (K.written sink.old) (flat_map (λ shown. 44 ∷ shown_row form shown.value) later.now)) }
+    ensures broken { OnErr result (AppendedSome (K.written sink.old) (K.written sink.new) (flat_map (λ shown. 44 ∷ shown_row form shown.value) later.now)) }
+    ensures quiet { OnOk result (K.faults sink.new ≡ K.faults sink.old) }
+    ensures counted { OnErr result (Rose (K.faults sink.old) (K.faults sink.new)) }
+    ensures never_falls { K.faults sink.old ≤ K.faults sink.new }
+{
+    for shown in later {
+        parts(sink, &later_pieces(form, shown))?;
+    }
+    Ok(())
+}

@@ -1,0 +1,154 @@
+//! Lists, written as the pieces that their objects are kept in: nothing is copied, and the length is summed before the
+//! head is written.
+
+ghost use Rattle.std.specs.Prelude.{◌≡◌, ◌≤◌, [], ◌∷◌, ◌++◌, decimal, false, map, option_map, OnOk, OnErr};
+ghost use Rattle.std.specs.List.{flat_map, list_all};
+ghost use Rattle.edge_io.specs.Told.{appended, AppendedSome};
+ghost use Rattle.http_send.specs.Replies.{reply_text};
+ghost use Rattle.json_obj.specs.Plain.{is_plain_byte};
+ghost use Rattle.json_obj.specs.Replies.{list_back};
+ghost use Rattle.meta_view.specs.Lines.{list_kind_in};
+ghost use Rattle.sess_reply.specs.Contents.{listed_json, said};
+ghost use Rattle.sess_reply.specs.Items.{between};
+ghost use Rattle.sess_reply.specs.Replies.{text_of};
+ghost use Rattle.sess_reply.specs.Sending.{Counts};
+
+use crate::Broken;
+use crate::body::end_reply;
+use crate::items::{list_length, write_list};
+use client_api::Listed;
+use edge_io::Sink;
+use encode_once::Shown;
+use http_send::begin_reply;
+use itoa::Buffer;
+use json_obj::{More, list_parts_as};
+use kube_meta::Resource;
+use meta_view::{Form, shown_list_back, shown_list_front, shown_list_more};
+use std::alloc::Global;
+use std::sync::Arc;
+
+/// Replies with a list of the resource in a form.
+pub(crate) fn send_list<K: Sink>(
+    alloc: Global,
+    sink: &mut K,
+    form: Form,
+    close: bool,
+    resource: Resource,
+    listed: &Listed,
+) -> Result<(), Broken>
+    ensures sent { OnOk result (K.written sink.new ≡ appended (K.written sink.old)
+        (text_of close (said 200 (listed_json form resource listed.now)))) }
+    ensures settled { OnOk result (K.settled sink.new) }
+    ensures broken { OnErr result (AppendedSome (K.written sink.old) (K.written sink.new)
+        (text_of close (said 200 (listed_json form resource listed.now)))) }
+    ensures counts { Counts result (K.faults sink.old) (K.faults sink.new) }
+    ensures never_falls { K.faults sink.old ≤ K.faults sink.new }
+{
+    let mut digits = Buffer::new();
+    let revision = digits.format(listed.rev).as_bytes();
+    let mut left_digits = Buffer::new();
+    match &listed.more {
+        None => {
+            let back = shown_list_back(form, resource, revision);
+            send_page(sink, form, close, resource, listed, &back)
+        }
+        Some(more) if is_plain(more) => {
+            let left = left(more, &mut left_digits);
+            let token = more.token.as_str().as_bytes();
+            let back = shown_list_more(form, resource, revision, token, left);
+            send_page(sink, form, close, resource, listed, &back)
+        }
+        Some(more) => {
+            let (version, kind) = (form.version(resource), form.list_kind(resource));
+            let (_, back) = list_parts_as(alloc, version, kind, listed.rev, Some(more))?;
+            send_page(sink, form, close, resource, listed, &[back.as_slice()])
+        }
+    }
+}
+
+// Replies with a list, whose JSON after its items is these pieces.
+fn send_page<K: Sink>(
+    sink: &mut K,
+    form: Form,
+    close: bool,
+    resource: Resource,
+    listed: &Listed,
+    back: &[&[u8]],
+) -> Result<(), Broken>
+    requires { flat_map (λ piece. piece.now) back.now ≡ list_back (list_kind_in form resource) listed.now.rev listed.now.more }
+    ensures sent { OnOk result (K.written sink.new ≡ appended (K.written sink.old)
+        (text_of close (said 200 (listed_json form resource listed.now)))) }
+    ensures settled { OnOk result (K.settled sink.new) }
+    ensures broken { OnErr result (AppendedSome (K.written sink.old) (K.written sink.new)
+        (text_of close (said 200 (listed_json form resource listed.now)))) }
+    ensures counts { Counts result (K.faults sink.old) (K.faults sink.new) }
+    ensures never_falls { K.faults sink.old ≤ K.faults sink.new }
+{
+    let front = shown_list_front(form, resource);
+    send_items(sink, form, close, &front, listed.items.as_slice(), back)
+}
+
+// Whether no byte of the next page's token needs an escape, as none of a token that was made here does.
+fn is_plain(more: &More) -> bool
+    ensures { result ≡ list_all is_plain_byte more.now.token }
+{
+    more.token
+        .as_str()
+        .as_bytes()
+        .iter()
+        .all(|byte| *byte >= b' ' && *byte != b'"' && *byte != b'\\')
+}
+
+// The digits of how many items are left, where that is told.
+fn left<'a>(more: &More, digits: &'a mut Buffer) -> Option<&'a [u8]>
+    ensures { option_map (λ l. l.now) result ≡ option_map decimal more.now.left }
+{
+    match more.left {
+        Some(count) => Some(digits.format(count).as_bytes()),
+        None => None,
+    }
+}
+
+// Replies with a list: the pieces before its items, the items, and the pieces after them.
+fn send_items<K: Sink>(
+    sink: &mut K,
+    form: Form,
+    close: bool,
+    front: &[&[u8]],
+    items: &[Arc<Shown>],
+    back: &[&[u8]],
+) -> Result<(), Broken>
+    ensures sent { OnOk result (K.written sink.new ≡ appended (K.written sink.old)
+        (reply_text 200 false close (between (flat_map (λ piece. piece.now) front.now) form (map (λ shown. shown.value) items.now) (flat_map (λ piece. piece.now) back.now) ++ 10 ∷ []))) }
+    ensures settled { OnOk result (K.settled sink.new) }
+    ensures broken { OnErr result (AppendedSome (K.written sink.old) (K.written sink.new)
+        (reply_text 200 false close (between (flat_map (λ piece. piece.now) front.now) form (map (λ shown. shown.value) items.now) (flat_map (λ piece. piece.now) back.now) ++ 10 ∷ []))) }
+    ensures counts { Counts result (K.faults sink.old) (K.faults sink.new) }
+    ensures never_falls { K.faults sink.old ≤ K.faults sink.new }
+{
+    let Some(length) = list_length(form, front, items, back) else {
+        return Err(Broken::Memory);
+    };
+    begin_reply(sink, 200, false, close, length)?;
+    write_body(sink, form, front, items, back)
+}
+
+// Writes the body of a list, and sends the reply on.
+fn write_body<K: Sink>(
+    sink: &mut K,
+    form: Form,
+    front: &[&[u8]],
+    items: &[Arc<Shown>],
+    back: &[&[u8]],
+) -> Result<(), Broken>
+    ensures sent { OnOk result (K.written sink.new ≡ appended (K.written sink.old)
+        (between (flat_map (λ piece. piece.now) front.now) form (map (λ shown. shown.value) items.now) (flat_map (λ piece. piece.now) back.now) ++ 10 ∷ [])) }
+    ensures settled { OnOk result (K.settled sink.new) }
+    ensures broken { OnErr result (AppendedSome (K.written sink.old) (K.written sink.new)
+        (between (flat_map (λ piece. piece.now) front.now) form (map (λ shown. shown.value) items.now) (flat_map (λ piece. piece.now) back.now) ++ 10 ∷ [])) }
+    ensures counts { Counts result (K.faults sink.old) (K.faults sink.new) }
+    ensures never_falls { K.faults sink.old ≤ K.faults sink.new }
+{
+    write_list(sink, form, front, items, back)?;
+    end_reply(sink)
+}

@@ -1,0 +1,8 @@
+pub mod WritingLemmas
+pub mod AloneLemmas
+pub mod LineLemmas
+pub mod TurnLemmas
+pub mod AskLemmas
+pub mod TurnedLemmas
+pub mod BodyLemmas
+pub mod StreamLemmas

@@ -1,0 +1,12 @@
+use Rattle.std.proofs.Common.{refl, ap, sym}
+use Rattle.sess_turns.proofs.StreamLemmas.{goes-broken, goes-on}
+use Rattle.sess_turns.proofs.stream.stream.Goals as goal
+
+pub returns-in_err-open-clause-goes : goal.returns-in_err-open-clause-goes
+returns-in_err-open-clause-goes g c =
+    goes-broken _ _ _ _ _ _ _ _ _ _ c.from_residual.result c.from_residual.ensures.0 refl refl c.in_err-open.ensures.written
+
+pub returns-clause-goes : goal.returns-clause-goes
+returns-clause-goes g c =
+    goes-on _ _ _ _ _ _ _ _ _ _ (record { readings = g.T.Clock.readings c.args.clock.now; written = g.K.Sink.written c.open.new.sink }) c.turns.result
+    _ (sym (ap (λ b. b.at) c.begun.view_is)) refl c.in_ok-open.ensures.written c.turns.ensures.stops

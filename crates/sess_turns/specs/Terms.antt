@@ -1,0 +1,22 @@
+-- What a session is told once: of its log, of its client, and how it is set.
+use Rattle.std.specs.Prelude.{ℕ, Bool, List, Option, ◌==◌, if◌then◌else◌}
+use Rattle.kube_meta.specs.Rows.{RowData}
+use Rattle.up_api.specs.declared.settings.Settings.{Settings}
+use Rattle.client_api.specs.Facts.{Facts}
+
+-- the log's base rows, and whether it is a mirror's; how many changes the client's caches keep at least; its history,
+-- where nobody else holds the log; and the settings
+pub record Terms : Type 0 where
+  pub base : List RowData
+  pub mirror : Bool
+  pub window : ℕ
+  pub alone : Option ℕ
+  pub settings : Settings
+
+abbrev pub terms_of : List RowData → Bool → Facts → Settings → Terms
+terms_of base mirror facts settings =
+    record { base = base; mirror = mirror; window = facts.window; alone = facts.alone; settings = settings }
+
+-- after how many seconds a watch ends, where its ask says so many, or 0
+abbrev pub seconds_of : Settings → ℕ → ℕ
+seconds_of settings asked = if asked == 0 then settings.timeout_s else asked
