@@ -1,181 +1,202 @@
--- The laws of sessions.
-use Rattle.std.proofs.Common.{◌≡◌, ◌∙◌, ◌++◌, ◌⊎◌, ℕ, ◌+◌, ◌-◌, ◌<◌, ◌≤◌, suc, true, false, List, [], ◌∷◌, length, Option, Some, refl, sym, ap, subst, inl, inr, arith}
+-- The laws of sessions: ends come exactly where they should.
+use Rattle.std.proofs.Common.{◌≡◌, ◌∙◌, ◌++◌, ◌⊎◌, ℕ, ◌-◌, ◌<◌, ◌≤◌, suc, true, false, List, [], ◌∷◌, length, Some, refl, sym, ap, subst, inl, inr, arith}
+use Rattle.std.specs.Prelude.{map, All}
 use Rattle.std.proofs.lemmas.Bool.{false≢true}
-use Rattle.std.proofs.lemmas.List.{append_assoc, append-nil, length-append}
+use Rattle.std.proofs.lemmas.List.{append-nil}
 use Rattle.std.proofs.lemmas.List.Elements.{All-head, All-tail}
 use Rattle.edge_io.specs.Counts.{Rose}
-use Rattle.httparse.specs.Grammar.{print_request}
-use Rattle.httparse.proofs.GrammarLemmas.{request_unique}
-use Rattle.sess_serve.specs.Ask.{IsServed}
-use Rattle.sess_serve.specs.Head.{IsForm}
-use Rattle.sess_serve.specs.Laws.{ReadingIsUnique, SessionsSettle, EndsAreExact, Settled, finished, full, cut, unserved, end_by, EndsWith, SameWay}
-use Rattle.sess_serve.specs.Passes.{Pass}
-use Rattle.sess_serve.specs.Reading.{Request, closes, ReadsOne, ReadsRequests, IsUnfinished, NeverReads}
-use Rattle.sess_serve.specs.Session.{Exchange, requests_of, IsSession, Run, AllStay, EndsClosed, EndsClean}
-use Rattle.sess_serve.proofs.Reading.{print_nonempty}
-use Rattle.sess_serve.proofs.Session.{ReadsRequests-more}
-use Rattle.sess_serve.proofs.Unique.{ReadsOne-unique, form_body}
-
-pub reading_unique : ReadingIsUnique
-reading_unique bytes more r s x y one two = ReadsOne-unique bytes more r s x y one two
-
--- ---- bytes that don't begin with a request
-
-one_nonempty : (bytes : List ℕ) (r : Request) (rest : List ℕ) → ReadsOne bytes r rest → 0 < length bytes
-one_nonempty bytes r rest one =
-    let sum = ap length one.reads.1 ∙ length-append (print_request r.head) (r.body ++ rest) in
-    let some : 0 < length (print_request r.head) = print_nonempty r.head in
-    omega (arith, sum)
-
-unfinished_apart : (bytes : List ℕ) (r : Request) (rest : List ℕ) → IsUnfinished bytes → ReadsOne bytes r rest → ⊥
-unfinished_apart bytes r rest (inl (inl nothing)) one =
-    let some : 0 < length bytes = one_nonempty bytes r rest one in
-    let none : length bytes ≡ 0 = ap length nothing in
-    absurd (omega arith)
-unfinished_apart bytes r rest (inl (inr begun)) one = begun.0 r.head (r.body ++ rest) one.reads
-unfinished_apart bytes r rest (inr begun) one =
-    let same = request_unique bytes begun.head r.head begun.body (r.body ++ rest) begun.reads one.reads in
-    let mine : IsForm r.head begun.form = subst (λ h. IsForm h begun.form) same.0 begun.is_form in
-    let size : begun.form.body ≡ one.form.body = form_body r.head begun.form one.form mine one.is_form in
-    let short : length begun.body < begun.form.body = begun.short in
-    let whole' : length r.body ≡ one.form.body = one.size in
-    let sum : length begun.body ≡ length r.body + length rest = ap length same.1 ∙ length-append r.body rest in
-    absurd (omega arith)
+use Rattle.httparse.specs.Grammar.{EndsInTarget}
+use Rattle.httparse.specs.Spans.{RequestExceeds}
+use Rattle.http_read.specs.Heads.{most_fields}
+use Rattle.http_read.specs.Requests.{ReadsOne, ReadsSome, IsCutShort, EndsAs, Ending, clean, cut_short, front}
+use Rattle.http_read.specs.Requests.{refused as refused_so}
+use Rattle.http_read.specs.declared.request.Req.{Req}
+use Rattle.http_read.proofs.LawLemmas.{one-way, not-nothing, not-refused, not-cut-short, refusal-stays}
+use Rattle.http_read.proofs.EndingLemmas.{some-stay, endings}
+use Rattle.sess_turns.specs.Terms.{Terms}
+use Rattle.sess_turns.specs.declared.ends.WatchEnd.{WatchEnd}
+use Rattle.sess_serve.specs.Answers.{Answer, replied, streamed, is_stream}
+use Rattle.sess_serve.specs.Steps.{Exchange}
+use Rattle.sess_serve.specs.Ends.{Stays, GoesOn, Last, IsWatchEnd, Ended}
+use Rattle.sess_serve.specs.Session.{requests_of}
+use Rattle.sess_serve.specs.Laws.{SessionsSettle, EndsAreExact, Settled, finished, full, cut, watched, refused, end_by, Heard, heard, requests_in, StaysOpen, IsFinishing, IsFinished, IsWatched, EndsHere, EndsWith, AreOneWay}
 
 -- ---- one input, one end
 
+abbrev way_of : Ending → Settled
+way_of clean = finished
+way_of cut_short = cut
+way_of (refused_so fault) = refused fault
+
+one-ending : (x : List ℕ) (e f : Ending) → EndsAs x e → EndsAs x f → AreOneWay x (way_of e) (way_of f)
+one-ending x e f p q = elim (endings x [] [] e f p q) [
+  | inl same ↦ inl (ap way_of same)
+  | inr ways ↦ inr (inr (subst (λ b. EndsInTarget (front b) ⊎ RequestExceeds most_fields (front b)) (sym ways.1) ways.2))
+]
+
 -- with no request in front
-same_end : (limit : ℕ) (x : List ℕ) (v w : Settled) → EndsWith limit [] x v → EndsWith limit [] x w → SameWay v w
-same_end limit x finished finished h k = inl refl
-same_end limit x finished full h k = let some : 0 < limit = h.0 in absurd (omega arith)
-same_end limit x finished cut h k = let none : length x ≡ 0 = ap length h.1 in let some : 0 < length x = k.1 in absurd (omega arith)
-same_end limit x finished unserved h k = let none : length x ≡ 0 = ap length h.1 in let some : 0 < length x = k.1 in absurd (omega arith)
-same_end limit x full finished h k = let some : 0 < limit = k.0 in absurd (omega arith)
-same_end limit x full full h k = inl refl
-same_end limit x full cut h k = let some : 0 < limit = k.0 in absurd (omega arith)
-same_end limit x full unserved h k = let some : 0 < limit = k.0 in absurd (omega arith)
-same_end limit x cut finished h k = let none : length x ≡ 0 = ap length k.1 in let some : 0 < length x = h.1 in absurd (omega arith)
-same_end limit x cut full h k = let some : 0 < limit = h.0 in absurd (omega arith)
-same_end limit x cut cut h k = inl refl
-same_end limit x cut unserved h k = inr (inl refl, inr refl)
-same_end limit x unserved finished h k = let none : length x ≡ 0 = ap length k.1 in let some : 0 < length x = h.1 in absurd (omega arith)
-same_end limit x unserved full h k = let some : 0 < limit = h.0 in absurd (omega arith)
-same_end limit x unserved cut h k = inr (inr refl, inl refl)
-same_end limit x unserved unserved h k = inl refl
+same-end : (limit : ℕ) (x : List ℕ) (v w : Settled) → EndsHere limit x v → EndsHere limit x w → AreOneWay x v w
+same-end limit x finished finished h k = inl refl
+same-end limit x finished full h k = let some : 0 < limit = h.0 in absurd (omega arith)
+same-end limit x finished cut h k = one-ending x clean cut_short h.1 k.1
+same-end limit x finished (watched how) h k = absurd k
+same-end limit x finished (refused fault) h k = one-ending x clean (refused_so fault) h.1 k.1
+same-end limit x full finished h k = let some : 0 < limit = k.0 in absurd (omega arith)
+same-end limit x full full h k = inl refl
+same-end limit x full cut h k = let some : 0 < limit = k.0 in absurd (omega arith)
+same-end limit x full (watched how) h k = absurd k
+same-end limit x full (refused fault) h k = let some : 0 < limit = k.0 in absurd (omega arith)
+same-end limit x cut finished h k = one-ending x cut_short clean h.1 k.1
+same-end limit x cut full h k = let some : 0 < limit = h.0 in absurd (omega arith)
+same-end limit x cut cut h k = inl refl
+same-end limit x cut (watched how) h k = absurd k
+same-end limit x cut (refused fault) h k = one-ending x cut_short (refused_so fault) h.1 k.1
+same-end limit x (watched how) w h k = absurd h
+same-end limit x (refused fault) finished h k = one-ending x (refused_so fault) clean h.1 k.1
+same-end limit x (refused fault) full h k = let some : 0 < limit = h.0 in absurd (omega arith)
+same-end limit x (refused fault) cut h k = one-ending x (refused_so fault) cut_short h.1 k.1
+same-end limit x (refused fault) (watched how) h k = absurd k
+same-end limit x (refused fault) (refused other) h k = one-ending x (refused_so fault) (refused_so other) h.1 k.1
 
--- an input doesn't end a session where a request that is served follows
-goes_on_apart : (limit : ℕ) (x : List ℕ) (v : Settled) (s : Request) (rest : List ℕ) → 0 < limit → IsServed s → ReadsOne x s rest → EndsWith limit [] x v → ⊥
-goes_on_apart limit x finished s rest room served one h =
-    let some : 0 < length x = one_nonempty x s rest one in
-    let none : length x ≡ 0 = ap length h.1 in
-    absurd (omega arith)
-goes_on_apart limit x full s rest room served one h = absurd (omega arith)
-goes_on_apart limit x cut s rest room served one h = unfinished_apart x s rest h.2 one
-goes_on_apart limit x unserved s rest room served one h =
-    h.2.never [] s rest (subst (λ b. ReadsOne b s rest) (sym (append-nil x)) one) served
+-- a session doesn't end where a request follows that may be answered
+follows-apart : (limit : ℕ) (x : List ℕ) (v : Settled) (s : Req) (rest : List ℕ) → 0 < limit → ReadsOne x s rest → EndsHere limit x v → ⊥
+follows-apart limit x finished s rest room one h = not-nothing x s rest one h.1
+follows-apart limit x full s rest room one h = absurd (omega arith)
+follows-apart limit x cut s rest room one h = not-cut-short x s rest one h.1
+follows-apart limit x (watched how) s rest room one h = absurd h
+follows-apart limit x (refused fault) s rest room one h = not-refused x s rest fault one h.1
 
-pub ends_exact : EndsAreExact
-ends_exact limit input [] [] x y v w rx ry ex ey =
-    (refl, same_end limit x v w ex (subst (λ b. EndsWith limit [] b w) (sym ry ∙ rx) ey))
-ends_exact limit input [] (s ∷ ss) x y v w rx ry ex ey =
-    absurd (goes_on_apart limit x v s ry.0 ey.0 ey.1 (subst (λ b. ReadsOne b s ry.0) rx ry.1) ex)
-ends_exact limit input (r ∷ rs) [] x y v w rx ry ex ey =
-    absurd (goes_on_apart limit y w r rx.0 ex.0 ex.1 (subst (λ b. ReadsOne b r rx.0) ry rx.1) ey)
-ends_exact limit input (r ∷ rs) (s ∷ ss) x y v w rx ry ex ey =
-    let same = ReadsOne-unique input [] r s rx.0 ry.0 rx.1 (subst (λ b. ReadsOne b s ry.0) (sym (append-nil input)) ry.1) in
-    let after : rx.0 ≡ ry.0 = sym (append-nil rx.0) ∙ same.1 in
-    heads same.0 (λ a b. ends_exact (limit - 1) rx.0 rs ss x y v w rx.2 (subst (λ b. ReadsRequests b ss y) (sym after) ry.2) a b) ex.2 ey.2
+heard-same : (a b : Heard) → a.request ≡ b.request → a.streamed ≡ b.streamed → a ≡ b
+heard-same a b e f = λ i. record { request = e i; streamed = f i }
+
+watched-both : (x : List ℕ) (v w : Settled) → IsWatched v → IsWatched w → AreOneWay x v w
+watched-both x v w h k = inr (inl (h, k))
+
+finished-both : (x : List ℕ) (v w : Settled) → IsFinished v → IsFinished w → AreOneWay x v w
+finished-both x finished finished h k = inl refl
+finished-both x finished full h k = absurd k
+finished-both x finished cut h k = absurd k
+finished-both x finished (watched how) h k = absurd k
+finished-both x finished (refused fault) h k = absurd k
+finished-both x full w h k = absurd h
+finished-both x cut w h k = absurd h
+finished-both x (watched how) w h k = absurd h
+finished-both x (refused fault) w h k = absurd h
+
+pub ends-exact : EndsAreExact
+ends-exact limit input [] [] x y v w rx ry ex ey agree =
+    (refl, sym rx ∙ ry, same-end limit x v w ex (subst (λ b. EndsHere limit b w) (sym ry ∙ rx) ey))
+ends-exact limit input [] (s ∷ ss) x y v w rx ry ex ey agree =
+    absurd (follows-apart limit x v s.request ry.0 ey.0 (subst (λ b. ReadsOne b s.request ry.0) rx ry.1) ex)
+ends-exact limit input (r ∷ rs) [] x y v w rx ry ex ey agree =
+    absurd (follows-apart limit y w r.request rx.0 ex.0 (subst (λ b. ReadsOne b r.request rx.0) ry rx.1) ey)
+ends-exact limit input (r ∷ rs) (s ∷ ss) x y v w rx ry ex ey agree =
+    heads (λ a b. ends-exact (limit - 1) rx.0 rs ss x y v w rx.2 (subst (λ i. ReadsSome i (requests_in ss) y) (sym same.1) ry.2) a b agree.1) ex.1 ey.1
   where
-    heads : r ≡ s → (EndsWith (limit - 1) rs x v → EndsWith (limit - 1) ss y w → (rs ≡ ss) × SameWay v w)
-        → ((closes r ≡ false) × EndsWith (limit - 1) rs x v) ⊎ ((closes r ≡ true) × (rs ≡ []) × (v ≡ finished))
-        → ((closes s ≡ false) × EndsWith (limit - 1) ss y w) ⊎ ((closes s ≡ true) × (ss ≡ []) × (w ≡ finished))
-        → ((r ∷ rs) ≡ (s ∷ ss)) × SameWay v w
-    heads is again (inl a) (inl b) = let more = again a.1 b.1 in ((λ i. is i ∷ more.0 i), more.1)
-    heads is again (inl a) (inr b) = absurd (false≢true (sym a.0 ∙ ap closes is ∙ b.0))
-    heads is again (inr a) (inl b) = absurd (false≢true (sym b.0 ∙ sym (ap closes is) ∙ a.0))
-    heads is again (inr a) (inr b) = ((λ i. is i ∷ (a.1 ∙ sym b.1) i), inl (a.2 ∙ sym b.2))
+    same : (r.request ≡ s.request) × (rx.0 ≡ ry.0)
+    same = one-way input r.request s.request rx.0 ry.0 rx.1 ry.1
+
+    is : r ≡ s
+    is = heard-same r s same.0 agree.0
+
+    alike : rs ≡ [] → ss ≡ [] → (rs ≡ ss) × (x ≡ y)
+    alike e f =
+        let one : rx.0 ≡ x = subst (λ hs. ReadsSome rx.0 (requests_in hs) x) e rx.2 in
+        let other : ry.0 ≡ y = subst (λ hs. ReadsSome ry.0 (requests_in hs) y) f ry.2 in
+        (e ∙ sym f, sym one ∙ same.1 ∙ other)
+
+    closes : (a b : Heard) → a ≡ b → a.request.close ≡ false → b.request.close ≡ true → ⊥
+    closes a b e f t = false≢true (sym f ∙ ap (λ (h : Heard). h.request.close) e ∙ t)
+
+    streams : (a b : Heard) → a ≡ b → a.streamed ≡ false → b.streamed ≡ true → ⊥
+    streams a b e f t = false≢true (sym f ∙ ap (λ (h : Heard). h.streamed) e ∙ t)
+
+    heads : (EndsWith (limit - 1) rs x v → EndsWith (limit - 1) ss y w → (rs ≡ ss) × (x ≡ y) × AreOneWay x v w)
+        → (StaysOpen r × EndsWith (limit - 1) rs x v) ⊎ ((IsFinishing r × (rs ≡ []) × IsFinished v) ⊎ ((r.streamed ≡ true) × (rs ≡ []) × IsWatched v))
+        → (StaysOpen s × EndsWith (limit - 1) ss y w) ⊎ ((IsFinishing s × (ss ≡ []) × IsFinished w) ⊎ ((s.streamed ≡ true) × (ss ≡ []) × IsWatched w))
+        → ((r ∷ rs) ≡ (s ∷ ss)) × (x ≡ y) × AreOneWay x v w
+    heads again (inl a) (inl b) =
+        let more = again a.1 b.1 in
+        ((λ i. is i ∷ more.0 i), more.1, more.2)
+    heads again (inl a) (inr (inl b)) = absurd (closes r s is a.0.0 b.0.0)
+    heads again (inl a) (inr (inr b)) = absurd (streams r s is a.0.1 b.0)
+    heads again (inr (inl a)) (inl b) = absurd (closes s r (sym is) b.0.0 a.0.0)
+    heads again (inr (inl a)) (inr (inl b)) = let more = alike a.1 b.1 in ((λ i. is i ∷ more.0 i), more.1, finished-both x v w a.2 b.2)
+    heads again (inr (inl a)) (inr (inr b)) = absurd (streams r s is a.0.1 b.0)
+    heads again (inr (inr a)) (inl b) = absurd (streams s r (sym is) b.0.1 a.0)
+    heads again (inr (inr a)) (inr (inl b)) = absurd (streams s r (sym is) b.0.1 a.0)
+    heads again (inr (inr a)) (inr (inr b)) = let more = alike a.1 b.1 in ((λ i. is i ∷ more.0 i), more.1, watched-both x v w a.2 b.2)
 
 -- ---- from sessions
 
--- each answered request is served
-first_served : (alone : Option ℕ) (p q : Pass) (e : Exchange) (es : List Exchange) → Run alone p (e ∷ es) q → IsServed e.request
-first_served alone p q e es run = (run.1.ask, run.1.asks)
+heard-of : (es : List Exchange) → requests_in (map heard es) ≡ requests_of es
+heard-of [] = refl
+heard-of (e ∷ es) = λ i. e.request ∷ heard-of es i
 
--- requests none of which closes, and then an end
-ends_after : (alone : Option ℕ) (limit : ℕ) (p q : Pass) (es : List Exchange) (rest : List ℕ) (way : Settled) → Run alone p es q → AllStay es
-    → length es ≤ limit → EndsWith (limit - length es) [] rest way → EndsWith limit (requests_of es) rest way
-ends_after alone limit p q [] rest way run stay few ends =
+-- requests none of which ends the session, and then an end
+ends-after : (limit : ℕ) (es : List Exchange) (rest : List ℕ) (way : Settled) → All Stays es → length es ≤ limit
+    → EndsHere (limit - length es) rest way → EndsWith limit (map heard es) rest way
+ends-after limit [] rest way stay few ends =
     let same : limit - 0 ≡ limit = omega arith in
-    subst (λ n. EndsWith n [] rest way) same ends
-ends_after alone limit p q (e ∷ es) rest way run stay few ends = (
-  omega arith,
-  first_served alone p q e es run,
-  inl (
-    All-head (λ x. closes x.request ≡ false) e es stay,
-    ends_after alone (limit - 1) run.0 q es rest way run.2 (All-tail (λ x. closes x.request ≡ false) e es stay) (omega arith)
-        (let same : limit - suc (length es) ≡ (limit - 1) - length es = omega arith in subst (λ n. EndsWith n [] rest way) same ends),
-  ),
-)
+    subst (λ n. EndsHere n rest way) same ends
+ends-after limit (e ∷ es) rest way stay few ends =
+    let first = All-head Stays e es stay in (
+      omega arith,
+      inl (
+        (first.open_, first.by_reply),
+        ends-after (limit - 1) es rest way (All-tail Stays e es stay) (omega arith)
+            (let same : limit - suc (length es) ≡ (limit - 1) - length es = omega arith in subst (λ n. EndsHere n rest way) same ends),
+      ),
+    )
 
--- requests of which the last one closes
-ends_closed : (alone : Option ℕ) (limit : ℕ) (p q : Pass) (before : List Exchange) (last : Exchange) (rest : List ℕ)
-    → Run alone p (before ++ last ∷ []) q → AllStay before → length before < limit → closes last.request ≡ true
-    → EndsWith limit (requests_of (before ++ last ∷ [])) rest finished
-ends_closed alone limit p q [] last rest run stay few closed =
-    (omega arith, first_served alone p q last [] run, inr (closed, refl, refl))
-ends_closed alone limit p q (e ∷ es) last rest run stay few closed = (
-  omega arith,
-  first_served alone p q e (es ++ last ∷ []) run,
-  inl (
-    All-head (λ x. closes x.request ≡ false) e es stay,
-    ends_closed alone (limit - 1) run.0 q es last rest run.2 (All-tail (λ x. closes x.request ≡ false) e es stay) (omega arith) closed,
-  ),
-)
+-- requests of which the last one ends it
+ends-last : (limit : ℕ) (before : List Exchange) (last : Exchange) (rest : List ℕ) (way : Settled) → All Stays before → length before < limit
+    → (IsFinishing (heard last) × IsFinished way) ⊎ ((is_stream last.answer ≡ true) × IsWatched way) → EndsWith limit (map heard (before ++ last ∷ [])) rest way
+ends-last limit [] last rest way stay few (inl h) = (omega arith, inr (inl (h.0, refl, h.1)))
+ends-last limit [] last rest way stay few (inr h) = (omega arith, inr (inr (h.0, refl, h.1)))
+ends-last limit (e ∷ es) last rest way stay few how =
+    let first = All-head Stays e es stay in
+    (omega arith, inl ((first.open_, first.by_reply), ends-last (limit - 1) es last rest way (All-tail Stays e es stay) (omega arith) how))
 
-never_more : (rest more : List ℕ) → NeverReads IsServed rest → NeverReads IsServed (rest ++ more)
-never_more rest more never = record {
-  never = λ further r after one served.
-      never.never (more ++ further) r after (subst (λ b. ReadsOne b r after) (append_assoc rest more further) one) served;
-}
+ends-at : (terms : Terms) (es : List Exchange) (last : Last terms es) (rest : List ℕ) (way : Settled)
+    → (IsFinishing (heard last.last) × IsFinished way) ⊎ ((is_stream last.last.answer ≡ true) × IsWatched way)
+    → EndsWith terms.settings.requests (map heard es) rest way
+ends-at terms es last rest way how =
+    subst (λ l. EndsWith terms.settings.requests (map heard l) rest way) (sym last.parted)
+    (ends-last terms.settings.requests last.before last.last rest way last.goes_on.stay last.goes_on.few how)
+
+watch-streams : (answer : Answer) (how : WatchEnd) → IsWatchEnd answer how → is_stream answer ≡ true
+watch-streams (replied reply) how h = absurd h
+watch-streams (streamed ask stream) how h = refl
+
+-- where the input is exhausted, what is left is nothing
+goes-here : (terms : Terms) (es : List Exchange) (rest : List ℕ) (way : Settled) → GoesOn terms es
+    → (0 < terms.settings.requests - length es → EndsHere (terms.settings.requests - length es) rest way) → EndsWith terms.settings.requests (map heard es) rest way
+goes-here terms es rest way goes ends =
+    let few : length es < terms.settings.requests = goes.few in
+    ends-after terms.settings.requests es rest way goes.stay (omega arith) (ends (omega arith))
+
+cut-stays : (rest left : List ℕ) → IsCutShort rest → left ≡ [] → IsCutShort (rest ++ left)
+cut-stays rest left h none = subst IsCutShort (sym (ap (λ l. rest ++ l) none ∙ append-nil rest)) h
+
+settles : (terms : Terms) (es : List Exchange) (rest written left : List ℕ) (a b c d : ℕ) (way : Settled) → Ended terms es rest written (Rose a b) (Rose c d) (Some left) (end_by way)
+    → EndsWith terms.settings.requests (map heard es) (rest ++ left) way
+settles terms es rest written left a b c d finished (out, inl closed) = ends-at terms es closed.0 (rest ++ left) finished (inl ((closed.1.closes, closed.1.by_reply), tt))
+settles terms es rest written left a b c d finished (out, inr ended) =
+    goes-here terms es (rest ++ left) finished ended.0 (λ room. (room, ap (λ r. r ++ left) ended.1 ∙ ended.2))
+settles terms es rest written left a b c d full (out, stay, number) =
+    let same : length es ≡ terms.settings.requests = number in
+    ends-after terms.settings.requests es (rest ++ left) full stay (omega arith) (omega arith)
+settles terms es rest written left a b c d cut (out, goes, short, exhausted) =
+    goes-here terms es (rest ++ left) cut goes (λ room. (room, cut-stays rest left short exhausted))
+settles terms es rest written left a b c d (watched how) ended =
+    ends-at terms es ended.1.0 (rest ++ left) (watched how) (inr (watch-streams ended.1.0.last.answer how ended.1.1, tt))
+settles terms es rest written left a b c d (refused fault) (out, goes, why) =
+    goes-here terms es (rest ++ left) (refused fault) goes (λ room. (room, refusal-stays rest left fault why))
 
 pub settle : SessionsSettle
-settle alone limit p taken written q a b c d left way session = by way session
-  where
-    by : (way : Settled) → (session : IsSession alone limit p taken written q (Rose a b) (Rose c d) (Some left) (end_by way))
-        → (rest : List ℕ) × ReadsRequests (taken ++ left) (requests_of session.exchanges) rest
-        × EndsWith limit (requests_of session.exchanges) rest way
-    by finished session = (session.rest ++ left, ReadsRequests-more taken session.rest left (requests_of session.exchanges) session.reads, ends session.ended.1)
-      where
-        ends : EndsClosed limit session.exchanges ⊎ EndsClean limit session.exchanges session.rest (Some left)
-            → EndsWith limit (requests_of session.exchanges) (session.rest ++ left) finished
-        ends (inl closed) =
-            subst (λ es. EndsWith limit (requests_of es) (session.rest ++ left) finished) (sym closed.last.parted)
-            (ends_closed alone limit p session.last closed.last.before closed.last.last (session.rest ++ left)
-            (subst (λ es. Run alone p es session.last) closed.last.parted session.run) closed.last.goes_on.stay closed.last.goes_on.few closed.closes)
-        ends (inr clean) =
-            let few : length session.exchanges < limit = clean.goes_on.few in
-            ends_after alone limit p session.last session.exchanges (session.rest ++ left) finished session.run clean.goes_on.stay (omega arith)
-            (omega arith, (λ i. clean.nothing i ++ clean.exhausted i))
-    by full session =
-        let same : length session.exchanges ≡ limit = session.ended.2 in (
-          session.rest ++ left,
-          ReadsRequests-more taken session.rest left (requests_of session.exchanges) session.reads,
-          ends_after alone limit p session.last session.exchanges (session.rest ++ left) full session.run session.ended.1 (omega arith) (omega arith),
-        )
-    by cut session =
-        let few : length session.exchanges < limit = session.ended.1.few in
-        let still : session.rest ≡ session.rest ++ left = sym (append-nil session.rest) ∙ ap (λ more. session.rest ++ more) (sym session.ended.4) in (
-          session.rest ++ left,
-          ReadsRequests-more taken session.rest left (requests_of session.exchanges) session.reads,
-          ends_after alone limit p session.last session.exchanges (session.rest ++ left) cut session.run session.ended.1.stay (omega arith)
-              (omega arith, subst (λ b. 0 < length b) still session.ended.2, subst IsUnfinished still session.ended.3),
-        )
-    by unserved session =
-        let few : length session.exchanges < limit = session.ended.1.few in
-        let some : 0 < length session.rest = session.ended.2 in
-        let longer : length (session.rest ++ left) ≡ length session.rest + length left = length-append session.rest left in (
-          session.rest ++ left,
-          ReadsRequests-more taken session.rest left (requests_of session.exchanges) session.reads,
-          ends_after alone limit p session.last session.exchanges (session.rest ++ left) unserved session.run session.ended.1.stay (omega arith)
-              (omega arith, omega arith, never_more session.rest left session.ended.3),
-        )
+settle terms es taken rest written left a b c d way reads ended = (
+  rest ++ left,
+  subst (λ rs. ReadsSome (taken ++ left) rs (rest ++ left)) (sym (heard-of es)) (some-stay taken left (requests_of es) rest reads),
+  settles terms es rest written left a b c d way ended,
+)

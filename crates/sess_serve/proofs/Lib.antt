@@ -1,11 +1,6 @@
-pub mod Answers
-pub mod Bodies
-pub mod Exact
-pub mod Kept
-pub mod Names
-pub mod Reading
-pub mod Replies
+pub mod Replying
+pub mod Turning
 pub mod Session
-pub mod Turns
-pub mod Unique
-pub mod Windows
+pub mod Exact
+pub mod Ending
+pub mod WatchLemmas

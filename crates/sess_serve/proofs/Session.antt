@@ -1,297 +1,432 @@
 -- How a session goes on by one request, and how it ends.
-use Rattle.std.proofs.Common.{◌≡◌, ◌∙◌, ◌++◌, ℕ, ◌+◌, ◌<◌, true, false, List, [], ◌∷◌, length, Option, Ok, Err, refl, sym, ap, subst, inl, inr}
+use Rattle.std.proofs.Common.{◌≡◌, ◌∙◌, ◌++◌, ℕ, ◌+◌, ◌<◌, Bool, List, [], ◌∷◌, length, Option, Some, None, refl, sym, ap, subst, inl, inr}
+use Rattle.std.specs.Prelude.{All}
 use Rattle.std.proofs.lemmas.List.{append_assoc, append-nil, length-append}
 use Rattle.std.proofs.lemmas.List.Elements.{All-nil, All-push}
-use Rattle.edge_io.specs.Told.{prepended, appended}
-use Rattle.edge_io.proofs.ToldLemmas.{appended-appended, appended-nil, prepended-prepended, prepended-nil}
-use Rattle.httparse.specs.Grammar.{ReadsRequest}
-use Rattle.httparse.proofs.GrammarLemmas.{ReadsRequest-append}
+use mathlib.Core.List.{IsPrefix}
+use Rattle.edge_io.specs.Counts.{Rose}
+use Rattle.edge_io.specs.Told.{prepended, appended, Noted}
+use Rattle.edge_io.specs.declared.clock.Reading.{Reading}
+use Rattle.edge_io.proofs.ToldLemmas.{appended-appended, appended-nil, prepended-prepended, prepended-nil, Noted-nil, Noted-join}
+use Rattle.http_read.specs.Requests.{ReadsOne, ReadsSome}
+use Rattle.http_read.specs.declared.request.Req.{Req}
+use Rattle.http_read.proofs.EndingLemmas.{some-stay}
+use Rattle.kube_meta.specs.Rows.{RowData}
+use Rattle.up_api.specs.declared.settings.Settings.{Settings}
+use Rattle.rev_front.specs.Passes.{Pass}
+use Rattle.rev_log.specs.Changes.{RevisionData}
+use Rattle.client_api.specs.Facts.{Facts, IsOnward}
+use Rattle.client_api.proofs.LawLemmas.{onwards_do_join}
+use Rattle.sess_reply.specs.Replies.{request_refusal_text}
+use Rattle.sess_turns.specs.Terms.{Terms, terms_of}
 use Rattle.sess_serve.specs.declared.ends.SessionEnd.{SessionEnd}
-use Rattle.sess_serve.specs.declared.ends.SessionEnd.TheVariants.{Done, ReadFault, WriteFault, CutShort, TooMany, Memory, NotBuilt}
-use Rattle.sess_serve.specs.Passes.{Pass}
-use Rattle.sess_serve.specs.Reading.{Request, closes, ReadsOne, ReadsRequests}
-use Rattle.sess_serve.specs.Session.{Exchange, requests_of, reply_to, replies_to, Step, Run, AllStay, GoesOn, IsSession}
-use Rattle.sess_serve.specs.Serving.{IsExchange, TurnEnds, IsTurn}
+use Rattle.sess_serve.specs.declared.ends.SessionEnd.TheVariants.{Done, Watched, ReadFault, WriteFault, CutShort, Refused, TooMany, Memory}
+use Rattle.sess_serve.specs.Answers.{answer_readings}
+use Rattle.sess_serve.specs.Steps.{Exchange, Step, Run, AreAlone, IsAlone}
+use Rattle.sess_serve.specs.Texts.{text_of, texts_of, answer_bytes}
+use Rattle.sess_serve.specs.Ends.{Stays, GoesOn, Last, BrokenOff, BrokenRefusal}
+use Rattle.sess_serve.specs.Session.{IsSession, Traffic, requests_of, readings_in}
+use Rattle.sess_serve.specs.Serving.{Given, Exchanged, exchange_of, RefusalBegun, TurnIs, IsTurn, Ends}
 
 -- ---- one more at the end
 
-ReadsOne-more : (bytes rest more : List ℕ) (r : Request) → ReadsOne bytes r rest → ReadsOne (bytes ++ more) r (rest ++ more)
-ReadsOne-more bytes rest more r reads = record {
-  form = reads.form;
-  is_form = reads.is_form;
-  reads = subst (ReadsRequest (bytes ++ more) r.head) (append_assoc r.body rest more)
-      (ReadsRequest-append bytes r.head (r.body ++ rest) more reads.reads);
-  size = reads.size;
-  fits = reads.fits;
-  few = reads.few;
-}
+reads-push : (bytes mid rest : List ℕ) (es : List Exchange) (e : Exchange) → ReadsSome bytes (requests_of es) mid → ReadsOne mid e.request rest
+    → ReadsSome bytes (requests_of (es ++ e ∷ [])) rest
+reads-push bytes mid rest [] e same one = (rest, subst (λ b. ReadsOne b e.request rest) (sym same) one, refl)
+reads-push bytes mid rest (f ∷ es) e (after, first, others) one = (after, first, reads-push after mid rest es e others one)
 
-pub ReadsRequests-more : (bytes rest more : List ℕ) (rs : List Request) → ReadsRequests bytes rs rest → ReadsRequests (bytes ++ more) rs (rest ++ more)
-ReadsRequests-more bytes rest more [] e = ap (λ b. b ++ more) e
-ReadsRequests-more bytes rest more (r ∷ rs) (after, one, others) =
-    (after ++ more, ReadsOne-more bytes after more r one, ReadsRequests-more after rest more rs others)
+run-push : (terms : Terms) (p mid : Pass RevisionData) (es : List Exchange) (e : Exchange) → Run terms p es mid → Step terms mid e
+    → Run terms p (es ++ e ∷ []) e.pass
+run-push terms p mid [] e same step = (subst (λ a. Step terms a e) (sym same) step, refl)
+run-push terms p mid (f ∷ es) e (first, others) step = (first, run-push terms f.pass mid es e others step)
 
-ReadsRequests-push : (bytes mid rest : List ℕ) (es : List Exchange) (e : Exchange) → ReadsRequests bytes (requests_of es) mid
-    → ReadsOne mid e.request rest → ReadsRequests bytes (requests_of (es ++ e ∷ [])) rest
-ReadsRequests-push bytes mid rest [] e same one = (rest, subst (λ b. ReadsOne b e.request rest) (sym same) one, refl)
-ReadsRequests-push bytes mid rest (f ∷ es) e (after, first, others) one =
-    (after, first, ReadsRequests-push after mid rest es e others one)
+alone-push : (terms : Terms) (p mid : Pass RevisionData) (es : List Exchange) (e : Exchange) → Run terms p es mid → AreAlone terms p es
+    → IsAlone terms mid e.answer e.pass → AreAlone terms p (es ++ e ∷ [])
+alone-push terms p mid [] e same all sole = (subst (λ a. IsAlone terms a e.answer e.pass) (sym same) sole, tt)
+alone-push terms p mid (f ∷ es) e (first, others) all sole = (all.0, alone-push terms f.pass mid es e others all.1 sole)
 
-Run-push : (alone : Option ℕ) (p mid q : Pass) (es : List Exchange) (e : Exchange) → Run alone p es mid → Step alone mid e q
-    → Run alone p (es ++ e ∷ []) q
-Run-push alone p mid q [] e same step = (q, subst (λ a. Step alone a e q) (sym same) step, refl)
-Run-push alone p mid q (f ∷ es) e (after, first, others) step = (after, first, Run-push alone after mid q es e others step)
+texts-push : (terms : Terms) (es : List Exchange) (e : Exchange) → texts_of terms (es ++ e ∷ []) ≡ texts_of terms es ++ text_of terms e
+texts-push terms [] e = append-nil (text_of terms e)
+texts-push terms (f ∷ es) e = ap (λ t. text_of terms f ++ t) (texts-push terms es e) ∙ sym (append_assoc (text_of terms f) (texts_of terms es) (text_of terms e))
 
-replies-push : (es : List Exchange) (e : Exchange) → replies_to (es ++ e ∷ []) ≡ replies_to es ++ reply_to e
-replies-push [] e = append-nil (reply_to e)
-replies-push (f ∷ es) e = ap (λ t. reply_to f ++ t) (replies-push es e) ∙ sym (append_assoc (reply_to f) (replies_to es) (reply_to e))
-
-AllStay-push : (es : List Exchange) (e : Exchange) → AllStay es → closes e.request ≡ false → AllStay (es ++ e ∷ [])
-AllStay-push es e all stays = All-push (λ x. closes x.request ≡ false) es e all stays
+readings-push : (es : List Exchange) (e : Exchange) → readings_in (es ++ e ∷ []) ≡ readings_in es ++ answer_readings e.answer
+readings-push [] e = append-nil (answer_readings e.answer)
+readings-push (f ∷ es) e = ap (λ t. answer_readings f.answer ++ t) (readings-push es e) ∙ sym (append_assoc (answer_readings f.answer) (readings_in es) (answer_readings e.answer))
 
 length-push : (es : List Exchange) (e : Exchange) → length (es ++ e ∷ []) ≡ length es + 1
 length-push es e = length-append es (e ∷ [])
 
+-- a text and then a beginning of a further one is a beginning of both
+prefix-after : (front text written begun all whole : List ℕ) → written ≡ front → IsPrefix begun text → whole ≡ front ++ text → all ≡ written ++ begun → IsPrefix all whole
+prefix-after front text written begun all whole is (rest, e) same out =
+    (rest, ap (λ a. a ++ rest) (out ∙ ap (λ w. w ++ begun) is) ∙ append_assoc front begun rest ∙ ap (λ t. front ++ t) e ∙ sym same)
+
 -- ---- what was done so far
 
 -- n requests were answered, and none of them ended the session
-pub record Sofar (alone : Option ℕ) (p : Pass) (taken written pending : List ℕ) (q : Pass) (n : ℕ) : Type 0 where
+pub record Sofar (terms : Terms) (whole : Type 0) (p : Pass RevisionData) (taken written : List ℕ) (readings : List Reading) (kept : List ℕ) (q : Pass RevisionData) (n : ℕ) : Type 0 where
   pub exchanges : List Exchange
-  pub reads : ReadsRequests taken (requests_of exchanges) pending
-  pub run : Run alone p exchanges q
-  pub text : written ≡ replies_to exchanges
-  pub stay : AllStay exchanges
+  pub reads : ReadsSome taken (requests_of exchanges) kept
+  pub run : Run terms p exchanges q
+  pub sole : whole → AreAlone terms p exchanges
+  pub text : written ≡ texts_of terms exchanges
+  pub readings_are : readings ≡ readings_in exchanges
+  pub stay : All Stays exchanges
   pub count : length exchanges ≡ n
 
-Sofar-next : (alone : Option ℕ) (p : Pass) (taken written pending : List ℕ) (q : Pass) (n : ℕ) (more after reply : List ℕ) (q' : Pass)
-    → Sofar alone p taken written pending q n → IsExchange alone q (pending ++ more) after reply q' false
-    → Sofar alone p (taken ++ more) (written ++ reply) after q' (n + 1)
-Sofar-next alone p taken written pending q n more after reply q' sofar x = record {
-  exchanges = sofar.exchanges ++ x.exchange ∷ [];
-  reads = ReadsRequests-push (taken ++ more) (pending ++ more) after sofar.exchanges x.exchange
-      (ReadsRequests-more taken pending more (requests_of sofar.exchanges) sofar.reads) x.reads;
-  run = Run-push alone p q q' sofar.exchanges x.exchange sofar.run x.step;
-  text = (λ i. sofar.text i ++ x.reply i) ∙ sym (replies-push sofar.exchanges x.exchange);
-  stay = AllStay-push sofar.exchanges x.exchange sofar.stay x.closes;
-  count = length-push sofar.exchanges x.exchange ∙ ap (λ k. k + 1) sofar.count;
-}
+step-of : (terms : Terms) (whole : Type 0) (p q : Pass RevisionData) (req : Req) (readings : List Reading) (g : Given terms whole p req readings q) → Step terms p (exchange_of req g.answer q)
+step-of terms whole p q req readings g = record { answers = g.answers; says = g.says; onward = g.onward }
 
-module _ (alone : Option ℕ) (limit : ℕ) (p : Pass) (taken written pending : List ℕ) (q : Pass) (n : ℕ)
-    (read_fault write_fault : Type 0) (left : Option (List ℕ)) (sofar : Sofar alone p taken written pending q n) where
-  goes_on : n < limit → GoesOn limit sofar.exchanges
-  goes_on room = record { stay = sofar.stay; few = subst (λ k. k < limit) (sym sofar.count) room }
+module _ (terms : Terms) (whole now : Type 0) (still : whole → now) (p : Pass RevisionData) (taken written : List ℕ) (readings : List Reading) (kept : List ℕ) (q : Pass RevisionData) (n : ℕ)
+    (sofar : Sofar terms whole p taken written readings kept q n) (more : List ℕ) (text : List ℕ) (times : List Reading) (after : List ℕ) (q' : Pass RevisionData) where
+  reads' : ReadsSome (taken ++ more) (requests_of sofar.exchanges) (kept ++ more)
+  reads' = some-stay taken more (requests_of sofar.exchanges) kept sofar.reads
 
-  -- as many requests as are allowed were answered
-  Sofar-full : n ≡ limit → IsSession alone limit p taken written q read_fault write_fault left TooMany
-  Sofar-full full = record {
-    exchanges = sofar.exchanges;
-    last = q;
-    rest = pending;
-    reads = sofar.reads;
-    run = sofar.run;
-    knows = refl;
-    ended = (sofar.text, sofar.stay, sofar.count ∙ full);
+  -- with one more exchange
+  module _ (x : Exchanged terms now q (kept ++ more) after times q') where
+    abbrev last : Exchange
+    last = exchange_of x.request x.given.answer q'
+
+    abbrev pushed : List Exchange
+    pushed = sofar.exchanges ++ last ∷ []
+
+    pushed-reads : ReadsSome (taken ++ more) (requests_of pushed) after
+    pushed-reads = reads-push (taken ++ more) (kept ++ more) after sofar.exchanges last reads' x.reads
+
+    pushed-run : Run terms p pushed q'
+    pushed-run = run-push terms p q sofar.exchanges last sofar.run (step-of terms now q q' x.request times x.given)
+
+    pushed-sole : whole → AreAlone terms p pushed
+    pushed-sole w = alone-push terms p q sofar.exchanges last sofar.run (sofar.sole w) (x.given.sole (still w))
+
+    pushed-readings : readings ++ times ≡ readings_in pushed
+    pushed-readings =
+        ap (λ r. r ++ times) sofar.readings_are ∙ ap (λ t. readings_in sofar.exchanges ++ t) x.given.readings_are
+        ∙ sym (readings-push sofar.exchanges last)
+
+    pushed-text : text ≡ answer_bytes terms x.request x.given.answer → written ++ text ≡ texts_of terms pushed
+    pushed-text e =
+        ap (λ w. w ++ text) sofar.text ∙ ap (λ t. texts_of terms sofar.exchanges ++ t) e ∙ sym (texts-push terms sofar.exchanges last)
+
+    next : Stays last → text ≡ answer_bytes terms x.request x.given.answer
+        → Sofar terms whole p (taken ++ more) (written ++ text) (readings ++ times) after q' (n + 1)
+    next stays e = record {
+      exchanges = pushed;
+      reads = pushed-reads;
+      run = pushed-run;
+      sole = pushed-sole;
+      text = pushed-text e;
+      readings_are = pushed-readings;
+      stay = All-push Stays sofar.exchanges last sofar.stay stays;
+      count = length-push sofar.exchanges last ∙ ap (λ k. k + 1) sofar.count;
+    }
+
+    module _ (room : n < terms.settings.requests) where
+      abbrev last-of : Last terms pushed
+      last-of = record {
+        before = sofar.exchanges;
+        last = last;
+        parted = refl;
+        goes_on = record { stay = sofar.stay; few = subst (λ k. k < terms.settings.requests) (sym sofar.count) room };
+      }
+
+      broken-off : IsPrefix text (answer_bytes terms x.request x.given.answer) → BrokenOff terms pushed (written ++ text)
+      broken-off begun = record {
+        last = last-of;
+        begun_text = prefix-after (texts_of terms sofar.exchanges) (answer_bytes terms x.request x.given.answer) written text (written ++ text) (texts_of terms pushed)
+            sofar.text begun (texts-push terms sofar.exchanges last) refl;
+        others = (text, ap (λ w. w ++ text) (sym sofar.text));
+      }
+
+  goes-on : n < terms.settings.requests → GoesOn terms sofar.exchanges
+  goes-on room = record { stay = sofar.stay; few = subst (λ k. k < terms.settings.requests) (sym sofar.count) room }
+
+  silent-text : text ≡ [] → written ++ text ≡ texts_of terms sofar.exchanges
+  silent-text none = ap (λ t. written ++ t) none ∙ append-nil written ∙ sofar.text
+
+  silent-readings : times ≡ [] → readings ++ times ≡ readings_in sofar.exchanges
+  silent-readings none = ap (λ t. readings ++ t) none ∙ append-nil readings ∙ sofar.readings_are
+
+  refusal-begun : n < terms.settings.requests → (r : RefusalBegun (kept ++ more) text times q q') → BrokenRefusal terms sofar.exchanges (kept ++ more) (written ++ text)
+  refusal-begun room (fault, refused, begun, unread, same) = record {
+    goes_on = goes-on room;
+    fault = fault;
+    refused = refused;
+    begun_text = prefix-after (texts_of terms sofar.exchanges) (request_refusal_text fault) written text (written ++ text)
+        (texts_of terms sofar.exchanges ++ request_refusal_text fault) sofar.text begun refl refl;
+    others = (text, ap (λ w. w ++ text) (sym sofar.text));
   }
 
-  module _ (more reply : List ℕ) (q' : Pass) (room : n < limit) where
-    reads' : ReadsRequests (taken ++ more) (requests_of sofar.exchanges) (pending ++ more)
-    reads' = ReadsRequests-more taken pending more (requests_of sofar.exchanges) sofar.reads
-
-    -- the last request asked for the end of the connection
-    Sofar-closed : (after : List ℕ) → IsExchange alone q (pending ++ more) after reply q' true
-        → IsSession alone limit p (taken ++ more) (written ++ reply) q' read_fault write_fault left Done
-    Sofar-closed after x = record {
-      exchanges = sofar.exchanges ++ x.exchange ∷ [];
-      last = q';
-      rest = after;
-      reads = ReadsRequests-push (taken ++ more) (pending ++ more) after sofar.exchanges x.exchange reads' x.reads;
-      run = Run-push alone p q q' sofar.exchanges x.exchange sofar.run x.step;
-      knows = refl;
-      ended = (
-        (λ i. sofar.text i ++ x.reply i) ∙ sym (replies-push sofar.exchanges x.exchange),
-        inl (record {
-          last = record { before = sofar.exchanges; last = x.exchange; parted = refl; goes_on = goes_on room };
-          closes = x.closes;
-        }),
-      );
-    }
-
-    -- nothing was written in the last turn
-    silent : reply ≡ [] → written ++ reply ≡ replies_to sofar.exchanges
-    silent none = ap (λ t. written ++ t) none ∙ append-nil written ∙ sofar.text
+  module _ (read_fault write_fault : Type 0) (left : Option (List ℕ)) (room : n < terms.settings.requests) where
+    abbrev traffic : Traffic
+    traffic = record { taken = taken ++ more; written = written ++ text; readings = readings ++ times; read_fault = read_fault; write_fault = write_fault; left = left }
 
     -- the session ended in a turn
-    Sofar-ends : (how : SessionEnd) → TurnEnds alone q (pending ++ more) reply q' read_fault write_fault left how
-        → IsSession alone limit p (taken ++ more) (written ++ reply) q' read_fault write_fault left how
-    Sofar-ends Done (none, same, nothing, exhausted) = record {
-      exchanges = sofar.exchanges;
-      last = q;
-      rest = pending ++ more;
-      reads = reads';
-      run = sofar.run;
-      knows = same;
-      ended = (silent none, inr (record { goes_on = goes_on room; nothing = nothing; exhausted = exhausted }));
-    }
-    Sofar-ends CutShort (none, same, some, unfinished, exhausted) = record {
-      exchanges = sofar.exchanges;
-      last = q;
-      rest = pending ++ more;
-      reads = reads';
-      run = sofar.run;
-      knows = same;
-      ended = (silent none, goes_on room, some, unfinished, exhausted);
-    }
-    Sofar-ends ReadFault (none, same, unfinished, rose) = record {
-      exchanges = sofar.exchanges;
-      last = q;
-      rest = pending ++ more;
-      reads = reads';
-      run = sofar.run;
-      knows = same;
-      ended = (silent none, goes_on room, unfinished, rose);
-    }
-    Sofar-ends NotBuilt (said, stop) = record {
-      exchanges = sofar.exchanges;
-      last = q;
-      rest = pending ++ more;
-      reads = reads';
-      run = sofar.run;
-      knows = stop.same;
-      ended = (λ i. sofar.text i ++ said i, goes_on room, stop.some, stop.never);
-    }
-    Sofar-ends Memory (none, extends, sole) = record {
-      exchanges = sofar.exchanges;
-      last = q;
-      rest = pending ++ more;
-      reads = reads';
-      run = sofar.run;
-      knows = (extends, sole);
-      ended = (silent none, goes_on room);
-    }
-    Sofar-ends WriteFault (rose, inl broken) = record {
-      exchanges = sofar.exchanges ++ broken.exchange ∷ [];
+    ends : (how : SessionEnd) → TurnIs terms now q (kept ++ more) after text times q' read_fault write_fault left (Some how) → IsSession terms whole p traffic q' how
+    ends Done (inl (x, closed, e)) = record {
+      exchanges = pushed x;
       last = q';
-      rest = broken.after;
-      reads = ReadsRequests-push (taken ++ more) (pending ++ more) broken.after sofar.exchanges broken.exchange reads' broken.reads;
-      run = Run-push alone p q q' sofar.exchanges broken.exchange sofar.run broken.step;
+      rest = after;
+      reads = pushed-reads x;
+      run = pushed-run x;
       knows = refl;
-      ended = (
-        rose,
-        inl (record {
-          last = record { before = sofar.exchanges; last = broken.exchange; parted = refl; goes_on = goes_on room };
-          begun = (
-            broken.reply.0,
-            replies-push sofar.exchanges broken.exchange ∙ (λ i. sym sofar.text i ++ broken.reply.1 i) ∙ sym (append_assoc written reply broken.reply.0),
-          );
-          others = (reply, ap (λ t. t ++ reply) sofar.text);
-        }),
-      );
+      sole = λ w. (pushed-sole x w, tt);
+      readings = pushed-readings x;
+      ended = (pushed-text x e, inl (last-of x room, closed));
     }
-    Sofar-ends WriteFault (rose, inr (begun, stop)) = record {
+    ends Done (inr (silent, nothing, exhausted)) = record {
       exchanges = sofar.exchanges;
       last = q;
-      rest = pending ++ more;
+      rest = kept ++ more;
       reads = reads';
       run = sofar.run;
-      knows = stop.same;
-      ended = (
-        rose,
-        inr (record {
-          goes_on = goes_on room;
-          begun = (stop.some, stop.never);
-          reply = (begun.0, (λ i. sym sofar.text i ++ begun.1 i) ∙ sym (append_assoc written reply begun.0));
-          others = (reply, ap (λ t. t ++ reply) sofar.text);
-        }),
-      );
+      knows = silent.2;
+      sole = λ w. (sofar.sole w, tt);
+      readings = silent-readings silent.1;
+      ended = (silent-text silent.0, inr (goes-on room, nothing, exhausted));
     }
-    Sofar-ends TooMany h = absurd h
+    ends (Watched how) (x, is, e) = record {
+      exchanges = pushed x;
+      last = q';
+      rest = after;
+      reads = pushed-reads x;
+      run = pushed-run x;
+      knows = refl;
+      sole = λ w. (pushed-sole x w, tt);
+      readings = pushed-readings x;
+      ended = (pushed-text x e, (last-of x room, is));
+    }
+    ends CutShort (silent, cut, exhausted) = record {
+      exchanges = sofar.exchanges;
+      last = q;
+      rest = kept ++ more;
+      reads = reads';
+      run = sofar.run;
+      knows = silent.2;
+      sole = λ w. (sofar.sole w, tt);
+      readings = silent-readings silent.1;
+      ended = (silent-text silent.0, goes-on room, cut, exhausted);
+    }
+    ends ReadFault (silent, unfinished, rose) = record {
+      exchanges = sofar.exchanges;
+      last = q;
+      rest = kept ++ more;
+      reads = reads';
+      run = sofar.run;
+      knows = silent.2;
+      sole = λ w. (sofar.sole w, tt);
+      readings = silent-readings silent.1;
+      ended = (silent-text silent.0, goes-on room, unfinished, rose);
+    }
+    ends (Refused fault) (e, refused, unread, same) = record {
+      exchanges = sofar.exchanges;
+      last = q;
+      rest = kept ++ more;
+      reads = reads';
+      run = sofar.run;
+      knows = same;
+      sole = λ w. (sofar.sole w, tt);
+      readings = silent-readings unread;
+      ended = (ap (λ w. w ++ text) sofar.text ∙ ap (λ t. texts_of terms sofar.exchanges ++ t) e, goes-on room, refused);
+    }
+    ends WriteFault (rose, inl (x, begun)) = record {
+      exchanges = pushed x;
+      last = q';
+      rest = after;
+      reads = pushed-reads x;
+      run = pushed-run x;
+      knows = refl;
+      sole = λ w. (pushed-sole x w, tt);
+      readings = pushed-readings x;
+      ended = (rose, inl (broken-off x room begun));
+    }
+    ends WriteFault (rose, inr begun) = record {
+      exchanges = sofar.exchanges;
+      last = q;
+      rest = kept ++ more;
+      reads = reads';
+      run = sofar.run;
+      knows = begun.4;
+      sole = λ w. (sofar.sole w, tt);
+      readings = silent-readings begun.3;
+      ended = (rose, inr (refusal-begun room begun));
+    }
+    ends Memory (inl (x, begun)) = record {
+      exchanges = pushed x;
+      last = q';
+      rest = after;
+      reads = pushed-reads x;
+      run = pushed-run x;
+      knows = onwards_do_join.0 q';
+      sole = λ w. (pushed-sole x w, inl refl);
+      readings = pushed-readings x;
+      ended = inr (inl (broken-off x room begun));
+    }
+    ends Memory (inr (inl begun)) = record {
+      exchanges = sofar.exchanges;
+      last = q;
+      rest = kept ++ more;
+      reads = reads';
+      run = sofar.run;
+      knows = subst (IsOnward q) begun.4 (onwards_do_join.0 q);
+      sole = λ w. (sofar.sole w, inl (ap (λ (a : Pass RevisionData). a.seen) (sym begun.4)));
+      readings = silent-readings begun.3;
+      ended = inr (inr (refusal-begun room begun));
+    }
+    ends Memory (inr (inr unfinished)) = record {
+      exchanges = sofar.exchanges;
+      last = q;
+      rest = kept ++ more;
+      reads = reads';
+      run = sofar.run;
+      knows = unfinished.onward;
+      sole = λ w. (sofar.sole w, unfinished.sole (still w));
+      readings = silent-readings unfinished.unread;
+      ended = inl (silent-text unfinished.nothing, goes-on room);
+    }
+    ends TooMany h = absurd h
+
+-- as many requests as are allowed were answered
+full : (terms : Terms) (whole : Type 0) (p : Pass RevisionData) (taken written : List ℕ) (readings : List Reading) (kept : List ℕ) (q : Pass RevisionData) (n : ℕ) (read_fault write_fault : Type 0)
+    (left : Option (List ℕ)) → Sofar terms whole p taken written readings kept q n → n ≡ terms.settings.requests
+    → IsSession terms whole p (record { taken = taken; written = written; readings = readings; read_fault = read_fault; write_fault = write_fault; left = left }) q TooMany
+full terms whole p taken written readings kept q n read_fault write_fault left sofar same = record {
+  exchanges = sofar.exchanges;
+  last = q;
+  rest = kept;
+  reads = sofar.reads;
+  run = sofar.run;
+  knows = refl;
+  sole = λ w. (sofar.sole w, tt);
+  readings = sofar.readings_are;
+  ended = (sofar.text, sofar.stay, sofar.count ∙ same);
+}
 
 -- a fault in the last turn is a fault in the call
-TurnEnds-rose : (alone : Option ℕ) (q : Pass) (bytes reply : List ℕ) (q' : Pass) (r s v w : Type 0) (left : Option (List ℕ)) (how : SessionEnd)
-    → (r → v) → (s → w) → TurnEnds alone q bytes reply q' r s left how → TurnEnds alone q bytes reply q' v w left how
-TurnEnds-rose alone q bytes reply q' r s v w left Done f g h = h
-TurnEnds-rose alone q bytes reply q' r s v w left CutShort f g h = h
-TurnEnds-rose alone q bytes reply q' r s v w left ReadFault f g (none, same, unfinished, rose) = (none, same, unfinished, f rose)
-TurnEnds-rose alone q bytes reply q' r s v w left NotBuilt f g h = h
-TurnEnds-rose alone q bytes reply q' r s v w left Memory f g h = h
-TurnEnds-rose alone q bytes reply q' r s v w left WriteFault f g (rose, what) = (g rose, what)
-TurnEnds-rose alone q bytes reply q' r s v w left TooMany f g h = h
+ends-rose : (terms : Terms) (whole : Type 0) (p : Pass RevisionData) (bytes after text : List ℕ) (times : List Reading) (q : Pass RevisionData) (r s v w : Type 0) (left : Option (List ℕ)) (how : SessionEnd)
+    → (r → v) → (s → w) → TurnIs terms whole p bytes after text times q r s left (Some how) → TurnIs terms whole p bytes after text times q v w left (Some how)
+ends-rose terms whole p bytes after text times q r s v w left Done f g h = h
+ends-rose terms whole p bytes after text times q r s v w left (Watched how) f g h = h
+ends-rose terms whole p bytes after text times q r s v w left CutShort f g h = h
+ends-rose terms whole p bytes after text times q r s v w left ReadFault f g (silent, unfinished, rose) = (silent, unfinished, f rose)
+ends-rose terms whole p bytes after text times q r s v w left (Refused fault) f g h = h
+ends-rose terms whole p bytes after text times q r s v w left WriteFault f g (rose, what) = (g rose, what)
+ends-rose terms whole p bytes after text times q r s v w left Memory f g h = h
+ends-rose terms whole p bytes after text times q r s v w left TooMany f g h = h
+
+-- what doesn't change between turns
+pub terms-same : (base : List RowData) (mirror : Bool) (s : Settings) (f g : Facts) (h : ℕ) → g ≡ record f { heard = h } → terms_of base mirror g s ≡ terms_of base mirror f s
+terms-same base mirror s f g h e = ap (λ x. terms_of base mirror x s) e
+
+pub rose-from : (a b c : ℕ) → b ≡ a → Rose b c → Rose a c
+rose-from a b c same rose = subst (λ n. Rose n c) same rose
+
+pub facts-next : (f g h : Facts) → g ≡ record f { heard = g.heard } → h ≡ record g { heard = h.heard } → h ≡ record f { heard = h.heard }
+facts-next f g h first second = second ∙ ap (λ (x : Facts). record x { heard = h.heard }) first
+
+pub facts-idle : (f g : Facts) → f.watching ≡ None → g ≡ record f { heard = g.heard } → g.watching ≡ None
+facts-idle f g idle e = ap (λ (x : Facts). x.watching) e ∙ idle
 
 -- ---- from turn to turn
 
--- what the loop keeps: from what the source and the sink told at first to what they tell now
-pub record Loop
-    (alone : Option ℕ) (p : Pass) (left0 left written0 written1 : Option (List ℕ)) (pending : List ℕ) (q : Pass) (n : ℕ) : Type 0 where
+-- what the loop keeps: from what the ends told at first to what they tell now
+pub record Loop (terms : Terms) (whole : Type 0) (p : Pass RevisionData) (first now : Ends) (kept : List ℕ) (q : Pass RevisionData) (n : ℕ) : Type 0 where
   pub taken : List ℕ
   pub written : List ℕ
-  pub source : left0 ≡ prepended taken left
-  pub sink : written1 ≡ appended written0 written
-  pub sofar : Sofar alone p taken written pending q n
+  pub readings : List Reading
+  pub source : first.left ≡ prepended taken now.left
+  pub sink : now.outside.written ≡ appended first.outside.written written
+  pub noted : Noted first.outside.readings now.outside.readings readings
+  pub sofar : Sofar terms whole p taken written readings kept q n
 
-pub Loop-start : (alone : Option ℕ) (p : Pass) (left written0 : Option (List ℕ)) → Loop alone p left left written0 written0 [] p 0
-Loop-start alone p left written0 = record {
+pub loop-start : (terms : Terms) (whole : Type 0) (p : Pass RevisionData) (first : Ends) (kept : List ℕ) → kept ≡ [] → Loop terms whole p first first kept p 0
+loop-start terms whole p first kept none = record {
   taken = [];
   written = [];
-  source = sym (prepended-nil left);
-  sink = sym (appended-nil written0);
-  sofar = record { exchanges = []; reads = refl; run = refl; text = refl; stay = All-nil (λ (x : Exchange). closes x.request ≡ false); count = refl };
+  readings = [];
+  source = sym (prepended-nil first.left);
+  sink = sym (appended-nil first.outside.written);
+  noted = Noted-nil first.outside.readings;
+  sofar = record {
+    exchanges = [];
+    reads = sym none;
+    run = refl;
+    sole = λ w. tt;
+    text = refl;
+    readings_are = refl;
+    stay = All-nil Stays;
+    count = refl;
+  };
 }
 
 -- the clause of the session
-abbrev pub IsSessionBetween
-    : Option ℕ → ℕ → Pass → Option (List ℕ) → Option (List ℕ) → Option (List ℕ) → Option (List ℕ) → Pass → Type 0 → Type 0 → SessionEnd → Type 0
-IsSessionBetween alone limit p left0 left written0 written1 q read_fault write_fault how =
-    (taken : List ℕ) × (written : List ℕ) × (left0 ≡ prepended taken left) × (written1 ≡ appended written0 written)
-    × IsSession alone limit p taken written q read_fault write_fault left how
+abbrev pub IsSessionBetween : Terms → Type 0 → Pass RevisionData → Ends → Ends → Pass RevisionData → Type 0 → Type 0 → SessionEnd → Type 0
+IsSessionBetween terms whole p first last q read_fault write_fault how =
+    (taken : List ℕ) × (written : List ℕ) × (readings : List Reading)
+    × (first.left ≡ prepended taken last.left)
+    × (last.outside.written ≡ appended first.outside.written written)
+    × Noted first.outside.readings last.outside.readings readings
+    × IsSession terms whole p (record { taken = taken; written = written; readings = readings; read_fault = read_fault; write_fault = write_fault; left = last.left }) q how
 
-module _ (alone alone' : Option ℕ) (same : alone' ≡ alone) (limit : ℕ) (p : Pass) (left0 mid left written0 written1 written2 : Option (List ℕ))
-    (pending after : List ℕ) (q q' : Pass) (n : ℕ) (r s : Type 0) (loop : Loop alone p left0 mid written0 written1 pending q n) where
-  pub Loop-next : IsTurn alone' q pending after q' r s mid left written1 written2 (Ok false)
-      → Loop alone p left0 left written0 written2 after q' (n + 1)
-  Loop-next x =
-      let turn : IsTurn alone q pending after q' r s mid left written1 written2 (Ok false) =
-      subst (λ a. IsTurn a q pending after q' r s mid left written1 written2 (Ok false)) same x in
+module _ (terms terms' : Terms) (same : terms' ≡ terms) (whole now : Type 0) (still : whole → now) (p : Pass RevisionData) (first mid last : Ends) (kept after : List ℕ) (q q' : Pass RevisionData) (n : ℕ) (r s : Type 0)
+    (loop : Loop terms whole p first mid kept q n) where
+  pub loop-next : IsTurn terms' now q kept after mid last r s q' None → Loop terms whole p first last after q' (n + 1)
+  loop-next x =
+      let turn : IsTurn terms now q kept after mid last r s q' None = subst (λ t. IsTurn t now q kept after mid last r s q' None) same x in
       record {
         taken = loop.taken ++ turn.taken;
         written = loop.written ++ turn.written;
-        source = loop.source ∙ ap (prepended loop.taken) turn.source ∙ prepended-prepended loop.taken turn.taken left;
-        sink = turn.sink ∙ ap (λ m. appended m turn.written) loop.sink ∙ appended-appended written0 loop.written turn.written;
-        sofar = Sofar-next alone p loop.taken loop.written pending q n turn.taken after turn.written q' loop.sofar turn.turn;
+        readings = loop.readings ++ turn.readings;
+        source = loop.source ∙ ap (prepended loop.taken) turn.source ∙ prepended-prepended loop.taken turn.taken last.left;
+        sink = turn.sink ∙ ap (λ m. appended m turn.written) loop.sink ∙ appended-appended first.outside.written loop.written turn.written;
+        noted = Noted-join first.outside.readings mid.outside.readings last.outside.readings loop.readings turn.readings loop.noted turn.noted;
+        sofar = next terms whole now still p loop.taken loop.written loop.readings kept q n loop.sofar turn.taken turn.written turn.readings after q' turn.turn.0 turn.turn.1 turn.turn.2;
       }
 
-  pub Loop-closed : (v w : Type 0) → n < limit → IsTurn alone' q pending after q' r s mid left written1 written2 (Ok true)
-      → IsSessionBetween alone limit p left0 left written0 written2 q' v w Done
-  Loop-closed v w room x =
-      let turn : IsTurn alone q pending after q' r s mid left written1 written2 (Ok true) =
-      subst (λ a. IsTurn a q pending after q' r s mid left written1 written2 (Ok true)) same x in (
+  pub loop-ends : (v w : Type 0) (how : SessionEnd) → (r → v) → (s → w) → n < terms.settings.requests → IsTurn terms' now q kept after mid last r s q' (Some how)
+      → IsSessionBetween terms whole p first last q' v w how
+  loop-ends v w how f g room x =
+      let turn : IsTurn terms now q kept after mid last r s q' (Some how) = subst (λ t. IsTurn t now q kept after mid last r s q' (Some how)) same x in (
         loop.taken ++ turn.taken,
         loop.written ++ turn.written,
-        loop.source ∙ ap (prepended loop.taken) turn.source ∙ prepended-prepended loop.taken turn.taken left,
-        turn.sink ∙ ap (λ m. appended m turn.written) loop.sink ∙ appended-appended written0 loop.written turn.written,
-        Sofar-closed alone limit p loop.taken loop.written pending q n v w left loop.sofar turn.taken turn.written q' room after turn.turn,
+        loop.readings ++ turn.readings,
+        loop.source ∙ ap (prepended loop.taken) turn.source ∙ prepended-prepended loop.taken turn.taken last.left,
+        turn.sink ∙ ap (λ m. appended m turn.written) loop.sink ∙ appended-appended first.outside.written loop.written turn.written,
+        Noted-join first.outside.readings mid.outside.readings last.outside.readings loop.readings turn.readings loop.noted turn.noted,
+        ends terms whole now still p loop.taken loop.written loop.readings kept q n loop.sofar turn.taken turn.written turn.readings after q' v w last.left room how
+            (ends-rose terms now q (kept ++ turn.taken) after turn.written turn.readings q' r s v w last.left how f g turn.turn),
       )
 
-  pub Loop-ends : (v w : Type 0) (how : SessionEnd) → (r → v) → (s → w) → n < limit
-      → IsTurn alone' q pending after q' r s mid left written1 written2 (Err how)
-      → IsSessionBetween alone limit p left0 left written0 written2 q' v w how
-  Loop-ends v w how f g room x =
-      let turn : IsTurn alone q pending after q' r s mid left written1 written2 (Err how) =
-      subst (λ a. IsTurn a q pending after q' r s mid left written1 written2 (Err how)) same x in (
-        loop.taken ++ turn.taken,
-        loop.written ++ turn.written,
-        loop.source ∙ ap (prepended loop.taken) turn.source ∙ prepended-prepended loop.taken turn.taken left,
-        turn.sink ∙ ap (λ m. appended m turn.written) loop.sink ∙ appended-appended written0 loop.written turn.written,
-        Sofar-ends alone limit p loop.taken loop.written pending q n v w left loop.sofar turn.taken turn.written q' room how
-            (TurnEnds-rose alone q (pending ++ turn.taken) turn.written q' r s v w left how f g turn.turn),
-      )
-
-pub Loop-full : (alone : Option ℕ) (limit : ℕ) (p : Pass) (left0 left written0 written1 : Option (List ℕ)) (pending : List ℕ) (q : Pass) (n : ℕ)
-    (v w : Type 0) → Loop alone p left0 left written0 written1 pending q n → n ≡ limit
-    → IsSessionBetween alone limit p left0 left written0 written1 q v w TooMany
-Loop-full alone limit p left0 left written0 written1 pending q n v w loop full = (
+pub loop-full : (terms : Terms) (whole : Type 0) (p : Pass RevisionData) (first last : Ends) (kept : List ℕ) (q : Pass RevisionData) (n : ℕ) (v w : Type 0) → Loop terms whole p first last kept q n
+    → n ≡ terms.settings.requests → IsSessionBetween terms whole p first last q v w TooMany
+loop-full terms whole p first last kept q n v w loop same = (
   loop.taken,
   loop.written,
+  loop.readings,
   loop.source,
   loop.sink,
-  Sofar-full alone limit p loop.taken loop.written pending q n v w left loop.sofar full,
+  loop.noted,
+  full terms whole p loop.taken loop.written loop.readings kept q n v w last.left loop.sofar same,
+)
+
+-- there was no memory before the first request
+pub none-begun : (terms : Terms) (whole : Type 0) (p : Pass RevisionData) (first : Ends) (v w : Type 0) → 0 < terms.settings.requests → IsSessionBetween terms whole p first first p v w Memory
+none-begun terms whole p first v w room = (
+  [],
+  [],
+  [],
+  sym (prepended-nil first.left),
+  sym (appended-nil first.outside.written),
+  Noted-nil first.outside.readings,
+  record {
+    exchanges = [];
+    last = p;
+    rest = [];
+    reads = refl;
+    run = refl;
+    knows = onwards_do_join.0 p;
+    sole = λ u. (tt, inl refl);
+    readings = refl;
+    ended = inl (refl, record { stay = All-nil Stays; few = room });
+  },
 )

@@ -1,157 +1,216 @@
--- What the parts of the serving loop leave and answer.
-use Rattle.std.specs.Prelude.{◌≡◌, ℕ, ◌<◌, ◌⊎◌, Bool, List, [], ◌++◌, length, Option, Some, None, Result, Ok, Err, ⊤, String, string_bytes}
-use Rattle.std.specs.declared.alloc.AllocError.{AllocError}
-use Rattle.std.specs.declared.alloc.Global.{Global}
-use Rattle.edge_io.specs.Told.{appended, prepended, IsExhausted}
-use Rattle.edge_io.specs.declared.fault.Failed.{Failed}
-use Rattle.kube_meta.specs.declared.objects.Obj.{Obj}
-use Rattle.kube_meta.specs.declared.resources.Resource.TheVariants.{Pods}
-use Rattle.sess_serve.specs.declared.client.WriteAsk.TheVariants.{Create}
-use Rattle.sess_serve.specs.declared.client.WriteNo.{WriteNo}
-use Rattle.sess_serve.specs.declared.client.Written.{Written}
+-- Steps of private functions: what one request, and one turn of the session's loop, comes to.
+use Rattle.std.specs.Prelude.{◌≡◌, ℕ, ◌⊎◌, Bool, true, false, List, [], ◌++◌, Option, Some, None, Result, Ok, Err, ⊤, IfSome}
+use mathlib.Core.List.{IsPrefix}
+use Rattle.edge_io.specs.Counts.{Rose}
+use Rattle.edge_io.specs.Told.{appended, prepended, Noted, IsExhausted}
+use Rattle.edge_io.specs.declared.clock.Reading.{Reading}
+use Rattle.http_read.specs.Requests.{ReadsOne, IsRefused, IsCutShort, IsUnfinished}
+use Rattle.http_read.specs.declared.refusal.ReqNo.{ReqNo}
+use Rattle.http_read.specs.declared.refusal.ReqNo.TheVariants as req_no
+use Rattle.http_read.specs.declared.request.Req.{Req}
+use Rattle.rev_front.specs.Passes.{Pass}
+use Rattle.rev_log.specs.Changes.{RevisionData}
+use Rattle.client_api.specs.Facts.{IsOnward}
+use Rattle.sess_reply.specs.Replies.{request_refusal_text}
+use Rattle.sess_reply.specs.declared.broken.Broken.{Broken}
+use Rattle.sess_reply.specs.declared.broken.Broken.TheVariants as broken
+use Rattle.sess_turns.specs.Terms.{Terms}
+use Rattle.sess_turns.specs.declared.ends.WatchEnd.{WatchEnd}
+use Rattle.sess_turns.specs.declared.ends.WatchEnd.TheVariants as watch_end
+use Rattle.sess_serve.specs.Answers.{Answer, IsAnswerTo, is_stream, answer_readings}
+use Rattle.sess_serve.specs.Ends.{Stays, IsClosed, IsWatchEnd, Begins, SoleMemory}
+use Rattle.sess_serve.specs.Steps.{Exchange, Says, IsAlone}
+use Rattle.sess_serve.specs.Texts.{answer_bytes}
 use Rattle.sess_serve.specs.declared.ends.SessionEnd.{SessionEnd}
-use Rattle.sess_serve.specs.declared.ends.SessionEnd.TheVariants.{Done, ReadFault, WriteFault, CutShort, TooMany, Memory, NotBuilt}
-use Rattle.sess_serve.specs.declared.head.Form.{Form}
-use Rattle.sess_serve.specs.Answer.{Answer, Answers, AnswersCreate, IsPod, TellsWrite}
-use Rattle.sess_serve.specs.Ask.{Ask, create, AsksBy, IsServed}
-use Rattle.sess_serve.specs.Client.{log_after}
-use Rattle.sess_serve.specs.Passes.{Pass, Extends, Grows}
-use Rattle.sess_serve.specs.Reading.{ReadsOne, closes, IsUnfinished, NeverReads}
-use Rattle.sess_serve.specs.Session.{Exchange, Step, reply_to, SoleMemory}
-use Rattle.sess_serve.specs.Texts.{answer_text, not_built_text}
+use Rattle.sess_serve.specs.declared.ends.SessionEnd.TheVariants.{Done, Watched, ReadFault, WriteFault, CutShort, Refused, TooMany, Memory}
 
--- what went to the sink: all of the bytes, or a beginning of them
-abbrev pub IsSent : List ℕ → List ℕ → Type 0 → Result ⊤ Failed → Type 0
-IsSent bytes written rose (Ok u) = written ≡ bytes
-IsSent bytes written rose (Err e) = Grows written bytes × rose
+-- ---- one request
 
--- sending: what went to the sink, and what came of it
-pub record IsSending
-    (bytes : List ℕ) (old new : Option (List ℕ)) (rose : Type 0) (result : Result ⊤ Failed) : Type 0 where
+-- a request has an answer, and q is what is known then
+pub record Given (terms : Terms) (whole : Type 0) (p : Pass RevisionData) (req : Req) (readings : List Reading) (q : Pass RevisionData) : Type 0 where
+  pub answer : Answer
+  pub answers : IsAnswerTo req answer
+  pub says : Says terms p answer q
+  pub onward : IsOnward p q
+  pub sole : whole → IsAlone terms p answer q
+  pub readings_are : readings ≡ answer_readings answer
+
+-- it has none, since there was no memory; nothing was written
+pub record Unanswered (terms : Terms) (whole : Type 0) (p : Pass RevisionData) (req : Req) (written : List ℕ) (readings : List Reading) (q : Pass RevisionData) : Type 0 where
+  pub nothing : written ≡ []
+  pub unread : readings ≡ []
+  pub onward : IsOnward p q
+  pub sole : whole → (q.seen ≡ p.seen) ⊎ IfSome terms.alone (λ history. Begins terms history p req q)
+
+-- the answer was written: a reply, or a stream to its end; or a beginning of it was; or there was no memory for it
+abbrev pub AnsweredAs : Terms → Type 0 → Pass RevisionData → Req → List ℕ → List Reading → Pass RevisionData → Result (Option WatchEnd) Broken → Type 0
+AnsweredAs terms whole p req written readings q (Ok None) =
+    (given : Given terms whole p req readings q) × (is_stream given.answer ≡ false) × (written ≡ answer_bytes terms req given.answer)
+AnsweredAs terms whole p req written readings q (Ok (Some how)) =
+    (given : Given terms whole p req readings q) × IsWatchEnd given.answer how × (written ≡ answer_bytes terms req given.answer)
+AnsweredAs terms whole p req written readings q (Err broken.Fault) =
+    (given : Given terms whole p req readings q) × IsPrefix written (answer_bytes terms req given.answer)
+AnsweredAs terms whole p req written readings q (Err broken.Memory) =
+    ((given : Given terms whole p req readings q) × IsPrefix written (answer_bytes terms req given.answer))
+    ⊎ Unanswered terms whole p req written readings q
+
+-- what a sink and a clock tell: the bytes, and the readings
+pub record Outside : Type 0 where
+  pub written : Option (List ℕ)
+  pub readings : Option (List Reading)
+
+pub record Answered (terms : Terms) (whole : Type 0) (p : Pass RevisionData) (req : Req) (old new : Outside) (q : Pass RevisionData) (came : Result (Option WatchEnd) Broken) : Type 0 where
+  pub written : List ℕ
+  pub readings : List Reading
+  pub sink : new.written ≡ appended old.written written
+  pub noted : Noted old.readings new.readings readings
+  pub answered : AnsweredAs terms whole p req written readings q came
+
+-- ---- what steps answer
+
+-- a reply leaves no end of a watch
+abbrev pub by_reply : Result ⊤ Broken → Result (Option WatchEnd) Broken
+by_reply (Ok done) = Ok None
+by_reply (Err why) = Err why
+
+abbrev pub by_stream : Result WatchEnd Broken → Result (Option WatchEnd) Broken
+by_stream (Ok how) = Ok (Some how)
+by_stream (Err why) = Err why
+
+abbrev pub by_loss : ℕ → ℕ → Result ⊤ Broken → Result (Option WatchEnd) Broken
+by_loss at floor (Ok done) = Ok (Some (watch_end.Lost at floor))
+by_loss at floor (Err why) = Err why
+
+-- a request that is answered by a reply, with no reading of the clock
+pub record Replied (terms : Terms) (whole : Type 0) (p : Pass RevisionData) (req : Req) (old new : Option (List ℕ)) (q : Pass RevisionData) (sent : Result ⊤ Broken) : Type 0 where
   pub written : List ℕ
   pub sink : new ≡ appended old written
-  pub sent : IsSent bytes written rose result
+  pub replied : AnsweredAs terms whole p req written [] q (by_reply sent)
 
--- a request with that form and that body was answered with that text
-pub record IsAnswer (alone : Option ℕ) (p : Pass) (form : Form) (body : List ℕ) (q : Pass) (text : List ℕ) : Type 0 where
-  pub ask : Ask
-  pub answer : Answer
-  pub asks : AsksBy form body ask
-  pub answers : Answers alone p ask answer q
-  pub text_is : text ≡ answer_text form.close answer
+-- there was memory, so that this holds
+abbrev pub UnlessMemory : {A : Type 0} → Result A Broken → Type 0 → Type 0
+UnlessMemory (Ok answer) P = P
+UnlessMemory (Err broken.Fault) P = P
+UnlessMemory (Err broken.Memory) P = Unit {0}
 
--- the creation that was asked for was done
-pub record IsWriteDone (p : Pass) (form : Form) (body : List ℕ) (q : Pass) : Type 0 where
-  pub ns : List ℕ
-  pub name : List ℕ
-  pub asks : AsksBy form body (create ns name)
-  pub obj : Obj
-  pub pod : IsPod ns name obj
-  pub seen : q.seen ≡ log_after p.seen (Create Pods obj)
+-- ---- how the session goes on after a request
 
--- the log of a sole client where memory was refused
-abbrev pub SoleRefused : Option ℕ → Pass → Form → List ℕ → Pass → Type 0
-SoleRefused None p form body q = ⊤
-SoleRefused (Some history) p form body q = (q.seen ≡ p.seen) ⊎ IsWriteDone p form body q
+abbrev pub end_by_reply : Bool → Option SessionEnd
+end_by_reply true = Some Done
+end_by_reply false = None
 
--- an answer, or nothing where the request isn't one that is served
-abbrev pub IsAnswered : Option ℕ → Pass → Form → List ℕ → Pass → Result (Option (String Global)) AllocError → Type 0
-IsAnswered alone p form body q (Ok (Some text)) = IsAnswer alone p form body q (string_bytes text)
-IsAnswered alone p form body q (Ok None) = ((ask : Ask) → ¬ (AsksBy form body ask)) × (q ≡ p)
-IsAnswered alone p form body q (Err e) = SoleRefused alone p form body q
+abbrev pub end_after : Result (Option WatchEnd) Broken → Bool → Option SessionEnd
+end_after (Ok None) close = end_by_reply close
+end_after (Ok (Some how)) close = Some (Watched how)
+end_after (Err broken.Fault) close = Some WriteFault
+end_after (Err broken.Memory) close = Some Memory
 
--- a write came to that, and the text is the reply that tells of it
-pub record IsWriteReply (name : List ℕ) (result : Result Written WriteNo) (close : Bool) (text : List ℕ) : Type 0 where
-  pub answer : Answer
-  pub tells : TellsWrite name result answer
-  pub text_is : text ≡ answer_text close answer
+-- how it ends with the reply to what is no request
+abbrev pub end_of_refusal : ReqNo → Result ⊤ Broken → SessionEnd
+end_of_refusal fault (Ok done) = Refused fault
+end_of_refusal fault (Err broken.Fault) = WriteFault
+end_of_refusal fault (Err broken.Memory) = Memory
 
--- the creation of a pod was answered with that text
-pub record IsPodAnswer (alone : Option ℕ) (p : Pass) (ns name : List ℕ) (close : Bool) (q : Pass) (text : List ℕ) : Type 0 where
-  pub answer : Answer
-  pub answers : AnswersCreate alone p ns name answer q
-  pub text_is : text ≡ answer_text close answer
+-- ---- one turn of the loop, over the bytes that were kept and taken
 
--- the creation of that pod was done
-pub record IsPodDone (p : Pass) (ns name : List ℕ) (q : Pass) : Type 0 where
-  pub obj : Obj
-  pub pod : IsPod ns name obj
-  pub seen : q.seen ≡ log_after p.seen (Create Pods obj)
+-- the bytes begin with a request, which was answered
+pub record Exchanged (terms : Terms) (whole : Type 0) (p : Pass RevisionData) (bytes after : List ℕ) (readings : List Reading) (q : Pass RevisionData) : Type 0 where
+  pub request : Req
+  pub reads : ReadsOne bytes request after
+  pub given : Given terms whole p request readings q
 
--- the log of a sole client where memory was refused
-abbrev pub SolePod : Option ℕ → Pass → List ℕ → List ℕ → Pass → Type 0
-SolePod None p ns name q = ⊤
-SolePod (Some history) p ns name q = (q.seen ≡ p.seen) ⊎ IsPodDone p ns name q
+abbrev pub exchange_of : Req → Answer → Pass RevisionData → Exchange
+exchange_of req answer q = record { request = req; answer = answer; pass = q }
 
--- the creation of a pod was answered; it always is
-abbrev pub IsPodAnswered : Option ℕ → Pass → List ℕ → List ℕ → Bool → Pass → Result (Option (String Global)) AllocError → Type 0
-IsPodAnswered alone p ns name close q (Ok (Some text)) = IsPodAnswer alone p ns name close q (string_bytes text)
-IsPodAnswered alone p ns name close q (Ok None) = ⊥
-IsPodAnswered alone p ns name close q (Err e) = SolePod alone p ns name q
+-- nothing was done
+abbrev pub IsSilent : List ℕ → List Reading → Pass RevisionData → Pass RevisionData → Type 0
+IsSilent written readings p q = (written ≡ []) × (readings ≡ []) × (p ≡ q)
 
--- what went to the sink of the reply of a request that isn't served, and what came of it
-abbrev pub RefusalEnds : List ℕ → Type 0 → SessionEnd → Type 0
-RefusalEnds written rose NotBuilt = written ≡ not_built_text
-RefusalEnds written rose WriteFault = Grows written not_built_text × rose
-RefusalEnds written rose Memory = written ≡ []
-RefusalEnds written rose Done = ⊥
-RefusalEnds written rose ReadFault = ⊥
-RefusalEnds written rose CutShort = ⊥
-RefusalEnds written rose TooMany = ⊥
+-- the bytes are no request, and a beginning of the reply that says so was written
+abbrev pub RefusalBegun : List ℕ → List ℕ → List Reading → Pass RevisionData → Pass RevisionData → Type 0
+RefusalBegun bytes written readings p q =
+    (fault : ReqNo) × IsRefused bytes fault × IsPrefix written (request_refusal_text fault) × (readings ≡ []) × (p ≡ q)
 
-pub record IsRefused (old new : Option (List ℕ)) (rose : Type 0) (how : SessionEnd) : Type 0 where
-  pub written : List ℕ
-  pub sink : new ≡ appended old written
-  pub ends : RefusalEnds written rose how
+-- a request was answered, and a beginning of the answer was written
+abbrev pub AnswerBegun : Terms → Type 0 → Pass RevisionData → List ℕ → List ℕ → List ℕ → List Reading → Pass RevisionData → Type 0
+AnswerBegun terms whole p bytes after written readings q =
+    (x : Exchanged terms whole p bytes after readings q) × IsPrefix written (answer_bytes terms x.request x.given.answer)
 
--- one request was read, answered, and its reply written
-pub record IsExchange
-    (alone : Option ℕ) (p : Pass) (bytes after written : List ℕ) (q : Pass) (close : Bool) : Type 0 where
-  pub exchange : Exchange
-  pub reads : ReadsOne bytes exchange.request after
-  pub step : Step alone p exchange q
-  pub reply : written ≡ reply_to exchange
-  pub closes : closes exchange.request ≡ close
+-- there was no memory before an answer
+pub record Unfinished (terms : Terms) (whole : Type 0) (p : Pass RevisionData) (bytes written : List ℕ) (readings : List Reading) (q : Pass RevisionData) : Type 0 where
+  pub nothing : written ≡ []
+  pub unread : readings ≡ []
+  pub onward : IsOnward p q
+  pub sole : whole → SoleMemory terms p bytes q
 
--- one request was read and answered, and its reply was broken off
-pub record IsBroken (alone : Option ℕ) (p : Pass) (bytes written : List ℕ) (q : Pass) : Type 0 where
-  pub exchange : Exchange
-  pub after : List ℕ
-  pub reads : ReadsOne bytes exchange.request after
-  pub step : Step alone p exchange q
-  pub reply : Grows written (reply_to exchange)
+abbrev pub TurnIs : Terms → Type 0 → Pass RevisionData → List ℕ → List ℕ → List ℕ → List Reading → Pass RevisionData → Type 0 → Type 0 → Option (List ℕ) → Option SessionEnd → Type 0
+TurnIs terms whole p bytes after written readings q read_fault write_fault left None =
+    (x : Exchanged terms whole p bytes after readings q) × Stays (exchange_of x.request x.given.answer q)
+    × (written ≡ answer_bytes terms x.request x.given.answer)
+TurnIs terms whole p bytes after written readings q read_fault write_fault left (Some Done) =
+    ((x : Exchanged terms whole p bytes after readings q) × IsClosed (exchange_of x.request x.given.answer q)
+    × (written ≡ answer_bytes terms x.request x.given.answer))
+    ⊎ (IsSilent written readings p q × (bytes ≡ []) × IsExhausted left)
+TurnIs terms whole p bytes after written readings q read_fault write_fault left (Some (Watched how)) =
+    (x : Exchanged terms whole p bytes after readings q) × IsWatchEnd x.given.answer how
+    × (written ≡ answer_bytes terms x.request x.given.answer)
+TurnIs terms whole p bytes after written readings q read_fault write_fault left (Some CutShort) =
+    IsSilent written readings p q × IsCutShort bytes × IsExhausted left
+TurnIs terms whole p bytes after written readings q read_fault write_fault left (Some ReadFault) =
+    IsSilent written readings p q × IsUnfinished bytes × read_fault
+TurnIs terms whole p bytes after written readings q read_fault write_fault left (Some (Refused fault)) =
+    (written ≡ request_refusal_text fault) × IsRefused bytes fault × (readings ≡ []) × (p ≡ q)
+TurnIs terms whole p bytes after written readings q read_fault write_fault left (Some WriteFault) =
+    write_fault × (AnswerBegun terms whole p bytes after written readings q ⊎ RefusalBegun bytes written readings p q)
+TurnIs terms whole p bytes after written readings q read_fault write_fault left (Some Memory) =
+    AnswerBegun terms whole p bytes after written readings q
+    ⊎ (RefusalBegun bytes written readings p q ⊎ Unfinished terms whole p bytes written readings q)
+TurnIs terms whole p bytes after written readings q read_fault write_fault left (Some TooMany) = ⊥
 
--- a request isn't one that is served
-pub record IsNoRequest (p : Pass) (bytes : List ℕ) (q : Pass) : Type 0 where
-  pub some : 0 < length bytes
-  pub never : NeverReads IsServed bytes
-  pub same : p ≡ q
+-- what the ends of a session tell: the bytes that are left in the source, the bytes written, the readings
+pub record Ends : Type 0 where
+  pub left : Option (List ℕ)
+  pub outside : Outside
 
--- how one turn ended the session
-abbrev pub TurnEnds
-    : Option ℕ → Pass → List ℕ → List ℕ → Pass → Type 0 → Type 0 → Option (List ℕ) → SessionEnd → Type 0
-TurnEnds alone p bytes written q read_fault write_fault left Done = (written ≡ []) × (p ≡ q) × (bytes ≡ []) × IsExhausted left
-TurnEnds alone p bytes written q read_fault write_fault left CutShort =
-    (written ≡ []) × (p ≡ q) × (0 < length bytes) × IsUnfinished bytes × IsExhausted left
-TurnEnds alone p bytes written q read_fault write_fault left ReadFault = (written ≡ []) × (p ≡ q) × IsUnfinished bytes × read_fault
-TurnEnds alone p bytes written q read_fault write_fault left NotBuilt = (written ≡ not_built_text) × IsNoRequest p bytes q
-TurnEnds alone p bytes written q read_fault write_fault left WriteFault =
-    write_fault × (IsBroken alone p bytes written q ⊎ (Grows written not_built_text × IsNoRequest p bytes q))
-TurnEnds alone p bytes written q read_fault write_fault left Memory = (written ≡ []) × Extends p q × SoleMemory alone p bytes q
-TurnEnds alone p bytes written q read_fault write_fault left TooMany = ⊥
-
--- one turn: whether the connection closes, or how the session ended
-abbrev pub TurnIs
-    : Option ℕ → Pass → List ℕ → List ℕ → List ℕ → Pass → Type 0 → Type 0 → Option (List ℕ) → Result Bool SessionEnd → Type 0
-TurnIs alone p bytes after written q read_fault write_fault left (Ok close) = IsExchange alone p bytes after written q close
-TurnIs alone p bytes after written q read_fault write_fault left (Err how) = TurnEnds alone p bytes written q read_fault write_fault left how
-
--- one turn, from the bytes that were pending and taken to those that were written
-pub record IsTurn
-    (alone : Option ℕ) (p : Pass) (old new : List ℕ) (q : Pass) (read_fault write_fault : Type 0)
-    (left_old left_new written_old written_new : Option (List ℕ)) (result : Result Bool SessionEnd) : Type 0 where
+-- one turn, from the bytes that were kept before it to those that are kept then
+pub record IsTurn (terms : Terms) (whole : Type 0) (p : Pass RevisionData) (kept kept_then : List ℕ) (old new : Ends) (read_fault write_fault : Type 0) (q : Pass RevisionData) (came : Option SessionEnd) : Type 0 where
   pub taken : List ℕ
   pub written : List ℕ
-  pub source : left_old ≡ prepended taken left_new
-  pub sink : written_new ≡ appended written_old written
-  pub turn : TurnIs alone p (old ++ taken) new written q read_fault write_fault left_new result
+  pub readings : List Reading
+  pub source : old.left ≡ prepended taken new.left
+  pub sink : new.outside.written ≡ appended old.outside.written written
+  pub noted : Noted old.outside.readings new.outside.readings readings
+  pub turn : TurnIs terms whole p (kept ++ taken) kept_then written readings q read_fault write_fault new.left came
+
+-- what is told where no request was read: nothing, or the reply to bytes that are no request, or a beginning of it
+abbrev pub RefusalEnds : ReqNo → List ℕ → SessionEnd → Type 0
+RefusalEnds fault written (Refused told) = (told ≡ fault) × (written ≡ request_refusal_text fault)
+RefusalEnds fault written WriteFault = IsPrefix written (request_refusal_text fault)
+RefusalEnds fault written Memory = IsPrefix written (request_refusal_text fault)
+RefusalEnds fault written other = ⊥
+
+abbrev pub StopsAs : ReqNo → List ℕ → SessionEnd → Type 0
+StopsAs req_no.CutShort written how = (written ≡ []) × (how ≡ CutShort)
+StopsAs req_no.ReadFault written how = (written ≡ []) × (how ≡ ReadFault)
+StopsAs req_no.Memory written how = (written ≡ []) × (how ≡ Memory)
+StopsAs fault written how = RefusalEnds fault written how
+
+pub record IsStopped (fault : ReqNo) (old new : Option (List ℕ)) (how : SessionEnd) : Type 0 where
+  pub written : List ℕ
+  pub sink : new ≡ appended old written
+  pub stops : StopsAs fault written how
+
+-- the sink's count of faults at that end
+abbrev pub CountsAt : SessionEnd → ℕ → ℕ → Type 0
+CountsAt WriteFault old new = Rose old new
+CountsAt other old new = new ≡ old
+
+-- a further turn follows
+abbrev pub OnNone : {A : Type 0} → Option A → Type 0 → Type 0
+OnNone None P = P
+OnNone (Some x) P = Unit {0}
+
+-- this holds, unless the session ended in a way that leaves it open
+abbrev pub OrEnd : (SessionEnd → Type 0 → Type 0) → Option SessionEnd → Type 0 → Type 0
+OrEnd unless None P = P
+OrEnd unless (Some how) P = unless how P

@@ -1,66 +1,40 @@
--- The bytes of each reply (RFC 9112, section 6, on the message; Kubernetes API concepts on objects,
--- lists and `Status`).
-use Rattle.std.specs.Prelude.{ℕ, ◌+◌, List, [], ◌∷◌, ◌++◌, length, Bool, true, false, codes, decimal}
-use Rattle.std.specs.List.{flat_map, concat}
-use Rattle.kube_meta.specs.Objects.{object_json}
-use Rattle.kube_meta.specs.Rows.{RowData}
-use Rattle.sess_serve.specs.Answer.{Answer, created, listed, unreadable, exists, used_up}
+-- The bytes of answers.
+use Rattle.std.specs.Prelude.{ℕ, List, Option, Some, None, is_some}
+use Rattle.std.specs.List.{flat_map}
+use Rattle.http_read.specs.declared.request.Req.{Req}
+use Rattle.http_read.specs.declared.request.Upgrade.{Upgrade}
+use Rattle.watch_rules.specs.declared.ask.WatchAsk.{WatchAsk}
+use Rattle.sess_reply.specs.Replies.{form_of, reply_text}
+use Rattle.sess_turns.specs.Streams.{stream_text, gone_text}
+use Rattle.sess_turns.specs.Terms.{Terms}
+use Rattle.sess_turns.specs.Turns.{watch_lines, end_of_watch}
+use Rattle.sess_turns.specs.declared.view.Framing.{Framing}
+use Rattle.sess_turns.specs.declared.view.Framing.TheVariants.{Chunks, Messages}
+use Rattle.sess_turns.specs.declared.view.View.{View}
+use Rattle.sess_serve.specs.Answers.{Stream, gone, begun, Answer, replied, streamed}
+use Rattle.sess_serve.specs.Steps.{Exchange}
 
--- the line that says that the connection ends
-abbrev pub close_line : Bool → List ℕ
-close_line true = codes "\r\nConnection: close"
-close_line false = []
+-- the lines of a watch are chunks, or messages where the request asks for a WebSocket
+abbrev pub framing_of : Option Upgrade → Framing
+framing_of None = Chunks
+framing_of (Some upgrade) = Messages upgrade.key
 
--- a whole reply: the status line, three or four header lines, and the body with a line feed, which
--- the length counts
-abbrev pub reply_text : ℕ → List ℕ → Bool → List ℕ → List ℕ
-reply_text code phrase close body = concat (codes "HTTP/1.1 " ∷ decimal code ∷ codes " " ∷ phrase
-    ∷ codes "\r\nContent-Type: application/json\r\nContent-Length: " ∷ decimal (length body + 1)
-    ∷ close_line close ∷ codes "\r\n\r\n" ∷ body ∷ codes "\n" ∷ [])
+abbrev pub view_of : Req → View
+view_of req = record { form = form_of req; framing = framing_of req.upgrade }
 
--- the JSON of a row's object at the row's revision
-abbrev pub row_json : RowData → List ℕ
-row_json row = object_json row.obj row.rev
+-- a stream has an end where it has come to one; a watch whose start is gone is told so by one line
+abbrev pub stream_bytes : Terms → Req → WatchAsk → Stream → List ℕ
+stream_bytes terms req ask (gone asked floor) = gone_text (framing_of req.upgrade) asked floor
+stream_bytes terms req ask (begun pass turns) =
+    stream_text (view_of req) ask.selection.resource (watch_lines terms ask pass turns) (is_some (end_of_watch turns.finish))
 
--- each with a comma in front
-abbrev pub more_json : List RowData → List ℕ
-more_json rows = flat_map (λ row. 44 ∷ row_json row) rows
+abbrev pub answer_bytes : Terms → Req → Answer → List ℕ
+answer_bytes terms req (replied reply) = reply_text (form_of req) req.close reply
+answer_bytes terms req (streamed ask stream) = stream_bytes terms req ask stream
 
--- the objects joined by commas
-abbrev pub items_json : List RowData → List ℕ
-items_json [] = []
-items_json (row ∷ rows) = row_json row ++ more_json rows
+abbrev pub text_of : Terms → Exchange → List ℕ
+text_of terms e = answer_bytes terms e.request e.answer
 
--- a `PodList` at that revision
-abbrev pub list_json : ℕ → List RowData → List ℕ
-list_json rev rows = concat (codes "{\"apiVersion\":\"v1\",\"items\":[" ∷ items_json rows
-    ∷ codes "],\"kind\":\"PodList\",\"metadata\":{\"resourceVersion\":\"" ∷ decimal rev ∷ codes "\"}}" ∷ [])
-
--- a `Status` that tells of a failure; the message is given as it stands between its quotes
-abbrev pub status_json : ℕ → List ℕ → List ℕ → List ℕ
-status_json code reason message = concat (codes "{\"apiVersion\":\"v1\",\"code\":" ∷ decimal code
-    ∷ codes ",\"kind\":\"Status\",\"message\":\"" ∷ message ∷ codes "\",\"metadata\":{},\"reason\":\"" ∷ reason
-    ∷ codes "\",\"status\":\"Failure\"}" ∷ [])
-
--- the reply of a refusal
-abbrev pub refusal_text : ℕ → List ℕ → Bool → List ℕ → List ℕ → List ℕ
-refusal_text code phrase close reason message = reply_text code phrase close (status_json code reason message)
-
--- the message of a creation whose name is there already
-abbrev pub exists_message : List ℕ → List ℕ
-exists_message name = concat (codes "pods \\\"" ∷ name ∷ codes "\\\" already exists" ∷ [])
-
--- the reply of each answer
-abbrev pub answer_text : Bool → Answer → List ℕ
-answer_text close (created row) = reply_text 201 (codes "Created") close (row_json row)
-answer_text close (listed rev rows) = reply_text 200 (codes "OK") close (list_json rev rows)
-answer_text close unreadable =
-    refusal_text 400 (codes "Bad Request") close (codes "BadRequest") (codes "object: NotJson")
-answer_text close (exists name) =
-    refusal_text 409 (codes "Conflict") close (codes "AlreadyExists") (exists_message name)
-answer_text close used_up =
-    refusal_text 500 (codes "Internal Server Error") close (codes "InternalError") (codes "Revisions are used up")
-
--- the reply of a request that isn't served; the connection ends with it
-abbrev pub not_built_text : List ℕ
-not_built_text = refusal_text 501 (codes "Not Implemented") true (codes "NotBuilt") (codes "not built")
+-- the answers, one after the other
+abbrev pub texts_of : Terms → List Exchange → List ℕ
+texts_of terms exchanges = flat_map (text_of terms) exchanges

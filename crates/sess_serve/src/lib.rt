@@ -1,22 +1,15 @@
-//! One session of the API server: requests in, replies out, from bytes to bytes.
+//! One session of the API server: requests in, replies and streams out, from bytes to bytes, over any client of the
+//! log.
 #![tactic(auto)]
 
-mod body;
-mod client;
+mod answer;
 mod ends;
-mod fields;
-mod head;
 mod laws;
-mod plain;
-mod pods;
-mod reader;
 mod serve;
-mod settings;
-mod texts;
+mod steps;
+mod view;
+mod watching;
 
-pub use client::{Client, WriteAsk, WriteNo, Written};
 pub use ends::SessionEnd;
-pub use laws::{ends_are_exact, reading_is_unique, sessions_settle};
-pub use plain::PlainClient;
+pub use laws::{ends_are_exact, sessions_settle};
 pub use serve::serve_session;
-pub use settings::Settings;

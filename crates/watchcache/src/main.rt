@@ -38,16 +38,23 @@ pub fn run<S: Source, K: Sink, T: Clock, N: Net>(
     net: &mut N,
 ) -> u8
     requires { N.faults net.old < 2 ^ 62 }
-    ensures run { IsRun words.now (S.left source.old) (S.left source.new) (K.written sink.old) (K.written sink.new)
-        (Rose (S.faults source.old) (S.faults source.new)) (Rose (K.faults sink.old) (K.faults sink.new)) result }
-    ensures clock { T.readings clock.new ≡ T.readings clock.old }
+    ensures run { IsRun words.now (record {
+      left_old = S.left source.old;
+      left_new = S.left source.new;
+      written_old = K.written sink.old;
+      written_new = K.written sink.new;
+      readings_old = T.readings clock.old;
+      readings_new = T.readings clock.new;
+      read_fault = Rose (S.faults source.old) (S.faults source.new);
+      write_fault = Rose (K.faults sink.old) (K.faults sink.new);
+    }) result }
     ensures net { net.new ≡ net.old }
 {
     let _ = net;
     if is_session(words) {
         run_session(alloc, source, sink, clock)
     } else {
-        refuse(sink)
+        refuse(source, sink, clock)
     }
 }
 

@@ -1,5 +1,5 @@
-use Rattle.sess_serve.proofs.Exact.{ends_exact}
+use Rattle.sess_serve.proofs.Exact.{ends-exact}
 use Rattle.sess_serve.proofs.laws.ends_are_exact.Goals as goal
 
 pub returns : goal.returns
-returns c = ends_exact
+returns c = ends-exact

@@ -1,28 +1,69 @@
-use Rattle.std.proofs.Common.{◌∙◌, ◌<◌, arith}
-use Rattle.sess_serve.proofs.Reading.{Rose-later}
-use Rattle.sess_serve.proofs.Session.{Loop-next, Loop-closed, Loop-ends}
+use Rattle.std.proofs.Common.{◌∙◌, ◌<◌, ◌≡◌, [], None, ap, arith, refl}
+use Rattle.http_read.specs.Readers.{ReaderState}
+use Rattle.sess_serve.proofs.Session.{loop-start, loop-next, loop-ends, loop-full, none-begun, terms-same, rose-from, facts-next, facts-idle}
+use Rattle.sess_serve.proofs.Ending.{read-map, write-map}
 use Rattle.sess_serve.proofs.serve.serve_session.Goals as goal
 
-pub returns-in-Err-clause-session : goal.returns-in-Err-clause-session
-returns-in-Err-clause-session g c =
-    let room : c.loop.counter < c.args.settings.now.requests = omega arith in
-    Loop-ends _ _ c.loop.invariant.alone c.args.settings.now.requests _ _ _ _ _ _ _ _ _ _ _ c.loop.counter _ _ c.loop.invariant.turns _ _ c.in-Err.end
-    (Rose-later _ _ _ c.loop.invariant.source_counts c.turn.ensures.source_counts)
-    (Rose-later _ _ _ c.loop.invariant.sink_counts c.turn.ensures.sink_counts)
-    room c.in-Err.ensures.turn
+pub returns-in_default-clause-session : goal.returns-in_default-clause-session
+returns-in_default-clause-session g c =
+    let room : 0 < c.args.settings.now.requests = omega (arith, c.requires.settings.requests) in
+    none-begun _ _ _ (record { left = _; outside = record { written = _; readings = _ } }) _ _ room
 
-pub returns-then-close-clause-session : goal.returns-then-close-clause-session
-returns-then-close-clause-session g c =
-    let room : c.loop.counter < c.args.settings.now.requests = omega arith in
-    Loop-closed _ _ c.loop.invariant.alone c.args.settings.now.requests _ _ _ _ _ _ _ _ _ _ _ c.loop.counter _ _ c.loop.invariant.turns _ _
-    room (rw c.if-close.true at c.in-Ok.ensures.turn)
+pub loop-answered-init : goal.loop-answered-init
+loop-answered-init g c =
+    let e : c.in-Ok.reader ≡ record { kept = []; refusal = None } = c.in-Ok.ensures in
+    record {
+      turns = loop-start _ _ _ _ c.in-Ok.reader.kept (ap (λ (x : ReaderState). x.kept) e);
+      facts = refl;
+      kept = λ w. w;
+      reading = ap (λ (x : ReaderState). x.refusal) e;
+      flushed = λ some. absurd (omega (arith, some));
+      settled = λ s. s;
+      quiet_source = refl;
+      quiet_sink = refl;
+    }
 
-pub loop-preserved : goal.loop-preserved
-loop-preserved g c = record {
-  turns = Loop-next _ _ c.loop.invariant.alone c.args.settings.now.requests _ _ _ _ _ _ _ _ _ _ _ c.loop.counter _ _ c.loop.invariant.turns
-      (rw c.if-close.false at c.in-Ok.ensures.turn);
-  alone = c.turn.ensures.alone ∙ c.loop.invariant.alone;
-  source_counts = omega (arith, c.loop.invariant.source_counts, c.turn.ensures.source_counts);
-  sink_counts = omega (arith, c.loop.invariant.sink_counts, c.turn.ensures.sink_counts);
-  clock = c.loop.invariant.clock;
-}
+pub loop-answered-preserved : goal.loop-answered-preserved
+loop-answered-preserved g c =
+    let i = c.loop-answered.invariant in
+    let e = c.in-None.ensures in
+    record {
+      turns = loop-next _ _ (terms-same _ _ _ (g.C.Client.facts c.args.client.now) _ _ i.facts) _ _ i.kept _ _ _ _ _ _ _ _ c.loop-answered.answered _ _ i.turns e.turn;
+      facts = facts-next (g.C.Client.facts c.args.client.now) _ _ i.facts e.facts;
+      kept = λ w. e.kept (i.kept w);
+      reading = e.reading;
+      flushed = λ some. e.flushed;
+      settled = λ s. e.flushed;
+      quiet_source = e.quiet_source ∙ i.quiet_source;
+      quiet_sink = e.quiet_sink ∙ i.quiet_sink;
+    }
+
+pub returns-in-Some-clause-session : goal.returns-in-Some-clause-session
+returns-in-Some-clause-session g c =
+    let i = c.loop-answered.invariant in
+    let room : c.loop-answered.answered < c.args.settings.now.requests = omega arith in
+    loop-ends _ _ (terms-same _ _ _ (g.C.Client.facts c.args.client.now) _ _ i.facts) _ _ i.kept _ _ _ _ _ _ _ _ c.loop-answered.answered _ _ i.turns _ _ c.in-Some.end
+    (rose-from _ _ _ i.quiet_source) (rose-from _ _ _ i.quiet_sink) room c.in-Some.ensures.turn
+
+pub returns-in-Some-clause-facts : goal.returns-in-Some-clause-facts
+returns-in-Some-clause-facts g c = facts-next (g.C.Client.facts c.args.client.now) _ _ c.loop-answered.invariant.facts c.in-Some.ensures.facts
+
+pub returns-in-Some-clause-kept : goal.returns-in-Some-clause-kept
+returns-in-Some-clause-kept g c = λ w. c.in-Some.ensures.kept (c.loop-answered.invariant.kept w)
+
+pub returns-in-Some-clause-settled : goal.returns-in-Some-clause-settled
+returns-in-Some-clause-settled g c = λ s. c.in-Some.ensures.settled (c.loop-answered.invariant.settled s)
+
+pub returns-in-Some-clause-quiet_source : goal.returns-in-Some-clause-quiet_source
+returns-in-Some-clause-quiet_source g c = read-map c.in-Some.end (λ e. e ∙ c.loop-answered.invariant.quiet_source) c.in-Some.ensures.quiet_source
+
+pub returns-in-Some-clause-quiet_sink : goal.returns-in-Some-clause-quiet_sink
+returns-in-Some-clause-quiet_sink g c = write-map c.in-Some.end (λ e. e ∙ c.loop-answered.invariant.quiet_sink) c.in-Some.ensures.quiet_sink
+
+pub turn-requires-clause-idle : goal.turn-requires-clause-idle
+turn-requires-clause-idle g c = facts-idle (g.C.Client.facts c.args.client.now) _ c.requires.idle c.loop-answered.invariant.facts
+
+pub returns-clause-session : goal.returns-clause-session
+returns-clause-session g c =
+    let full : c.loop-answered.answered ≡ c.args.settings.now.requests = omega arith in
+    loop-full _ _ _ _ _ _ _ c.loop-answered.answered _ _ c.loop-answered.invariant.turns full

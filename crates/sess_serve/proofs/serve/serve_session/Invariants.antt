@@ -1,15 +1,20 @@
-use Rattle.std.proofs.Common.{◌≡◌, ◌≤◌}
+use Rattle.std.proofs.Common.{◌≡◌, ◌<◌, None}
+use Rattle.sess_turns.specs.Terms.{terms_of}
 use Rattle.sess_serve.proofs.Session.{Loop}
 use Rattle.sess_serve.proofs.serve.serve_session.Given as goal
 
--- the requests so far were answered, each in its turn
-abbrev pub invariant-loop : goal.invariant-loop
-invariant-loop g l = record {
-  turns : Loop (g.C.Client.alone l.initial.client) (g.C.Client.pass l.initial.client)
-      (g.S.Source.left l.initial.source) (g.S.Source.left l.source) (g.K.Sink.written l.initial.sink) (g.K.Sink.written l.sink)
-      l.pending.items (g.C.Client.pass l.client) l.counter;
-  alone : g.C.Client.alone l.client ≡ g.C.Client.alone l.initial.client;
-  source_counts : g.S.Source.faults l.initial.source ≤ g.S.Source.faults l.source;
-  sink_counts : g.K.Sink.faults l.initial.sink ≤ g.K.Sink.faults l.sink;
-  clock : g.T.Clock.readings l.clock ≡ g.T.Clock.readings l.initial.clock;
+-- the requests so far were answered, each in its turn, and the last answer is sent on
+abbrev pub invariant-loop-answered : goal.invariant-loop-answered
+invariant-loop-answered g l = record {
+  turns : Loop (terms_of g.C.Client.base g.C.Client.mirror (g.C.Client.facts l.initial.client) l.settings) (g.C.Client.whole l.initial.client) (g.C.Client.pass l.initial.client)
+      (record { left = g.S.Source.left l.initial.source; outside = record { written = g.K.Sink.written l.initial.sink; readings = g.T.Clock.readings l.initial.clock } })
+      (record { left = g.S.Source.left l.source; outside = record { written = g.K.Sink.written l.sink; readings = g.T.Clock.readings l.clock } })
+      l.reader.kept (g.C.Client.pass l.client) l.answered;
+  facts : g.C.Client.facts l.client ≡ record (g.C.Client.facts l.initial.client) { heard = (g.C.Client.facts l.client).heard };
+  kept : g.C.Client.whole l.initial.client → g.C.Client.whole l.client;
+  reading : l.reader.refusal ≡ None;
+  flushed : 0 < l.answered → g.K.Sink.settled l.sink;
+  settled : g.K.Sink.settled l.initial.sink → g.K.Sink.settled l.sink;
+  quiet_source : g.S.Source.faults l.source ≡ g.S.Source.faults l.initial.source;
+  quiet_sink : g.K.Sink.faults l.sink ≡ g.K.Sink.faults l.initial.sink;
 }

@@ -1,37 +1,44 @@
-use Rattle.std.proofs.Common.{refl, sym, subst}
-use Rattle.sess_serve.specs.Serving.{IsAnswer}
-use Rattle.sess_serve.proofs.Turns.{turn_answered, turn_broken, turn_unanswered, turn_cut, turn_not_built, turn_refused}
+use Rattle.std.proofs.Common.{refl, Option}
+use Rattle.http_read.specs.declared.request.Req.{Req}
+use Rattle.sess_serve.proofs.Turning.{turn-answered, turn-clean, turn-stopped}
+use Rattle.sess_serve.proofs.Ending.{after-kept, after-flushed, after-settled, after-sink, after-source, after-reading, memory-anyway, stopped-source, stopped-sink}
 use Rattle.sess_serve.proofs.serve.turn.Goals as goal
 
-pub returns-in-Err-CutShort-clause-turn : goal.returns-in-Err-CutShort-clause-turn
-returns-in-Err-CutShort-clause-turn g c =
-    turn_cut _ _ _ _ _ _ _ _ _ _ _ refl refl (rw c.in-Err-CutShort.field-0-is at c.in-Err-CutShort.ensures.reading)
+pub returns-in-Ok-Some-clause-turn : goal.returns-in-Ok-Some-clause-turn
+returns-in-Ok-Some-clause-turn g c =
+    turn-answered _ _ _ _ _ _ _ _ _ _ _ _ c.in-Ok-Some.req c.answer-came.result c.end_after.result (rw c.in-Ok-Some.field-0-is at c.in-Ok-Some.ensures.reads)
+    c.answer-came.ensures.answered c.answer-came.ensures.counts c.end_after.ensures
 
-pub returns-in-Err-NotBuilt-clause-turn : goal.returns-in-Err-NotBuilt-clause-turn
-returns-in-Err-NotBuilt-clause-turn g c =
-    turn_not_built _ _ _ _ _ _ _ _ _ _ _ c.refuse.result refl (rw c.in-Err-NotBuilt.field-0-is at c.in-Err-NotBuilt.ensures.reading) c.refuse.ensures.refused
+pub returns-in-Ok-Some-clause-kept : goal.returns-in-Ok-Some-clause-kept
+returns-in-Ok-Some-clause-kept g c = λ w. after-kept c.answer-came.result c.in-Ok-Some.req.close c.end_after.result c.end_after.ensures _ (c.answer-came.ensures.kept w)
 
-pub returns-in-Ok-clause-turn : goal.returns-in-Ok-clause-turn
-returns-in-Ok-clause-turn g c =
-    turn_answered _ _ _ _ _ _ _ _ _ _ _ c.in-Ok-Some.incoming (rw c.in-Ok-Some.field-0-is at c.in-Ok-Some.ensures.reading)
-    c.as_bytes.result.now c.in-Ok.field-0
-    (subst (IsAnswer _ _ _ _ _) (sym c.as_bytes.ensures.value) (rw c.in-Ok-Some-answer.field-0-is at c.in-Ok-Some-answer.ensures.answered))
-    c.answer.ensures.extends c.in-Ok.ensures.sent
+pub returns-in-Ok-Some-clause-reading : goal.returns-in-Ok-Some-clause-reading
+returns-in-Ok-Some-clause-reading g c =
+    after-reading c.answer-came.result c.in-Ok-Some.req.close c.end_after.result c.end_after.ensures c.in-Ok-Some.ensures.reads.refusal
 
-pub returns-in-Ok-Some-answer-clause-turn : goal.returns-in-Ok-Some-answer-clause-turn
-returns-in-Ok-Some-answer-clause-turn g c =
-    turn_broken _ _ _ _ _ _ _ _ _ _ _ c.in-Ok-Some.incoming (rw c.in-Ok-Some.field-0-is at c.in-Ok-Some.ensures.reading)
-    c.as_bytes.result.now c.in-Err-send.field-0
-    (subst (IsAnswer _ _ _ _ _) (sym c.as_bytes.ensures.value) (rw c.in-Ok-Some-answer.field-0-is at c.in-Ok-Some-answer.ensures.answered))
-    c.answer.ensures.extends c.in-Err-send.ensures.sent
+pub returns-in-Ok-Some-clause-flushed : goal.returns-in-Ok-Some-clause-flushed
+returns-in-Ok-Some-clause-flushed g c = after-flushed c.answer-came.result c.in-Ok-Some.req.close c.end_after.result c.end_after.ensures _ c.answer-came.ensures.settled
 
-pub returns-in-Ok-None-answer-clause-turn : goal.returns-in-Ok-None-answer-clause-turn
-returns-in-Ok-None-answer-clause-turn g c =
-    let answered = rw c.in-Ok-None-answer.field-0-is at c.in-Ok-None-answer.ensures.answered in
-    turn_refused _ _ _ _ _ _ _ _ _ _ _ c.refuse-in-Ok-None-answer.result c.in-Ok-Some.incoming
-    (rw c.in-Ok-Some.field-0-is at c.in-Ok-Some.ensures.reading) answered.0 answered.1 c.refuse-in-Ok-None-answer.ensures.refused
+pub returns-in-Ok-Some-clause-settled : goal.returns-in-Ok-Some-clause-settled
+returns-in-Ok-Some-clause-settled g c = λ before. after-settled c.answer-came.result c.in-Ok-Some.req.close c.end_after.result c.end_after.ensures _ c.answer-came.ensures.settled
 
-pub returns-clause-turn : goal.returns-clause-turn
-returns-clause-turn g c =
-    turn_unanswered _ _ _ _ _ _ _ _ _ _ _ c.in-Ok-Some.incoming (rw c.in-Ok-Some.field-0-is at c.in-Ok-Some.ensures.reading)
-    c.answer.ensures.extends c.in-Err.ensures.answered refl
+pub returns-in-Ok-Some-clause-quiet_source : goal.returns-in-Ok-Some-clause-quiet_source
+returns-in-Ok-Some-clause-quiet_source g c = after-source c.answer-came.result c.in-Ok-Some.req.close c.end_after.result c.end_after.ensures c.in-Ok-Some.ensures.quiet
+
+pub returns-in-Ok-Some-clause-quiet_sink : goal.returns-in-Ok-Some-clause-quiet_sink
+returns-in-Ok-Some-clause-quiet_sink g c = after-sink c.answer-came.result c.in-Ok-Some.req.close c.end_after.result c.end_after.ensures _ _ c.answer-came.ensures.counts
+
+pub returns-in-Ok-None-clause-turn : goal.returns-in-Ok-None-clause-turn
+returns-in-Ok-None-clause-turn g c = turn-clean _ _ _ _ _ _ _ _ _ _ _ _ refl refl refl (rw c.in-Ok-None.field-0-is at c.in-Ok-None.ensures.reads)
+
+pub returns-in-Err-clause-turn : goal.returns-in-Err-clause-turn
+returns-in-Err-clause-turn g c = turn-stopped _ _ _ _ _ _ _ _ _ _ _ _ refl refl c.in-Err.fault c.stop.result c.in-Err.ensures.reads c.stop.ensures.stopped c.stop.ensures.counts
+
+pub returns-in-Err-clause-kept : goal.returns-in-Err-clause-kept
+returns-in-Err-clause-kept g c = λ w. memory-anyway c.stop.result w
+
+pub returns-in-Err-clause-quiet_source : goal.returns-in-Err-clause-quiet_source
+returns-in-Err-clause-quiet_source g c = stopped-source _ (Option Req) c.in-Err.fault c.stop.ensures.stopped.written c.stop.result c.stop.ensures.stopped.stops c.in-Err.ensures.quiet
+
+pub returns-in-Err-clause-quiet_sink : goal.returns-in-Err-clause-quiet_sink
+returns-in-Err-clause-quiet_sink g c = stopped-sink c.stop.result _ _ c.stop.ensures.counts

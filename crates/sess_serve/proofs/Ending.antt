@@ -1,0 +1,192 @@
+-- What is said of the counts, of what is settled and of memory, by how a turn or a session ends.
+use Rattle.std.proofs.Common.{◌≡◌, ◌≢◌, ℕ, Bool, true, false, List, [], Option, Some, None, Result, Ok, Err, refl, sym, subst}
+use Rattle.std.specs.Prelude.{⊤, OnOk, OnErr}
+use Rattle.edge_io.specs.Told.{appended, AppendedSome}
+use Rattle.edge_io.proofs.ToldLemmas.{appended-nil}
+use Rattle.http_read.specs.Answers.{UnlessFault}
+use Rattle.http_read.specs.declared.refusal.ReqNo.{ReqNo}
+use Rattle.http_read.specs.declared.refusal.ReqNo.TheVariants as req_no
+use Rattle.sess_reply.specs.Replies.{request_refusal_text}
+use Rattle.sess_reply.specs.Sending.{Counts}
+use Rattle.sess_reply.specs.declared.broken.Broken.{Broken}
+use Rattle.sess_reply.specs.declared.broken.Broken.TheVariants as broken
+use Rattle.sess_turns.specs.declared.ends.WatchEnd.{WatchEnd}
+use Rattle.sess_serve.specs.Ends.{UnlessReadFault, UnlessWriteFault, UnlessMemory, UnlessBroken}
+use Rattle.sess_serve.specs.Serving as serving
+use Rattle.sess_serve.specs.Serving.{OrEnd, OnNone, CountsAt, IsStopped, StopsAs, RefusalEnds, end_after, end_of_refusal}
+use Rattle.sess_serve.specs.declared.ends.SessionEnd.{SessionEnd}
+use Rattle.sess_serve.specs.declared.ends.SessionEnd.TheVariants.{Done, Watched, ReadFault, WriteFault, CutShort, Refused, TooMany, Memory}
+
+-- ---- what holds anyway
+
+pub read-anyway : {P : Type 0} (how : SessionEnd) → P → UnlessReadFault how P
+read-anyway ReadFault p = tt
+read-anyway Done p = p
+read-anyway (Watched w) p = p
+read-anyway WriteFault p = p
+read-anyway CutShort p = p
+read-anyway (Refused n) p = p
+read-anyway TooMany p = p
+read-anyway Memory p = p
+
+pub memory-anyway : {P : Type 0} (how : SessionEnd) → P → UnlessMemory how P
+memory-anyway Memory p = tt
+memory-anyway Done p = p
+memory-anyway (Watched w) p = p
+memory-anyway ReadFault p = p
+memory-anyway WriteFault p = p
+memory-anyway CutShort p = p
+memory-anyway (Refused n) p = p
+memory-anyway TooMany p = p
+
+-- ---- what follows
+
+pub read-map : {P Q : Type 0} (how : SessionEnd) → (P → Q) → UnlessReadFault how P → UnlessReadFault how Q
+read-map ReadFault f p = tt
+read-map Done f p = f p
+read-map (Watched w) f p = f p
+read-map WriteFault f p = f p
+read-map CutShort f p = f p
+read-map (Refused n) f p = f p
+read-map TooMany f p = f p
+read-map Memory f p = f p
+
+pub write-map : {P Q : Type 0} (how : SessionEnd) → (P → Q) → UnlessWriteFault how P → UnlessWriteFault how Q
+write-map WriteFault f p = tt
+write-map Done f p = f p
+write-map (Watched w) f p = f p
+write-map ReadFault f p = f p
+write-map CutShort f p = f p
+write-map (Refused n) f p = f p
+write-map TooMany f p = f p
+write-map Memory f p = f p
+
+-- ---- after a request
+
+module _ (came : Result (Option WatchEnd) Broken) (close : Bool) (result : Option SessionEnd) (is : result ≡ end_after came close) where
+  pub after-kept : (P : Type 0) → serving.UnlessMemory came P → OrEnd UnlessMemory result P
+  after-kept P h = subst (λ r. OrEnd UnlessMemory r P) (sym is) (by came close h)
+    where
+      by : (came : Result (Option WatchEnd) Broken) (close : Bool) → serving.UnlessMemory came P → OrEnd UnlessMemory (end_after came close) P
+      by (Ok None) true h = h
+      by (Ok None) false h = h
+      by (Ok (Some how)) close h = h
+      by (Err broken.Fault) close h = h
+      by (Err broken.Memory) close h = tt
+
+  pub after-flushed : (P : Type 0) → OnOk came P → OnNone result P
+  after-flushed P h = subst (λ r. OnNone r P) (sym is) (by came close h)
+    where
+      by : (came : Result (Option WatchEnd) Broken) (close : Bool) → OnOk came P → OnNone (end_after came close) P
+      by (Ok None) true h = tt
+      by (Ok None) false h = h
+      by (Ok (Some how)) close h = tt
+      by (Err broken.Fault) close h = tt
+      by (Err broken.Memory) close h = tt
+
+  pub after-settled : (P : Type 0) → OnOk came P → OrEnd UnlessBroken result P
+  after-settled P h = subst (λ r. OrEnd UnlessBroken r P) (sym is) (by came close h)
+    where
+      by : (came : Result (Option WatchEnd) Broken) (close : Bool) → OnOk came P → OrEnd UnlessBroken (end_after came close) P
+      by (Ok None) true h = h
+      by (Ok None) false h = h
+      by (Ok (Some how)) close h = h
+      by (Err broken.Fault) close h = tt
+      by (Err broken.Memory) close h = tt
+
+  pub after-sink : (a b : ℕ) → Counts came a b → OrEnd UnlessWriteFault result (b ≡ a)
+  after-sink a b h = subst (λ r. OrEnd UnlessWriteFault r (b ≡ a)) (sym is) (by came close h)
+    where
+      by : (came : Result (Option WatchEnd) Broken) (close : Bool) → Counts came a b → OrEnd UnlessWriteFault (end_after came close) (b ≡ a)
+      by (Ok None) true h = h
+      by (Ok None) false h = h
+      by (Ok (Some how)) close h = h
+      by (Err broken.Fault) close h = tt
+      by (Err broken.Memory) close h = h
+
+  pub after-source : {P : Type 0} → P → OrEnd UnlessReadFault result P
+  after-source {P} p = by result
+    where
+      by : (r : Option SessionEnd) → OrEnd UnlessReadFault r P
+      by None = p
+      by (Some how) = read-anyway how p
+
+  pub after-reading : {P : Type 0} → P → OnNone result P
+  after-reading {P} p = by result
+    where
+      by : (r : Option SessionEnd) → OnNone r P
+      by None = p
+      by (Some how) = tt
+
+-- ---- where no request was read
+
+pub stopped-source : (P : Type 0) (A : Type 0) (fault : ReqNo) (written : List ℕ) (how : SessionEnd) → StopsAs fault written how → UnlessFault {A = A} (Err fault) P → UnlessReadFault how P
+stopped-source P A req_no.ReadFault written how stops h = subst (λ e. UnlessReadFault e P) (sym stops.1) tt
+stopped-source P A req_no.CutShort written how stops h = read-anyway how h
+stopped-source P A req_no.Memory written how stops h = read-anyway how h
+stopped-source P A req_no.Malformed written how stops h = read-anyway how h
+stopped-source P A req_no.HeadTooLong written how stops h = read-anyway how h
+stopped-source P A req_no.TooManyHeaders written how stops h = read-anyway how h
+stopped-source P A req_no.BodyTooLong written how stops h = read-anyway how h
+stopped-source P A req_no.NeedsLength written how stops h = read-anyway how h
+
+pub stopped-sink : (how : SessionEnd) (a b : ℕ) → CountsAt how a b → UnlessWriteFault how (b ≡ a)
+stopped-sink WriteFault a b h = tt
+stopped-sink Done a b h = h
+stopped-sink (Watched w) a b h = h
+stopped-sink ReadFault a b h = h
+stopped-sink CutShort a b h = h
+stopped-sink (Refused n) a b h = h
+stopped-sink TooMany a b h = h
+stopped-sink Memory a b h = h
+
+stops-refused : (fault : ReqNo) (written : List ℕ) (how : SessionEnd) → fault ≢ req_no.CutShort → fault ≢ req_no.ReadFault → fault ≢ req_no.Memory → RefusalEnds fault written how → StopsAs fault written how
+stops-refused req_no.CutShort written how a b c h = absurd (a refl)
+stops-refused req_no.ReadFault written how a b c h = absurd (b refl)
+stops-refused req_no.Memory written how a b c h = absurd (c refl)
+stops-refused req_no.Malformed written how a b c h = h
+stops-refused req_no.HeadTooLong written how a b c h = h
+stops-refused req_no.TooManyHeaders written how a b c h = h
+stops-refused req_no.BodyTooLong written how a b c h = h
+stops-refused req_no.NeedsLength written how a b c h = h
+
+module _ (fault : ReqNo) (sent : Result ⊤ Broken) (how : SessionEnd) (is : how ≡ end_of_refusal fault sent) where
+  -- the reply to what is no request was written, or a beginning of it
+  pub refusal-stops : (old new : Option (List ℕ)) → fault ≢ req_no.CutShort → fault ≢ req_no.ReadFault → fault ≢ req_no.Memory → OnOk sent (new ≡ appended old (request_refusal_text fault))
+      → OnErr sent (AppendedSome old new (request_refusal_text fault)) → IsStopped fault old new how
+  refusal-stops old new a b c out some = subst (IsStopped fault old new) (sym is) (by sent out some)
+    where
+      by : (sent : Result ⊤ Broken) → OnOk sent (new ≡ appended old (request_refusal_text fault)) → OnErr sent (AppendedSome old new (request_refusal_text fault))
+          → IsStopped fault old new (end_of_refusal fault sent)
+      by (Ok u) out some = record { written = request_refusal_text fault; sink = out; stops = stops-refused fault (request_refusal_text fault) (Refused fault) a b c (refl, refl) }
+      by (Err broken.Fault) out (begun, rest, e, went) = record { written = begun; sink = went; stops = stops-refused fault begun WriteFault a b c (rest, sym e) }
+      by (Err broken.Memory) out (begun, rest, e, went) = record { written = begun; sink = went; stops = stops-refused fault begun Memory a b c (rest, sym e) }
+
+  pub refusal-settled : (P : Type 0) → OnOk sent P → UnlessBroken how P
+  refusal-settled P h = subst (λ e. UnlessBroken e P) (sym is) (by sent h)
+    where
+      by : (sent : Result ⊤ Broken) → OnOk sent P → UnlessBroken (end_of_refusal fault sent) P
+      by (Ok u) h = h
+      by (Err broken.Fault) h = tt
+      by (Err broken.Memory) h = tt
+
+  pub refusal-counts : (a b : ℕ) → Counts sent a b → CountsAt how a b
+  refusal-counts a b h = subst (λ e. CountsAt e a b) (sym is) (by sent h)
+    where
+      by : (sent : Result ⊤ Broken) → Counts sent a b → CountsAt (end_of_refusal fault sent) a b
+      by (Ok u) h = h
+      by (Err broken.Fault) h = h
+      by (Err broken.Memory) h = h
+
+-- nothing was written
+pub silent-stops : (fault : ReqNo) (how : SessionEnd) (old : Option (List ℕ)) → StopsAs fault [] how → IsStopped fault old old how
+silent-stops fault how old stops = record { written = []; sink = sym (appended-nil old); stops = stops }
+
+pub stops-cut : (fault : ReqNo) (old : Option (List ℕ)) → fault ≡ req_no.CutShort → IsStopped fault old old CutShort
+stops-cut fault old is = subst (λ f. IsStopped f old old CutShort) (sym is) (silent-stops req_no.CutShort CutShort old (refl, refl))
+
+pub stops-fault : (fault : ReqNo) (old : Option (List ℕ)) → fault ≡ req_no.ReadFault → IsStopped fault old old ReadFault
+stops-fault fault old is = subst (λ f. IsStopped f old old ReadFault) (sym is) (silent-stops req_no.ReadFault ReadFault old (refl, refl))
+
+pub stops-memory : (fault : ReqNo) (old : Option (List ℕ)) → fault ≡ req_no.Memory → IsStopped fault old old Memory
+stops-memory fault old is = subst (λ f. IsStopped f old old Memory) (sym is) (silent-stops req_no.Memory Memory old (refl, refl))

@@ -1,0 +1,363 @@
+-- How one request comes to an exchange, or to want of memory.
+use Rattle.std.proofs.Common.{◌≡◌, ◌≢◌, ◌∙◌, ◌⊎◌, ℕ, List, [], Option, Some, None, Result, Ok, Err, refl, sym, ap, subst, inl, inr}
+use Rattle.std.specs.Prelude.{⊤, OnOk, OnErr, IfSome, Bool}
+use Rattle.std.proofs.lemmas.List.{append-nil}
+use Rattle.std.proofs.lemmas.List.Elements.{All-nil}
+use mathlib.Core.List.{IsPrefix}
+use Rattle.edge_io.specs.Told.{appended, AppendedSome, Noted}
+use Rattle.edge_io.specs.declared.clock.Reading.{Reading}
+use Rattle.edge_io.proofs.ToldLemmas.{appended-nil, Noted-nil}
+use Rattle.kube_meta.specs.Rows.{RowData}
+use Rattle.rev_front.specs.Passes.{Pass, end_from}
+use Rattle.rev_log.specs.Changes.{RevisionData}
+use Rattle.http_read.specs.declared.request.Req.{Req}
+use Rattle.up_api.specs.declared.settings.Settings.{Settings}
+use Rattle.up_store.specs.declared.writes.WriteAsk.{WriteAsk}
+use Rattle.up_store.specs.declared.writes.WriteNo.{WriteNo}
+use Rattle.up_store.specs.declared.writes.WriteNo.TheVariants as write_no
+use Rattle.up_store.specs.declared.writes.Written.{Written}
+use Rattle.up_store.specs.declared.transactions.TxWriteNo.{TxWriteNo}
+use Rattle.up_store.specs.declared.transactions.TxWriteNo.TheVariants as tx_no
+use Rattle.std.specs.Global.{Vec}
+use Rattle.up_store.specs.Transacting.{answers_in}
+use Rattle.up_store.specs.declared.operations.Operate.{Operate}
+use Rattle.up_store.specs.declared.operations.OpNo.{OpNo}
+use Rattle.up_store.specs.declared.operations.OpNo.TheVariants as op_no
+use Rattle.route_req.specs.Asks.{IsRoute}
+use Rattle.route_req.specs.declared.routing.Routed.TheVariants as routed
+use Rattle.watch_rules.specs.declared.ask.WatchAsk.{WatchAsk}
+use Rattle.client_api.specs.declared.answers.ListNo.{ListNo}
+use Rattle.client_api.specs.declared.answers.ListNo.TheVariants as list_no
+use Rattle.client_api.specs.Alone.{IsSoleRead, SoleRead, SoleWrite, SoleTransact, SoleOperate}
+use Rattle.client_api.specs.Answers.{BegunData}
+use Rattle.client_api.specs.Facts.{Facts, Watched, IsOnward}
+use Rattle.client_api.specs.Starts.{IsWatchAnswer}
+use Rattle.client_api.specs.Told.{IsToldRead, IsToldTx}
+use Rattle.client_api.proofs.LawLemmas.{onwards_do_join}
+use Rattle.meta_view.specs.declared.form.Form.{Form}
+use Rattle.sess_reply.specs.Replies.{Reply, reply_text, form_of}
+use Rattle.sess_reply.specs.Sending.{Counts}
+use Rattle.sess_reply.specs.declared.broken.Broken.{Broken}
+use Rattle.sess_reply.specs.declared.broken.Broken.TheVariants as broken
+use Rattle.sess_turns.specs.Terms.{Terms, terms_of}
+use Rattle.sess_turns.specs.Streams.{IsStreamed, IsWritten, gone_text}
+use Rattle.sess_turns.specs.declared.view.View.{View}
+use Rattle.sess_turns.specs.declared.ends.WatchEnd.{WatchEnd}
+use Rattle.sess_turns.specs.declared.ends.WatchEnd.TheVariants as watch_end
+use Rattle.sess_serve.specs.Answers.{replied, streamed, gone, begun, IsReplyTo, IsPlainOrUpgrade, answer_readings}
+use Rattle.sess_serve.specs.Ends.{Begins, IsWatchEnd}
+use Rattle.sess_serve.specs.Steps.{ReplySays, IsAloneReply}
+use Rattle.sess_serve.specs.Texts.{view_of, framing_of, answer_bytes}
+use Rattle.sess_serve.specs.Serving.{Given, AnsweredAs, Answered, Replied, Outside, UnlessMemory, by_reply, by_stream, by_loss}
+
+-- ---- nobody else holds the log
+
+-- reads that were told
+pub sole-told : {A : Type 0} (p q : Pass RevisionData) (answer : Result A ListNo) → IsToldRead answer → SoleRead p answer q → IsSoleRead p q
+sole-told p q (Ok x) told sole = sole
+sole-told p q (Err (list_no.Expired a f)) told sole = sole
+sole-told p q (Err (list_no.TooLarge a c)) told sole = sole
+sole-told p q (Err (list_no.Absent at)) told sole = sole
+sole-told p q (Err list_no.Memory) told sole = absurd told
+
+-- nothing was done
+pub sole-same : (p : Pass RevisionData) → IsSoleRead p p
+sole-same p = record { same = refl; loads = record { more = []; loads = sym (append-nil p.loads); ends = All-nil (λ load. load ≡ end_from p.first p.seen) } }
+
+pub sole-is : (p q : Pass RevisionData) → p ≡ q → IsSoleRead p q
+sole-is p q same = subst (IsSoleRead p) same (sole-same p)
+
+pub onward-is : (p q : Pass RevisionData) → p ≡ q → IsOnward p q
+onward-is p q same = subst (IsOnward p) same (onwards_do_join.0 p)
+
+module _ (base : List RowData) (mirror : Bool) (facts : Facts) (s : Settings) (p q : Pass RevisionData) (req : Req) where
+  abbrev terms : Terms
+  terms = terms_of base mirror facts s
+
+  abbrev IsBegun : Type 0
+  IsBegun = (q.seen ≡ p.seen) ⊎ IfSome facts.alone (λ history. Begins terms history p req q)
+
+  pub lacks-write : (ask : WriteAsk) (answer : Result Written WriteNo) → IsRoute req (routed.Write ask) → answer ≡ Err write_no.Memory
+      → IfSome facts.alone (λ history. SoleWrite base mirror history p ask answer q) → IsBegun
+  lacks-write ask answer route is sole = inr (by facts.alone (subst (λ a. IfSome facts.alone (λ history. SoleWrite base mirror history p ask a q)) is sole))
+    where
+      by : (alone : Option ℕ) → IfSome alone (λ history. SoleWrite base mirror history p ask (Err write_no.Memory) q)
+          → IfSome alone (λ history. Begins terms history p req q)
+      by None h = tt
+      by (Some history) h = inl (ask, route, h)
+
+  pub lacks-transact : (asks : List WriteAsk) (answer : Result (List Written) TxWriteNo) → IsRoute req (routed.Transact asks) → answer ≡ Err tx_no.Memory
+      → IfSome facts.alone (λ history. SoleTransact base mirror history p asks answer q) → IsBegun
+  lacks-transact asks answer route is sole = inr (by facts.alone (subst (λ a. IfSome facts.alone (λ history. SoleTransact base mirror history p asks a q)) is sole))
+    where
+      by : (alone : Option ℕ) → IfSome alone (λ history. SoleTransact base mirror history p asks (Err tx_no.Memory) q)
+          → IfSome alone (λ history. Begins terms history p req q)
+      by None h = tt
+      by (Some history) h = inr (asks, route, h)
+
+  pub lacks-read : {A : Type 0} (answer : Result A ListNo) → answer ≡ Err list_no.Memory → SoleRead p answer q → IsBegun
+  lacks-read {A} answer is sole = let P : Result A ListNo → Type 0 = λ a. SoleRead p a q in inl (subst P is sole)
+
+  pub lacks-operate : (ask : Operate) (answer : Result ℕ OpNo) → answer ≡ Err op_no.Memory → SoleOperate p ask answer q → IsBegun
+  lacks-operate ask answer is sole = inl (subst (λ a. SoleOperate p ask a q) is sole)
+
+-- a transaction that was told
+pub told-in : (answer : Result (Vec Written) TxWriteNo) → IsToldTx answer → IsToldTx (answers_in answer)
+told-in (Ok answers) told = tt
+told-in (Err (tx_no.Item index why)) told = tt
+told-in (Err (tx_no.UsedUp at)) told = tt
+told-in (Err (tx_no.ReadOnly at)) told = tt
+told-in (Err tx_no.Memory) told = absurd told
+
+pub lacked-in : (answer : Result (Vec Written) TxWriteNo) → answer ≡ Err tx_no.Memory → answers_in answer ≡ Err tx_no.Memory
+lacked-in answer is = ap answers_in is
+
+-- ---- replies
+
+module _ (terms : Terms) (whole : Type 0) (p q : Pass RevisionData) (req : Req) (old new : Option (List ℕ)) where
+  -- an answer of which some was written
+  begun-answer : (given : Given terms whole p req [] q) (some : AppendedSome old new (answer_bytes terms req given.answer)) → IsPrefix some.0 (answer_bytes terms req given.answer)
+  begun-answer given (sent, rest, e, out) = (rest, sym e)
+
+  -- an answer was written by a reply, or a beginning of it
+  pub sends : (sent : Result ⊤ Broken) (reply : Reply) → IsReplyTo req reply → ReplySays terms p reply q → IsOnward p q → (whole → IsAloneReply terms p reply q)
+      → OnOk sent (new ≡ appended old (reply_text (form_of req) req.close reply)) → OnErr sent (AppendedSome old new (reply_text (form_of req) req.close reply))
+      → Replied terms whole p req old new q sent
+  sends (Ok u) reply answers says onward sole out some = record {
+    written = reply_text (form_of req) req.close reply;
+    sink = out;
+    replied = (record { answer = replied reply; answers = answers; says = says; onward = onward; sole = sole; readings_are = refl }, refl, refl);
+  }
+  sends (Err broken.Fault) reply answers says onward sole out (sent, rest, e, some) = record {
+    written = sent;
+    sink = some;
+    replied = (record { answer = replied reply; answers = answers; says = says; onward = onward; sole = sole; readings_are = refl }, (rest, sym e));
+  }
+  sends (Err broken.Memory) reply answers says onward sole out (sent, rest, e, some) = record {
+    written = sent;
+    sink = some;
+    replied = inl (record { answer = replied reply; answers = answers; says = says; onward = onward; sole = sole; readings_are = refl }, (rest, sym e));
+  }
+
+  -- the same of a reply in a form
+  pub sends-in : (form : Form) → form ≡ form_of req → (sent : Result ⊤ Broken) (reply : Reply) → IsReplyTo req reply → ReplySays terms p reply q → IsOnward p q
+      → (whole → IsAloneReply terms p reply q) → OnOk sent (new ≡ appended old (reply_text form req.close reply)) → OnErr sent (AppendedSome old new (reply_text form req.close reply))
+      → Replied terms whole p req old new q sent
+  sends-in form is sent reply answers says onward sole out some =
+      sends sent reply answers says onward sole (subst (λ f. OnOk sent (new ≡ appended old (reply_text f req.close reply))) is out)
+      (subst (λ f. OnErr sent (AppendedSome old new (reply_text f req.close reply))) is some)
+
+  -- there was no memory, and nothing was written
+  pub lacks : new ≡ old → IsOnward p q → (whole → (q.seen ≡ p.seen) ⊎ IfSome terms.alone (λ history. Begins terms history p req q))
+      → Replied terms whole p req old new q (Err broken.Memory)
+  lacks still onward sole = record {
+    written = [];
+    sink = still ∙ sym (appended-nil old);
+    replied = inr (record { nothing = refl; unread = refl; onward = onward; sole = sole });
+  }
+
+-- a reply takes no reading of the clock
+pub answers-by-reply : (terms : Terms) (whole : Type 0) (p q : Pass RevisionData) (req : Req) (old new : Outside) (sent : Result ⊤ Broken) (came : Result (Option WatchEnd) Broken)
+    → new.readings ≡ old.readings → came ≡ by_reply sent → Replied terms whole p req old.written new.written q sent → Answered terms whole p req old new q came
+answers-by-reply terms whole p q req old new sent came still is r = record {
+  written = r.written;
+  readings = [];
+  sink = r.sink;
+  noted = subst (λ (x : Option (List Reading)). Noted old.readings x []) (sym still) (Noted-nil old.readings);
+  answered = subst (AnsweredAs terms whole p req r.written [] q) (sym is) r.replied;
+}
+
+-- there was no memory, and nothing was written or read
+pub lacks-all : (terms : Terms) (whole : Type 0) (p q : Pass RevisionData) (req : Req) (old new : Outside) → new ≡ old → IsOnward p q → (whole → q.seen ≡ p.seen)
+    → Answered terms whole p req old new q (Err broken.Memory)
+lacks-all terms whole p q req old new still onward sole =
+    answers-by-reply terms whole p q req old new (Err broken.Memory) (Err broken.Memory) (ap (λ (o : Outside). o.readings) still) refl
+    (lacks terms whole p q req old.written new.written (ap (λ (o : Outside). o.written) still) onward (λ w. inl (sole w)))
+
+-- ---- streams
+
+-- a watch whose start is gone
+module _ (terms : Terms) (whole : Type 0) (p q : Pass RevisionData) (req : Req) (old new : Outside) (ask : WatchAsk) (asked floor : ℕ) where
+  -- what was written of the answer
+  tells-loss : (sent : Result ⊤ Broken) (given : Given terms whole p req [] q) → given.answer ≡ streamed ask (gone asked floor) → Noted old.readings new.readings []
+      → IsWritten sent old.written new.written (gone_text (framing_of req.upgrade) asked floor) → Answered terms whole p req old new q (by_loss asked floor sent)
+  tells-loss (Ok u) given is noted out = record {
+    written = gone_text (framing_of req.upgrade) asked floor;
+    readings = [];
+    sink = out;
+    noted = noted;
+    answered = (
+      given,
+      subst (λ a. IsWatchEnd a (watch_end.Lost asked floor)) (sym is) refl,
+      ap (answer_bytes terms req) (sym is),
+    );
+  }
+  tells-loss (Err broken.Fault) given is noted (some, rest, e, out) = record {
+    written = some;
+    readings = [];
+    sink = out;
+    noted = noted;
+    answered = (given, subst (λ a. IsPrefix some (answer_bytes terms req a)) (sym is) (rest, sym e));
+  }
+  tells-loss (Err broken.Memory) given is noted (some, rest, e, out) = record {
+    written = some;
+    readings = [];
+    sink = out;
+    noted = noted;
+    answered = inl (given, subst (λ a. IsPrefix some (answer_bytes terms req a)) (sym is) (rest, sym e));
+  }
+
+  pub answers-by-loss : (sent : Result ⊤ Broken) (came : Result (Option WatchEnd) Broken)
+      → new.readings ≡ old.readings → came ≡ by_loss asked floor sent → IsRoute req (routed.Watch ask) → IsPlainOrUpgrade req
+      → IsWatchAnswer terms.base terms.window p ask (Err (list_no.Expired asked floor)) q → IsOnward p q → (whole → IsSoleRead p q)
+      → IsWritten sent old.written new.written (gone_text (framing_of req.upgrade) asked floor) → Answered terms whole p req old new q came
+  answers-by-loss sent came still is route plain says onward sole out =
+      subst (Answered terms whole p req old new q) (sym is)
+      (tells-loss sent
+      (record { answer = streamed ask (gone asked floor); answers = (route, plain); says = says; onward = onward; sole = sole; readings_are = refl })
+      refl (subst (λ (x : Option (List Reading)). Noted old.readings x []) (sym still) (Noted-nil old.readings)) out)
+
+-- a watch that began
+module _ (terms : Terms) (whole : Type 0) (p mid q : Pass RevisionData) (req : Req) (old new : Outside) (ask : WatchAsk) (started : BegunData) where
+  abbrev Streamed : View → Result WatchEnd Broken → Type 0
+  Streamed view ended =
+      IsStreamed terms view ask started whole mid (record { readings = old.readings; written = old.written }) ended q (record { readings = new.readings; written = new.written })
+
+  stream-given : (ended : Result WatchEnd Broken) (str : Streamed (view_of req) ended) → IsRoute req (routed.Watch ask) → IsPlainOrUpgrade req
+      → IsWatchAnswer terms.base terms.window p ask (Ok started) mid → IsOnward p mid → IsOnward mid q → (whole → IsSoleRead p mid)
+      → (given : Given terms whole p req (answer_readings (streamed ask (begun mid str.watch))) q) × (given.answer ≡ streamed ask (begun mid str.watch))
+  stream-given ended str route plain says first second sole = (
+    record {
+      answer = streamed ask (begun mid str.watch);
+      answers = (route, plain);
+      says = (first, subst (λ b. IsWatchAnswer terms.base terms.window p ask (Ok b) mid) (sym str.begins) says, str.turns);
+      onward = onwards_do_join.1 p mid q first second;
+      sole = λ w. (sole w, str.sole w);
+      readings_are = refl;
+    },
+    refl,
+  )
+
+  tells-stream : (ended : Result WatchEnd Broken) (str : Streamed (view_of req) ended) (given : Given terms whole p req (answer_readings (streamed ask (begun mid str.watch))) q)
+      → given.answer ≡ streamed ask (begun mid str.watch) → Answered terms whole p req old new q (by_stream ended)
+  tells-stream (Ok how) str given is = record {
+    written = answer_bytes terms req (streamed ask (begun mid str.watch));
+    readings = answer_readings (streamed ask (begun mid str.watch));
+    sink = str.written;
+    noted = str.readings;
+    answered = (given, subst (λ a. IsWatchEnd a how) (sym is) str.ends, ap (answer_bytes terms req) (sym is));
+  }
+  tells-stream (Err broken.Fault) str given is = record {
+    written = str.written.0;
+    readings = answer_readings (streamed ask (begun mid str.watch));
+    sink = str.written.3;
+    noted = str.readings;
+    answered = (given, subst (λ a. IsPrefix str.written.0 (answer_bytes terms req a)) (sym is) (str.written.1, sym str.written.2));
+  }
+  tells-stream (Err broken.Memory) str given is = record {
+    written = str.written.0;
+    readings = answer_readings (streamed ask (begun mid str.watch));
+    sink = str.written.3;
+    noted = str.readings;
+    answered = inl (given, subst (λ a. IsPrefix str.written.0 (answer_bytes terms req a)) (sym is) (str.written.1, sym str.written.2));
+  }
+
+  pub answers-by-stream : (view : View) (ended : Result WatchEnd Broken) (came : Result (Option WatchEnd) Broken) → came ≡ by_stream ended → view ≡ view_of req
+      → IsRoute req (routed.Watch ask) → IsPlainOrUpgrade req → IsWatchAnswer terms.base terms.window p ask (Ok started) mid → IsOnward p mid → IsOnward mid q → (whole → IsSoleRead p mid)
+      → Streamed view ended → Answered terms whole p req old new q came
+  answers-by-stream view ended came is seen route plain says first second sole streaming =
+      let str : Streamed (view_of req) ended = subst (λ v. Streamed v ended) seen streaming in
+      let given = stream-given ended str route plain says first second sole in
+      subst (Answered terms whole p req old new q) (sym is) (tells-stream ended str given.0 given.1)
+
+-- ---- what is said of the counts, of what is settled and of memory, by what a step answers
+
+pub unless-memory : {A P : Type 0} (r : Result A Broken) → P → UnlessMemory r P
+unless-memory (Ok x) p = p
+unless-memory (Err broken.Fault) p = p
+unless-memory (Err broken.Memory) p = tt
+
+module _ (sent : Result ⊤ Broken) (came : Result (Option WatchEnd) Broken) where
+  pub reply-counts : (a b : ℕ) → came ≡ by_reply sent → Counts sent a b → Counts came a b
+  reply-counts a b is h = subst (λ c. Counts c a b) (sym is) (by sent h)
+    where
+      by : (s : Result ⊤ Broken) → Counts s a b → Counts (by_reply s) a b
+      by (Ok u) h = h
+      by (Err broken.Fault) h = h
+      by (Err broken.Memory) h = h
+
+  pub reply-settled : (P : Type 0) → came ≡ by_reply sent → OnOk sent P → OnOk came P
+  reply-settled P is h = subst (λ c. OnOk c P) (sym is) (by sent h)
+    where
+      by : (s : Result ⊤ Broken) → OnOk s P → OnOk (by_reply s) P
+      by (Ok u) h = h
+      by (Err why) h = tt
+
+  pub reply-kept : (P : Type 0) → came ≡ by_reply sent → UnlessMemory sent P → UnlessMemory came P
+  reply-kept P is h = subst (λ c. UnlessMemory c P) (sym is) (by sent h)
+    where
+      by : (s : Result ⊤ Broken) → UnlessMemory s P → UnlessMemory (by_reply s) P
+      by (Ok u) h = h
+      by (Err broken.Fault) h = h
+      by (Err broken.Memory) h = tt
+
+  pub loss-counts : (at floor a b : ℕ) → came ≡ by_loss at floor sent → Counts sent a b → Counts came a b
+  loss-counts at floor a b is h = subst (λ c. Counts c a b) (sym is) (by sent h)
+    where
+      by : (s : Result ⊤ Broken) → Counts s a b → Counts (by_loss at floor s) a b
+      by (Ok u) h = h
+      by (Err broken.Fault) h = h
+      by (Err broken.Memory) h = h
+
+  pub loss-settled : (P : Type 0) (at floor : ℕ) → came ≡ by_loss at floor sent → OnOk sent P → OnOk came P
+  loss-settled P at floor is h = subst (λ c. OnOk c P) (sym is) (by sent h)
+    where
+      by : (s : Result ⊤ Broken) → OnOk s P → OnOk (by_loss at floor s) P
+      by (Ok u) h = h
+      by (Err why) h = tt
+
+module _ (ended : Result WatchEnd Broken) (came : Result (Option WatchEnd) Broken) where
+  pub stream-counts : (a b : ℕ) → came ≡ by_stream ended → Counts ended a b → Counts came a b
+  stream-counts a b is h = subst (λ c. Counts c a b) (sym is) (by ended h)
+    where
+      by : (s : Result WatchEnd Broken) → Counts s a b → Counts (by_stream s) a b
+      by (Ok u) h = h
+      by (Err broken.Fault) h = h
+      by (Err broken.Memory) h = h
+
+  pub stream-settled : (P : Type 0) → came ≡ by_stream ended → OnOk ended P → OnOk came P
+  stream-settled P is h = subst (λ c. OnOk c P) (sym is) (by ended h)
+    where
+      by : (s : Result WatchEnd Broken) → OnOk s P → OnOk (by_stream s) P
+      by (Ok u) h = h
+      by (Err why) h = tt
+
+  pub stream-kept : {P : Type 0} → came ≡ by_stream ended → (ended ≢ Err broken.Memory → P) → UnlessMemory came P
+  stream-kept {P} is h = subst (λ c. UnlessMemory c P) (sym is) (by ended h)
+    where
+      by : (s : Result WatchEnd Broken) → (s ≢ Err broken.Memory → P) → UnlessMemory (by_stream s) P
+      by (Ok u) h = h (λ e. cc)
+      by (Err broken.Fault) h = h (λ e. cc)
+      by (Err broken.Memory) h = tt
+
+-- ---- facts of the client
+
+-- a watch that didn't begin
+pub facts-unwatched : (f g : Facts) → f.watching ≡ None → g ≡ record f { watching = None } → g ≡ record f { heard = g.heard }
+facts-unwatched f g idle e =
+    let same : record f { watching = None } ≡ f = λ i. record f { watching = sym idle i } in
+    let all : g ≡ f = e ∙ same in
+    all ∙ ap (λ (x : Facts). record f { heard = x.heard }) (sym all)
+
+-- a watch that began and ended
+pub facts-watched : (f m g : Facts) (w : Option Watched) → f.watching ≡ None → m ≡ record f { watching = w } → g ≡ record m { watching = None; heard = g.heard } → g ≡ record f { heard = g.heard }
+facts-watched f m g w idle first e =
+    let mid : g ≡ record f { watching = None; heard = g.heard } = e ∙ ap (λ (x : Facts). record x { watching = None; heard = g.heard }) first in
+    mid ∙ (λ i. record f { watching = sym idle i; heard = g.heard })
+
+-- nothing changed
+pub facts-still : (f g : Facts) → g ≡ f → g ≡ record f { heard = g.heard }
+facts-still f g same = same ∙ ap (λ (x : Facts). record f { heard = x.heard }) (sym same)
+
+pub terms-watching : (base : List RowData) (mirror : Bool) (s : Settings) (f m : Facts) (w : Option Watched) → m ≡ record f { watching = w } → terms_of base mirror m s ≡ terms_of base mirror f s
+terms-watching base mirror s f m w e = ap (λ x. terms_of base mirror x s) e

@@ -1,0 +1,78 @@
+use Rattle.std.proofs.Common.{refl}
+use Rattle.sess_serve.proofs.Replying.{answers-by-reply, reply-counts, reply-settled, reply-kept, facts-still}
+use Rattle.sess_serve.proofs.answer.act.Goals as goal
+
+pub returns-in-Write-clause-answered : goal.returns-in-Write-clause-answered
+returns-in-Write-clause-answered g c = answers-by-reply _ _ _ _ _ _ _ c.step_write.result c.by_reply.result refl c.by_reply.ensures (c.step_write.ensures.replied c.args.settings.now)
+
+pub returns-in-Write-clause-facts : goal.returns-in-Write-clause-facts
+returns-in-Write-clause-facts g c = facts-still _ _ c.step_write.ensures.facts
+
+pub returns-in-Write-clause-kept : goal.returns-in-Write-clause-kept
+returns-in-Write-clause-kept g c = λ whole. reply-kept c.step_write.result c.by_reply.result _ c.by_reply.ensures (c.step_write.ensures.kept whole)
+
+pub returns-in-Write-clause-settled : goal.returns-in-Write-clause-settled
+returns-in-Write-clause-settled g c = reply-settled c.step_write.result c.by_reply.result _ c.by_reply.ensures c.step_write.ensures.settled
+
+pub returns-in-Write-clause-counts : goal.returns-in-Write-clause-counts
+returns-in-Write-clause-counts g c = reply-counts c.step_write.result c.by_reply.result _ _ c.by_reply.ensures c.step_write.ensures.counts
+
+pub returns-in-Get-clause-answered : goal.returns-in-Get-clause-answered
+returns-in-Get-clause-answered g c = answers-by-reply _ _ _ _ _ _ _ c.step_get.result c.by_reply-in-Get.result refl c.by_reply-in-Get.ensures (c.step_get.ensures.replied c.args.settings.now)
+
+pub returns-in-Get-clause-facts : goal.returns-in-Get-clause-facts
+returns-in-Get-clause-facts g c = facts-still _ _ c.step_get.ensures.facts
+
+pub returns-in-Get-clause-kept : goal.returns-in-Get-clause-kept
+returns-in-Get-clause-kept g c = λ whole. reply-kept c.step_get.result c.by_reply-in-Get.result _ c.by_reply-in-Get.ensures (c.step_get.ensures.kept whole)
+
+pub returns-in-Get-clause-settled : goal.returns-in-Get-clause-settled
+returns-in-Get-clause-settled g c = reply-settled c.step_get.result c.by_reply-in-Get.result _ c.by_reply-in-Get.ensures c.step_get.ensures.settled
+
+pub returns-in-Get-clause-counts : goal.returns-in-Get-clause-counts
+returns-in-Get-clause-counts g c = reply-counts c.step_get.result c.by_reply-in-Get.result _ _ c.by_reply-in-Get.ensures c.step_get.ensures.counts
+
+pub returns-in-List-clause-answered : goal.returns-in-List-clause-answered
+returns-in-List-clause-answered g c = answers-by-reply _ _ _ _ _ _ _ c.step_list.result c.by_reply-in-List.result refl c.by_reply-in-List.ensures (c.step_list.ensures.replied c.args.settings.now)
+
+pub returns-in-List-clause-facts : goal.returns-in-List-clause-facts
+returns-in-List-clause-facts g c = facts-still _ _ c.step_list.ensures.facts
+
+pub returns-in-List-clause-kept : goal.returns-in-List-clause-kept
+returns-in-List-clause-kept g c = λ whole. reply-kept c.step_list.result c.by_reply-in-List.result _ c.by_reply-in-List.ensures (c.step_list.ensures.kept whole)
+
+pub returns-in-List-clause-settled : goal.returns-in-List-clause-settled
+returns-in-List-clause-settled g c = reply-settled c.step_list.result c.by_reply-in-List.result _ c.by_reply-in-List.ensures c.step_list.ensures.settled
+
+pub returns-in-List-clause-counts : goal.returns-in-List-clause-counts
+returns-in-List-clause-counts g c = reply-counts c.step_list.result c.by_reply-in-List.result _ _ c.by_reply-in-List.ensures c.step_list.ensures.counts
+
+pub returns-in-Operate-clause-answered : goal.returns-in-Operate-clause-answered
+returns-in-Operate-clause-answered g c = answers-by-reply _ _ _ _ _ _ _ c.step_operate.result c.by_reply-in-Operate.result refl c.by_reply-in-Operate.ensures (c.step_operate.ensures.replied c.args.settings.now)
+
+pub returns-in-Operate-clause-facts : goal.returns-in-Operate-clause-facts
+returns-in-Operate-clause-facts g c = facts-still _ _ c.step_operate.ensures.facts
+
+pub returns-in-Operate-clause-kept : goal.returns-in-Operate-clause-kept
+returns-in-Operate-clause-kept g c = λ whole. reply-kept c.step_operate.result c.by_reply-in-Operate.result _ c.by_reply-in-Operate.ensures (c.step_operate.ensures.kept whole)
+
+pub returns-in-Operate-clause-settled : goal.returns-in-Operate-clause-settled
+returns-in-Operate-clause-settled g c = reply-settled c.step_operate.result c.by_reply-in-Operate.result _ c.by_reply-in-Operate.ensures c.step_operate.ensures.settled
+
+pub returns-in-Operate-clause-counts : goal.returns-in-Operate-clause-counts
+returns-in-Operate-clause-counts g c = reply-counts c.step_operate.result c.by_reply-in-Operate.result _ _ c.by_reply-in-Operate.ensures c.step_operate.ensures.counts
+
+pub returns-in-Transact-clause-answered : goal.returns-in-Transact-clause-answered
+returns-in-Transact-clause-answered g c = answers-by-reply _ _ _ _ _ _ _ c.step_transact.result c.by_reply-in-Transact.result refl c.by_reply-in-Transact.ensures (c.step_transact.ensures.replied c.args.settings.now)
+
+pub returns-in-Transact-clause-facts : goal.returns-in-Transact-clause-facts
+returns-in-Transact-clause-facts g c = facts-still _ _ c.step_transact.ensures.facts
+
+pub returns-in-Transact-clause-kept : goal.returns-in-Transact-clause-kept
+returns-in-Transact-clause-kept g c = λ whole. reply-kept c.step_transact.result c.by_reply-in-Transact.result _ c.by_reply-in-Transact.ensures (c.step_transact.ensures.kept whole)
+
+pub returns-in-Transact-clause-settled : goal.returns-in-Transact-clause-settled
+returns-in-Transact-clause-settled g c = reply-settled c.step_transact.result c.by_reply-in-Transact.result _ c.by_reply-in-Transact.ensures c.step_transact.ensures.settled
+
+pub returns-in-Transact-clause-counts : goal.returns-in-Transact-clause-counts
+returns-in-Transact-clause-counts g c = reply-counts c.step_transact.result c.by_reply-in-Transact.result _ _ c.by_reply-in-Transact.ensures c.step_transact.ensures.counts

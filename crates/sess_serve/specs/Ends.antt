@@ -1,0 +1,150 @@
+-- How a session ends.
+use Rattle.std.specs.Prelude.{◌≡◌, ℕ, ◌<◌, ◌⊎◌, true, false, List, [], ◌∷◌, ◌++◌, length, All, Option, Some, Err, IfSome}
+use mathlib.Core.List.{IsPrefix}
+use Rattle.edge_io.specs.Told.{IsExhausted}
+use Rattle.http_read.specs.Requests.{ReadsOne, IsRefused, IsCutShort, IsUnfinished}
+use Rattle.http_read.specs.declared.request.Req.{Req}
+use Rattle.http_read.specs.declared.refusal.ReqNo.{ReqNo}
+use Rattle.rev_front.specs.Passes.{Pass}
+use Rattle.rev_log.specs.Changes.{RevisionData}
+use Rattle.up_store.specs.declared.writes.WriteAsk.{WriteAsk}
+use Rattle.up_store.specs.declared.writes.WriteNo.TheVariants as write_no
+use Rattle.up_store.specs.declared.transactions.TxWriteNo.TheVariants as tx_no
+use Rattle.route_req.specs.Asks.{IsRoute}
+use Rattle.route_req.specs.declared.routing.Routed.TheVariants as routed
+use Rattle.client_api.specs.Alone.{SoleWrite, SoleTransact}
+use Rattle.client_api.specs.Facts.{IsOnward}
+use Rattle.sess_reply.specs.Replies.{request_refusal_text}
+use Rattle.sess_turns.specs.Terms.{Terms}
+use Rattle.sess_turns.specs.Turns.{end_of_watch}
+use Rattle.sess_turns.specs.declared.ends.WatchEnd.{WatchEnd}
+use Rattle.sess_turns.specs.declared.ends.WatchEnd.TheVariants as watch_end
+use Rattle.sess_serve.specs.Answers.{Stream, gone, begun, Answer, replied, streamed, is_stream}
+use Rattle.sess_serve.specs.Steps.{Exchange}
+use Rattle.sess_serve.specs.Texts.{texts_of}
+use Rattle.sess_serve.specs.declared.ends.SessionEnd.{SessionEnd}
+use Rattle.sess_serve.specs.declared.ends.SessionEnd.TheVariants.{Done, Watched, ReadFault, WriteFault, CutShort, Refused, TooMany, Memory}
+
+-- ---- the closing request
+
+-- the request leaves the connection open: it doesn't ask for its end, and isn't answered by a stream
+pub record Stays (e : Exchange) : Type 0 where
+  pub open_ : e.request.close ≡ false
+  pub by_reply : is_stream e.answer ≡ false
+
+-- fewer requests than the limit were answered, and each left the connection open
+pub record GoesOn (terms : Terms) (exchanges : List Exchange) : Type 0 where
+  pub stay : All Stays exchanges
+  pub few : length exchanges < terms.settings.requests
+
+-- the last exchange, before which the session went on
+pub record Last (terms : Terms) (exchanges : List Exchange) : Type 0 where
+  pub before : List Exchange
+  pub last : Exchange
+  pub parted : exchanges ≡ before ++ last ∷ []
+  pub goes_on : GoesOn terms before
+
+-- it was answered by a reply to a request that asked for the end of the connection
+pub record IsClosed (e : Exchange) : Type 0 where
+  pub closes : e.request.close ≡ true
+  pub by_reply : is_stream e.answer ≡ false
+
+-- it was answered by a stream that came to this end
+abbrev pub StreamEnds : Stream → WatchEnd → Type 0
+StreamEnds (gone asked floor) how = how ≡ watch_end.Lost asked floor
+StreamEnds (begun pass turns) how = end_of_watch turns.finish ≡ Some how
+
+abbrev pub IsWatchEnd : Answer → WatchEnd → Type 0
+IsWatchEnd (replied reply) how = ⊥
+IsWatchEnd (streamed ask stream) how = StreamEnds stream how
+
+-- ---- what was written
+
+-- all answers but the last, and a beginning of the last
+pub record BrokenOff (terms : Terms) (exchanges : List Exchange) (written : List ℕ) : Type 0 where
+  pub last : Last terms exchanges
+  pub begun_text : IsPrefix written (texts_of terms exchanges)
+  pub others : IsPrefix (texts_of terms last.before) written
+
+-- all answers, and a beginning of the reply to what is no request
+pub record BrokenRefusal (terms : Terms) (exchanges : List Exchange) (rest written : List ℕ) : Type 0 where
+  pub goes_on : GoesOn terms exchanges
+  pub fault : ReqNo
+  pub refused : IsRefused rest fault
+  pub begun_text : IsPrefix written (texts_of terms exchanges ++ request_refusal_text fault)
+  pub others : IsPrefix (texts_of terms exchanges) written
+
+-- ---- ends
+
+-- How a session ended, by the answered requests, the bytes that follow them and what was written; by whether the counts
+-- of faults rose at the source and at the sink; and by what is left in the source.
+abbrev pub Ended : Terms → List Exchange → List ℕ → List ℕ → Type 0 → Type 0 → Option (List ℕ) → SessionEnd → Type 0
+Ended terms es rest written read_fault write_fault left Done =
+    (written ≡ texts_of terms es)
+    × (((last : Last terms es) × IsClosed last.last) ⊎ (GoesOn terms es × (rest ≡ []) × IsExhausted left))
+Ended terms es rest written read_fault write_fault left (Watched how) =
+    (written ≡ texts_of terms es) × ((last : Last terms es) × IsWatchEnd last.last.answer how)
+Ended terms es rest written read_fault write_fault left TooMany =
+    (written ≡ texts_of terms es) × All Stays es × (length es ≡ terms.settings.requests)
+Ended terms es rest written read_fault write_fault left CutShort =
+    (written ≡ texts_of terms es) × GoesOn terms es × IsCutShort rest × IsExhausted left
+Ended terms es rest written read_fault write_fault left (Refused fault) =
+    (written ≡ texts_of terms es ++ request_refusal_text fault) × GoesOn terms es × IsRefused rest fault
+Ended terms es rest written read_fault write_fault left ReadFault =
+    (written ≡ texts_of terms es) × GoesOn terms es × IsUnfinished rest × read_fault
+Ended terms es rest written read_fault write_fault left WriteFault =
+    write_fault × (BrokenOff terms es written ⊎ BrokenRefusal terms es rest written)
+Ended terms es rest written read_fault write_fault left Memory =
+    ((written ≡ texts_of terms es) × GoesOn terms es) ⊎ (BrokenOff terms es written ⊎ BrokenRefusal terms es rest written)
+
+-- ---- what is known at the end
+
+-- what the last answer left; after want of memory that, or what goes on from it
+abbrev pub Knows : SessionEnd → Pass RevisionData → Pass RevisionData → Type 0
+Knows Memory last q = IsOnward last q
+Knows Done last q = last ≡ q
+Knows (Watched how) last q = last ≡ q
+Knows TooMany last q = last ≡ q
+Knows CutShort last q = last ≡ q
+Knows (Refused fault) last q = last ≡ q
+Knows ReadFault last q = last ≡ q
+Knows WriteFault last q = last ≡ q
+
+-- the request whose call met want of memory: a write or a transaction that it asks for is done or not, and all else
+-- changes nothing
+abbrev pub Begins : Terms → ℕ → Pass RevisionData → Req → Pass RevisionData → Type 0
+Begins terms history p req q =
+    ((ask : WriteAsk) × IsRoute req (routed.Write ask) × SoleWrite terms.base terms.mirror history p ask (Err write_no.Memory) q)
+    ⊎ ((asks : List WriteAsk) × IsRoute req (routed.Transact asks) × SoleTransact terms.base terms.mirror history p asks (Err tx_no.Memory) q)
+
+abbrev pub SoleMemory : Terms → Pass RevisionData → List ℕ → Pass RevisionData → Type 0
+SoleMemory terms p rest q =
+    (q.seen ≡ p.seen) ⊎ ((req : Req) × (after : List ℕ) × ReadsOne rest req after × IfSome terms.alone (λ history. Begins terms history p req q))
+
+-- of a log that nobody else holds: after want of memory it is as it was, or with what was begun
+abbrev pub KnowsAlone : Terms → SessionEnd → Pass RevisionData → List ℕ → Pass RevisionData → Type 0
+KnowsAlone terms Memory last rest q = SoleMemory terms last rest q
+KnowsAlone terms other last rest q = Unit {0}
+
+-- ---- and when
+
+-- the source didn't fail, so that this holds
+abbrev pub UnlessReadFault : SessionEnd → Type 0 → Type 0
+UnlessReadFault ReadFault P = Unit {0}
+UnlessReadFault other P = P
+
+-- the sink didn't
+abbrev pub UnlessWriteFault : SessionEnd → Type 0 → Type 0
+UnlessWriteFault WriteFault P = Unit {0}
+UnlessWriteFault other P = P
+
+-- there was memory
+abbrev pub UnlessMemory : SessionEnd → Type 0 → Type 0
+UnlessMemory Memory P = Unit {0}
+UnlessMemory other P = P
+
+-- no answer was broken off
+abbrev pub UnlessBroken : SessionEnd → Type 0 → Type 0
+UnlessBroken WriteFault P = Unit {0}
+UnlessBroken Memory P = Unit {0}
+UnlessBroken other P = P

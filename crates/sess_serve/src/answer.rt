@@ -1,0 +1,106 @@
+//! One request, answered.
+
+ghost use Rattle.std.specs.Prelude.{◌≡◌, ◌≤◌, false, None, OnOk};
+ghost use Rattle.up_api.specs.Settings.{AreInRange};
+ghost use Rattle.route_req.specs.Asks.{IsRoute, IsRefusal, wraps_memory};
+ghost use Rattle.sess_reply.specs.Sending.{Counts};
+ghost use Rattle.sess_turns.specs.Terms.{terms_of};
+ghost use Rattle.sess_serve.specs.Serving.{Answered, UnlessMemory};
+
+use crate::steps::{step_get, step_list, step_operate, step_transact, step_write};
+use crate::watching::{by_reply, step_watch};
+use client_api::Client;
+use edge_io::{Clock, Sink};
+use http_read::Req;
+use route_req::{RouteNo, Routed, route};
+use sess_reply::{Broken, send_unrouted};
+use sess_turns::WatchEnd;
+use std::alloc::Global;
+use up_api::Settings;
+
+/// Answers a request: by the reply to what it asks for, or to why that has no route, or by the stream of a watch.
+/// Answers how the watch ended, where there was one.
+pub fn answer<C: Client, K: Sink, T: Clock>(
+    alloc: Global,
+    client: &mut C,
+    sink: &mut K,
+    clock: &mut T,
+    req: &Req,
+    settings: &Settings,
+) -> Result<Option<WatchEnd>, Broken>
+    requires idle { (C.facts client.old).watching ≡ None }
+    requires settings { AreInRange settings.now }
+    ensures answered { Answered (terms_of C.base C.mirror (C.facts client.old) settings.now) (C.whole client.old) (C.pass client.old) req.now
+        (record { written = K.written sink.old; readings = T.readings clock.old })
+        (record { written = K.written sink.new; readings = T.readings clock.new }) (C.pass client.new) result }
+    ensures facts { C.facts client.new ≡ record (C.facts client.old) { heard = (C.facts client.new).heard } }
+    ensures kept { C.whole client.old → UnlessMemory result (C.whole client.new) }
+    ensures settled { OnOk result (K.settled sink.new) }
+    ensures counts { Counts result (K.faults sink.old) (K.faults sink.new) }
+    ensures never_falls { K.faults sink.old ≤ K.faults sink.new }
+{
+    match route(alloc, req) {
+        Ok(routed) => act(alloc, client, sink, clock, req, &routed, settings),
+        Err(fault) => refuse(alloc, client, sink, clock, req, fault, settings),
+    }
+}
+
+// A request that has no route.
+fn refuse<C: Client, K: Sink, T: Clock>(
+    alloc: Global,
+    client: &C,
+    sink: &mut K,
+    clock: &T,
+    req: &Req,
+    fault: RouteNo,
+    settings: &Settings,
+) -> Result<Option<WatchEnd>, Broken>
+    requires refused { IsRefusal req.now fault }
+    requires plain { wraps_memory fault ≡ false }
+    ensures answered { Answered (terms_of C.base C.mirror (C.facts client.now) settings.now) (C.whole client.now) (C.pass client.now) req.now
+        (record { written = K.written sink.old; readings = T.readings clock.now })
+        (record { written = K.written sink.new; readings = T.readings clock.now }) (C.pass client.now) result }
+    ensures settled { OnOk result (K.settled sink.new) }
+    ensures counts { Counts result (K.faults sink.old) (K.faults sink.new) }
+    ensures never_falls { K.faults sink.old ≤ K.faults sink.new }
+{
+    let _ = client;
+    let _ = clock;
+    let _ = settings;
+    match fault {
+        RouteNo::Memory => Err(Broken::Memory),
+        _ => by_reply(send_unrouted(alloc, sink, req.close, fault)),
+    }
+}
+
+// What a request asks for.
+fn act<C: Client, K: Sink, T: Clock>(
+    alloc: Global,
+    client: &mut C,
+    sink: &mut K,
+    clock: &mut T,
+    req: &Req,
+    routed: &Routed,
+    settings: &Settings,
+) -> Result<Option<WatchEnd>, Broken>
+    requires route { IsRoute req.now routed.now }
+    requires idle { (C.facts client.old).watching ≡ None }
+    requires settings { AreInRange settings.now }
+    ensures answered { Answered (terms_of C.base C.mirror (C.facts client.old) settings.now) (C.whole client.old) (C.pass client.old) req.now
+        (record { written = K.written sink.old; readings = T.readings clock.old })
+        (record { written = K.written sink.new; readings = T.readings clock.new }) (C.pass client.new) result }
+    ensures facts { C.facts client.new ≡ record (C.facts client.old) { heard = (C.facts client.new).heard } }
+    ensures kept { C.whole client.old → UnlessMemory result (C.whole client.new) }
+    ensures settled { OnOk result (K.settled sink.new) }
+    ensures counts { Counts result (K.faults sink.old) (K.faults sink.new) }
+    ensures never_falls { K.faults sink.old ≤ K.faults sink.new }
+{
+    match routed {
+        Routed::Write(ask) => by_reply(step_write(alloc, client, sink, req, ask)),
+        Routed::Get(ask) => by_reply(step_get(alloc, client, sink, req, ask)),
+        Routed::List(ask) => by_reply(step_list(alloc, client, sink, req, ask)),
+        Routed::Watch(ask) => step_watch(alloc, client, sink, clock, req, ask, settings),
+        Routed::Operate(ask) => by_reply(step_operate(alloc, client, sink, req, *ask)),
+        Routed::Transact(ask) => by_reply(step_transact(alloc, client, sink, req, ask)),
+    }
+}

@@ -1,0 +1,178 @@
+//! Requests that are answered by replies: one function a kind. Each asks the client, and writes what it answers.
+
+ghost use Rattle.std.specs.Prelude.{◌≡◌, ◌≤◌, None, OnOk};
+ghost use Rattle.std.specs.Bool.{MatchBool};
+ghost use Rattle.client_api.specs.Told.{IsToldRead, IsToldWrite, IsToldTx, IsToldOperation};
+ghost use Rattle.route_req.specs.Asks.{IsRoute};
+ghost use Rattle.route_req.specs.declared.routing.Routed.TheVariants as routed;
+ghost use Rattle.sess_reply.specs.Sending.{Counts};
+ghost use Rattle.sess_turns.specs.Terms.{terms_of};
+ghost use Rattle.up_api.specs.declared.settings.Settings.{Settings};
+ghost use Rattle.sess_serve.specs.Serving.{Replied, UnlessMemory};
+
+use client_api::{Client, Got, ListNo, Listed};
+use edge_io::Sink;
+use http_read::Req;
+use list_rules::{GetAsk, ListAsk};
+use sess_reply::{
+    Broken, form_of, send_got, send_listed, send_operated, send_transacted, send_written,
+};
+use std::alloc::Global;
+use up_store::{OpNo, Operate, Transaction, TxWriteNo, WriteAsk, WriteNo, Written};
+
+// Whether an answer isn't want of memory.
+
+fn is_told_write(answer: &Result<Written, WriteNo>) -> bool
+    ensures { MatchBool result (IsToldWrite answer.now) (answer.now ≡ Err WriteNo.Memory) }
+{
+    !matches!(answer, Err(WriteNo::Memory))
+}
+
+fn is_told_transaction(answer: &Result<Vec<Written>, TxWriteNo>) -> bool
+    ensures { MatchBool result (IsToldTx answer.now) (answer.now ≡ Err TxWriteNo.Memory) }
+{
+    !matches!(answer, Err(TxWriteNo::Memory))
+}
+
+fn is_told_get(answer: &Result<Got, ListNo>) -> bool
+    ensures { MatchBool result (IsToldRead answer.now) (answer.now ≡ Err ListNo.Memory) }
+{
+    !matches!(answer, Err(ListNo::Memory))
+}
+
+fn is_told_list(answer: &Result<Listed, ListNo>) -> bool
+    ensures { MatchBool result (IsToldRead answer.now) (answer.now ≡ Err ListNo.Memory) }
+{
+    !matches!(answer, Err(ListNo::Memory))
+}
+
+fn is_told_operation(answer: Result<u64, OpNo>) -> bool
+    ensures { MatchBool result (IsToldOperation answer) (answer ≡ Err OpNo.Memory) }
+{
+    !matches!(answer, Err(OpNo::Memory))
+}
+
+/// A create, a replacement or a removal.
+pub fn step_write<C: Client, K: Sink>(
+    alloc: Global,
+    client: &mut C,
+    sink: &mut K,
+    req: &Req,
+    ask: &WriteAsk,
+) -> Result<(), Broken>
+    requires { IsRoute req.now (routed.Write ask.now) }
+    ensures replied { (s : Settings) → Replied (terms_of C.base C.mirror (C.facts client.old) s) (C.whole client.old)
+        (C.pass client.old) req.now (K.written sink.old) (K.written sink.new) (C.pass client.new) result }
+    ensures facts { C.facts client.new ≡ C.facts client.old }
+    ensures kept { C.whole client.old → UnlessMemory result (C.whole client.new) }
+    ensures settled { OnOk result (K.settled sink.new) }
+    ensures counts { Counts result (K.faults sink.old) (K.faults sink.new) }
+    ensures never_falls { K.faults sink.old ≤ K.faults sink.new }
+{
+    let answer = client.write(ask);
+    if is_told_write(&answer) {
+        send_written(alloc, sink, req.close, ask, &answer)
+    } else {
+        Err(Broken::Memory)
+    }
+}
+
+/// A transaction.
+pub fn step_transact<C: Client, K: Sink>(
+    alloc: Global,
+    client: &mut C,
+    sink: &mut K,
+    req: &Req,
+    ask: &Transaction,
+) -> Result<(), Broken>
+    requires { IsRoute req.now (routed.Transact ask.now) }
+    ensures replied { (s : Settings) → Replied (terms_of C.base C.mirror (C.facts client.old) s) (C.whole client.old)
+        (C.pass client.old) req.now (K.written sink.old) (K.written sink.new) (C.pass client.new) result }
+    ensures facts { C.facts client.new ≡ C.facts client.old }
+    ensures kept { C.whole client.old → UnlessMemory result (C.whole client.new) }
+    ensures settled { OnOk result (K.settled sink.new) }
+    ensures counts { Counts result (K.faults sink.old) (K.faults sink.new) }
+    ensures never_falls { K.faults sink.old ≤ K.faults sink.new }
+{
+    let answer = client.transact(ask);
+    if is_told_transaction(&answer) {
+        send_transacted(alloc, sink, req.close, ask, &answer)
+    } else {
+        Err(Broken::Memory)
+    }
+}
+
+/// A get of one object.
+pub fn step_get<C: Client, K: Sink>(
+    alloc: Global,
+    client: &mut C,
+    sink: &mut K,
+    req: &Req,
+    ask: &GetAsk,
+) -> Result<(), Broken>
+    requires { IsRoute req.now (routed.Get ask.now) }
+    ensures replied { (s : Settings) → Replied (terms_of C.base C.mirror (C.facts client.old) s) (C.whole client.old)
+        (C.pass client.old) req.now (K.written sink.old) (K.written sink.new) (C.pass client.new) result }
+    ensures facts { C.facts client.new ≡ C.facts client.old }
+    ensures kept { C.whole client.old → UnlessMemory result (C.whole client.new) }
+    ensures settled { OnOk result (K.settled sink.new) }
+    ensures counts { Counts result (K.faults sink.old) (K.faults sink.new) }
+    ensures never_falls { K.faults sink.old ≤ K.faults sink.new }
+{
+    let answer = client.get(ask);
+    if is_told_get(&answer) {
+        send_got(alloc, sink, form_of(req), req.close, ask, &answer)
+    } else {
+        Err(Broken::Memory)
+    }
+}
+
+/// A list, or a page of one.
+pub fn step_list<C: Client, K: Sink>(
+    alloc: Global,
+    client: &mut C,
+    sink: &mut K,
+    req: &Req,
+    ask: &ListAsk,
+) -> Result<(), Broken>
+    requires { IsRoute req.now (routed.List ask.now) }
+    ensures replied { (s : Settings) → Replied (terms_of C.base C.mirror (C.facts client.old) s) (C.whole client.old)
+        (C.pass client.old) req.now (K.written sink.old) (K.written sink.new) (C.pass client.new) result }
+    ensures facts { C.facts client.new ≡ C.facts client.old }
+    ensures kept { C.whole client.old → UnlessMemory result (C.whole client.new) }
+    ensures settled { OnOk result (K.settled sink.new) }
+    ensures counts { Counts result (K.faults sink.old) (K.faults sink.new) }
+    ensures never_falls { K.faults sink.old ≤ K.faults sink.new }
+{
+    let answer = client.list(ask);
+    if is_told_list(&answer) {
+        send_listed(alloc, sink, form_of(req), req.close, ask, &answer)
+    } else {
+        Err(Broken::Memory)
+    }
+}
+
+/// An operation on the log and its server.
+pub fn step_operate<C: Client, K: Sink>(
+    alloc: Global,
+    client: &mut C,
+    sink: &mut K,
+    req: &Req,
+    ask: Operate,
+) -> Result<(), Broken>
+    requires { IsRoute req.now (routed.Operate ask) }
+    ensures replied { (s : Settings) → Replied (terms_of C.base C.mirror (C.facts client.old) s) (C.whole client.old)
+        (C.pass client.old) req.now (K.written sink.old) (K.written sink.new) (C.pass client.new) result }
+    ensures facts { C.facts client.new ≡ C.facts client.old }
+    ensures kept { C.whole client.old → UnlessMemory result (C.whole client.new) }
+    ensures settled { OnOk result (K.settled sink.new) }
+    ensures counts { Counts result (K.faults sink.old) (K.faults sink.new) }
+    ensures never_falls { K.faults sink.old ≤ K.faults sink.new }
+{
+    let answer = client.operate(ask);
+    if is_told_operation(answer) {
+        send_operated(alloc, sink, req.close, ask, answer)
+    } else {
+        Err(Broken::Memory)
+    }
+}
