@@ -1,9 +1,9 @@
 //! Times the tree of a cache's objects and its ring of events beside the plain collections of std, for
 //! 1,000 and for 100,000 objects.
 //!
-//! Without words it compares the tree with a plain map once, counts who holds its objects, and prints a line of each. With the word `time` it
-//! prints, for each step and each size, the nanoseconds that it and its plain fellow take and their ratio,
-//! as the best of some runs that take turns.
+//! Without words it compares the tree with a plain map once, counts who holds its objects, and prints a
+//! line of each. With the word `time` it prints, for each step and each size, the nanoseconds that it and
+//! its plain fellow take and their ratio, as the best of some runs that take turns.
 #![tactic(auto)]
 
 mod ring;
@@ -51,8 +51,9 @@ fn agree(alloc: Global) -> Result<bool, Memory> {
     )
 }
 
-/// How often a thousand objects are held by a list, a tree that they were put into and a snapshot of it. An object that is
-/// shared is held by the list and by a page, which the snapshot shares: 2,000 times in all. No contract can say this.
+/// How often a thousand objects are held by a list, a tree that they were put into and a snapshot of it. An
+/// object that is shared is held by the list and by a page, which the snapshot shares: 2,000 times in all.
+/// No contract can say this.
 fn holders(alloc: Global) -> Result<usize, Memory> {
     let rows = rows(alloc, 1_000)?;
     let mut tree = Tree::new(alloc)?;

@@ -7,7 +7,8 @@ use kube_meta::{
 use std::alloc::Global;
 
 /// Rows: `namespace T`, `name T`, `label key T`, `label value T`, `revision T`, `key NAMESPACE NAME`, `read T`,
-/// `order KEY KEY`, `rank PLURAL PLURAL`, `resource PLURAL`, `group GROUP VERSION PLURAL`, where the core group is `core`.
+/// `order KEY KEY`, `rank PLURAL PLURAL`, `resource PLURAL`, `group GROUP VERSION PLURAL`, where the core group is
+/// `core`.
 pub fn answer(alloc: Global, input: &str) -> Answer {
     let (what, text) = input.split_once(' ').unwrap_or((input, ""));
     match what {

@@ -1,8 +1,8 @@
-//! Whole sessions as data: each file that the command line names has cases, and each case is what a client sends, how the
-//! server is set, and what the client gets back, byte for byte, with the end of the session.
+//! Whole sessions as data: each file that the command line names has cases, and each case is what a client sends, how
+//! the server is set, and what the client gets back, byte for byte, with the end of the session.
 //!
-//! Each case is served in pieces of 1 and of 65,536 bytes. A case that comes out otherwise is printed with both texts; the
-//! last line counts. How cases are written stands in `data/README.txt`.
+//! Each case is served in pieces of 1 and of 65,536 bytes. A case that comes out otherwise is printed with both
+//! texts; the last line counts. How cases are written stands in `data/README.txt`.
 #![tactic(auto)]
 
 mod case;
