@@ -1,7 +1,7 @@
 -- The reasons of failures, with the HTTP status of each (Kubernetes API reference, `Status`; RFC 9110, section 15).
 use Rattle.std.specs.Prelude.{ℕ, List, Bool, true, false, codes}
 use Rattle.api_errors.specs.declared.reasons.Reason.{Reason}
-use Rattle.api_errors.specs.declared.reasons.Reason.TheVariants.{BadRequest, NotFound, MethodNotAllowed, AlreadyExists, Conflict, Expired, LengthRequired, RequestEntityTooLarge, Invalid, InternalError, NotBuilt, Timeout}
+use Rattle.api_errors.specs.declared.reasons.Reason.TheVariants.{BadRequest, NotFound, MethodNotAllowed, AlreadyExists, Conflict, Expired, LengthRequired, RequestEntityTooLarge, Invalid, InternalError, Timeout}
 
 abbrev pub code_of : Reason → ℕ
 code_of BadRequest = 400
@@ -14,7 +14,6 @@ code_of LengthRequired = 411
 code_of RequestEntityTooLarge = 413
 code_of Invalid = 422
 code_of InternalError = 500
-code_of NotBuilt = 501
 code_of Timeout = 504
 
 abbrev pub text_of : Reason → List ℕ
@@ -28,7 +27,6 @@ text_of LengthRequired = codes "LengthRequired"
 text_of RequestEntityTooLarge = codes "RequestEntityTooLarge"
 text_of Invalid = codes "Invalid"
 text_of InternalError = codes "InternalError"
-text_of NotBuilt = codes "NotBuilt"
 text_of Timeout = codes "Timeout"
 
 -- to be asked again in a second: a resource version that isn't reached yet
@@ -43,5 +41,4 @@ is_too_large LengthRequired = false
 is_too_large RequestEntityTooLarge = false
 is_too_large Invalid = false
 is_too_large InternalError = false
-is_too_large NotBuilt = false
 is_too_large Timeout = true

@@ -7,7 +7,7 @@ use Rattle.json_obj.specs.Replies.{expired_message}
 use Rattle.json_obj.specs.declared.replies.Refusal.{Refusal}
 use Rattle.api_errors.specs.Reasons.{code_of, text_of, is_too_large}
 use Rattle.api_errors.specs.declared.reasons.Reason.{Reason}
-use Rattle.api_errors.specs.declared.reasons.Reason.TheVariants.{BadRequest, NotFound, MethodNotAllowed, AlreadyExists, Conflict, Expired, Invalid, InternalError, NotBuilt, Timeout}
+use Rattle.api_errors.specs.declared.reasons.Reason.TheVariants.{BadRequest, NotFound, MethodNotAllowed, AlreadyExists, Conflict, Expired, Invalid, InternalError, Timeout}
 use Rattle.api_errors.specs.declared.told.Told.{Told}
 
 abbrev pub say : Reason → List ℕ → Option Told
@@ -55,9 +55,6 @@ too_large asked current =
 
 abbrev pub bad_upgrade : Told
 bad_upgrade = record { reason = BadRequest; message = codes "websocket: BadUpgrade" }
-
-abbrev pub not_built : Told
-not_built = record { reason = NotBuilt; message = codes "not built" }
 
 -- the same for a Status
 abbrev pub refusal_of : Told → Refusal

@@ -14,7 +14,6 @@ pub use reasons::Reason;
 pub use requests::request_told;
 pub use routes::route_told;
 pub use told::{
-    Told, already_exists, bad_upgrade, conflict, expired, not_built, not_found, read_only,
-    too_large, used_up,
+    Told, already_exists, bad_upgrade, conflict, expired, not_found, read_only, too_large, used_up,
 };
 pub use writes::{operation_told, write_no, write_told};

@@ -15,7 +15,6 @@ pub enum Reason {
     RequestEntityTooLarge,
     Invalid,
     InternalError,
-    NotBuilt,
     Timeout,
 }
 
@@ -36,7 +35,6 @@ impl Reason {
             Reason::RequestEntityTooLarge => 413,
             Reason::Invalid => 422,
             Reason::InternalError => 500,
-            Reason::NotBuilt => 501,
             Reason::Timeout => 504,
         }
     }
@@ -56,7 +54,6 @@ impl Reason {
             Reason::RequestEntityTooLarge => "RequestEntityTooLarge",
             Reason::Invalid => "Invalid",
             Reason::InternalError => "InternalError",
-            Reason::NotBuilt => "NotBuilt",
             Reason::Timeout => "Timeout",
         }
     }

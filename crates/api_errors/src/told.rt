@@ -159,13 +159,6 @@ pub fn bad_upgrade(alloc: Global) -> Result<Told, Memory>
     plain(alloc, Reason::BadRequest, "websocket: BadUpgrade")
 }
 
-/// A form that isn't built yet.
-pub fn not_built(alloc: Global) -> Result<Told, Memory>
-    ensures { IfOk result (λ told. told ≡ spec.not_built) }
-{
-    plain(alloc, Reason::NotBuilt, "not built")
-}
-
 fn plain(alloc: Global, reason: Reason, message: &str) -> Result<Told, Memory>
     ensures { IfOk result (λ told. Some told ≡ spec.say reason message.now) }
 {
