@@ -6,6 +6,7 @@
 //! answers; the last line counts rows and mismatches. How rows are written stands in `data/README.txt`.
 #![tactic(auto)]
 
+mod command_lines;
 mod fields;
 mod labels;
 mod lists;

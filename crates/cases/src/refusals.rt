@@ -3,8 +3,8 @@
 use crate::routes;
 use crate::samples::{Answer, resource, words};
 use api_errors::{
-    Told, already_exists, bad_upgrade, conflict, expired, not_built, not_found, operation_told,
-    read_only, request_told, route_told, too_large, used_up, write_told,
+    Told, already_exists, bad_upgrade, conflict, expired, not_found, operation_told, read_only,
+    request_told, route_told, too_large, used_up, write_told,
 };
 use edge_io::MemSource;
 use http_read::Reader;
@@ -15,7 +15,7 @@ use up_store::{OpNo, WriteNo};
 /// Rows: `route METHOD TARGET` and `route METHOD TARGET | BODY`, by the route's refusal; `request BYTES`, by the
 /// reader's; and by name `exists RESOURCE NAME`, `absent RESOURCE NAME`, `stale RESOURCE NAME`, which stands at 3 and
 /// was given as 2, `write RESOURCE NAME`, the same as a write's refusal, `expired`, `too-large`, `used-up`,
-/// `read-only`, `bad-upgrade`, `not-built`, `cut`.
+/// `read-only`, `bad-upgrade`, `cut`.
 pub fn answer(alloc: Global, input: &str) -> Answer {
     let (what, text) = input.split_once(' ').unwrap_or((input, ""));
     match what {
@@ -88,7 +88,6 @@ fn named(alloc: Global, what: &str) -> Answer {
         "used-up" => Some(used_up(alloc)?),
         "read-only" => Some(read_only(alloc)?),
         "bad-upgrade" => Some(bad_upgrade(alloc)?),
-        "not-built" => Some(not_built(alloc)?),
         "cut" => operation_told(alloc, OpNo::UsedUp { at: 4 })?,
         _ => return Ok(None),
     };

@@ -1,8 +1,8 @@
 //! What the rows of a file ask.
 
 use crate::{
-    fields, labels, lists, names, objects, params, refusals, replies, requests, routes, selections,
-    watches,
+    command_lines, fields, labels, lists, names, objects, params, refusals, replies, requests,
+    routes, selections, watches,
 };
 use std::alloc::{AllocError, Global};
 
@@ -33,6 +33,8 @@ pub enum Subject {
     Refusals,
     /// Texts of replies.
     Replies,
+    /// What command lines ask for.
+    CommandLines,
 }
 
 impl Subject {
@@ -51,6 +53,7 @@ impl Subject {
             "objects.txt" => Some(Subject::Objects),
             "refusals.txt" => Some(Subject::Refusals),
             "replies.txt" => Some(Subject::Replies),
+            "command_lines.txt" => Some(Subject::CommandLines),
             _ => None,
         }
     }
@@ -70,6 +73,7 @@ impl Subject {
             Subject::Objects => objects::answer(alloc, input)?,
             Subject::Refusals => refusals::answer(alloc, input)?,
             Subject::Replies => replies::answer(alloc, input)?,
+            Subject::CommandLines => command_lines::answer(alloc, input)?,
         };
         match answer {
             Some(answer) => Ok(answer),
