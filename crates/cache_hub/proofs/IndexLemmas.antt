@@ -1,0 +1,139 @@
+-- The index and the map of lanes agree, and numbers that were not given out are free.
+use Rattle.std.proofs.Common.{◌≡◌, ◌==◌, ℕ, ◌≤◌, ◌<◌, Bool, true, false, cond, eqb-true, List, [], ◌∷◌, map, Option, Some, None, nat_lt, not, ◌&&◌, option_map, refl, sym, ap, ◌∙◌, subst, arith}
+use Rattle.std.specs.Prelude.{IsTrue, ◌||◌}
+use Rattle.std.specs.Map.{lookup}
+use Rattle.std.specs.Ordering.{is_eq, nat_cmp}
+use Rattle.kube_meta.specs.declared.objects.Obj.{Obj}
+use Rattle.select_all.specs.declared.selection.Selection.{Selection}
+use Rattle.select_all.specs.Selecting.{holds}
+use Rattle.select_all.specs.Streams.{TransitionData, object_of}
+use Rattle.event_ring.specs.Events.{EventRows}
+use Rattle.kube_meta.specs.Rows.{RowData}
+use Rattle.watch_lane.specs.Index.{IndexData, Sets, lane_at, is_listed}
+use Rattle.cache_hub.specs.OpenLanes.{OpenLaneData, SetsLane, AreChanged, open_at}
+use Rattle.cache_hub.specs.Due.{due, due_in, due_at, transition_of}
+use Rattle.cache_hub.proofs.WaitingLemmas.{by_test}
+
+abbrev pub selection_in : Option OpenLaneData → Option Selection
+selection_in o = option_map (λ l. l.lane.selection) o
+
+-- the index has the selection of each lane
+abbrev pub IsIndexed : IndexData → List (ℕ × OpenLaneData) → Type 0
+IsIndexed index lanes = (id : ℕ) → lane_at index.lanes id ≡ selection_in (open_at lanes id)
+
+abbrev pub AreFree : ℕ → List (ℕ × OpenLaneData) → Type 0
+AreFree next lanes = (id : ℕ) → next ≤ id → open_at lanes id ≡ None
+
+pub indexed_set : (index later : IndexData) (lanes new : List (ℕ × OpenLaneData)) (id : ℕ) (lane : Option OpenLaneData) → IsIndexed index lanes →
+    Sets index later id (selection_in lane) → SetsLane lanes new id lane → IsIndexed later new
+indexed_set index later lanes new id lane indexed sets puts = λ other.
+    sets.lanes other ∙ by (id == other) other ∙ ap selection_in (sym (puts other))
+  where
+    by : (b : Bool) (other : ℕ) → cond b (selection_in lane) (lane_at index.lanes other) ≡ selection_in (cond b lane (open_at lanes other))
+    by true other = refl
+    by false other = indexed other
+
+pub indexed_changed : (index : IndexData) (change : OpenLaneData → OpenLaneData) (lanes new : List (ℕ × OpenLaneData)) → ((o : OpenLaneData) → (change o).lane.selection ≡ o.lane.selection) →
+    IsIndexed index lanes → AreChanged change lanes new → IsIndexed index new
+indexed_changed index change lanes new keeps indexed changed = λ id. indexed id ∙ by (open_at lanes id) ∙ ap selection_in (sym (changed id))
+  where
+    by : (o : Option OpenLaneData) → selection_in o ≡ selection_in (option_map change o)
+    by None = refl
+    by (Some o) = ap (λ (s : Selection). Some s) (sym (keeps o))
+
+pub free_changed : (next : ℕ) (change : OpenLaneData → OpenLaneData) (lanes new : List (ℕ × OpenLaneData)) → AreFree next lanes → AreChanged change lanes new → AreFree next new
+free_changed next change lanes new free changed = λ id above. changed id ∙ ap (option_map change) (free id above)
+
+pub free_closed : (next id : ℕ) (lanes new : List (ℕ × OpenLaneData)) → AreFree next lanes → SetsLane lanes new id None → AreFree next new
+free_closed next id lanes new free sets = λ other above. sets other ∙ by (id == other) other above
+  where
+    by : (b : Bool) (other : ℕ) → next ≤ other → cond b None (open_at lanes other) ≡ None
+    by true other above = refl
+    by false other above = free other above
+
+pub free_set : (next id : ℕ) (change : OpenLaneData → OpenLaneData) (lanes new : List (ℕ × OpenLaneData)) → AreFree next lanes → SetsLane lanes new id (option_map change (open_at lanes id)) → AreFree next new
+free_set next id change lanes new free sets = λ other above. sets other ∙ by_test (id == other)
+    (λ same. rw same (ap (option_map change) (free id (subst (λ n. next ≤ n) (sym (eqb-true id other same)) above))))
+    (λ differs. rw differs (free other above))
+
+pub free_put : (next later : ℕ) (lane : OpenLaneData) (lanes new : List (ℕ × OpenLaneData)) → AreFree next lanes → SetsLane lanes new next (Some lane) → next < later → AreFree later new
+free_put next later lane lanes new free sets more = λ other above. sets other ∙ by_test (next == other)
+    (λ same. absurd (omega (arith, above, more, eqb-true next other same)))
+    (λ differs. rw differs (free other (omega (arith, above, more))))
+
+-- a lane that is set to what it was, with the index as it was
+pub set_same : (lanes : List (ℕ × OpenLaneData)) (id : ℕ) → open_at lanes id ≡ None → SetsLane lanes lanes id None
+set_same lanes id none = λ other. by_test (id == other)
+    (λ same. rw same (subst (λ n. open_at lanes n ≡ None) (eqb-true id other same) none))
+    (λ differs. rw differs refl)
+
+-- ---- values that were all written
+
+pub mapped_lookup : (change : OpenLaneData → OpenLaneData) (test : ℕ → Bool) (lanes : List (ℕ × OpenLaneData)) → lookup test (map (λ e. (e.0, change e.1)) lanes) ≡ option_map change (lookup test lanes)
+mapped_lookup change test [] = refl
+mapped_lookup change test (e ∷ lanes) = by (test e.0) (mapped_lookup change test lanes)
+  where
+    by : (b : Bool) → lookup test (map (λ e. (e.0, change e.1)) lanes) ≡ option_map change (lookup test lanes) →
+        cond b (Some (change e.1)) (lookup test (map (λ e. (e.0, change e.1)) lanes)) ≡ option_map change (cond b (Some e.1) (lookup test lanes))
+    by true more = refl
+    by false more = more
+
+pub changed_by_map : (change : OpenLaneData → OpenLaneData) (lanes new : List (ℕ × OpenLaneData)) → new ≡ map (λ e. (e.0, change e.1)) lanes → AreChanged change lanes new
+changed_by_map change lanes new is = λ id. ap (λ xs. open_at xs id) is ∙ mapped_lookup change (λ other. is_eq (nat_cmp id other)) lanes
+
+-- ---- a lane that no event touches is told nothing
+
+untouched : (s : Selection) (event : EventRows) → (holds s (object_of event.before) || holds s (object_of event.now)) ≡ false → transition_of s event ≡ None
+untouched s event neither = by (holds s (object_of event.before)) (holds s (object_of event.now)) refl refl neither
+  where
+    by : (before now : Bool) → holds s (object_of event.before) ≡ before → holds s (object_of event.now) ≡ now → (before || now) ≡ false → transition_of s event ≡ None
+    by false false was is h = rw was (rw is refl)
+    by true now was is h = absurd (cc)
+    by false true was is h = absurd (cc)
+
+pub due_of : (lanes : List (ℕ × OpenLaneData)) (id : ℕ) (event : EventRows) (o : OpenLaneData) (line : TransitionData) → open_at lanes id ≡ Some o → Some line ≡ due o.lane event → due_at lanes id event ≡ Some line
+due_of lanes id event o line is told = ap (λ l. due_in l event) is ∙ sym told
+
+-- ---- lanes that were told
+
+pub indexed_changed_each : (index : IndexData) (change : ℕ → OpenLaneData → OpenLaneData) (lanes new : List (ℕ × OpenLaneData)) → ((id : ℕ) (o : OpenLaneData) → (change id o).lane.selection ≡ o.lane.selection) →
+    IsIndexed index lanes → ((id : ℕ) → open_at new id ≡ option_map (change id) (open_at lanes id)) → IsIndexed index new
+indexed_changed_each index change lanes new keeps indexed changed = λ id. indexed id ∙ by id (open_at lanes id) ∙ ap selection_in (sym (changed id))
+  where
+    by : (id : ℕ) (o : Option OpenLaneData) → selection_in o ≡ selection_in (option_map (change id) o)
+    by id None = refl
+    by id (Some o) = ap (λ (s : Selection). Some s) (sym (keeps id o))
+
+pub free_changed_each : (next : ℕ) (change : ℕ → OpenLaneData → OpenLaneData) (lanes new : List (ℕ × OpenLaneData)) → AreFree next lanes →
+    ((id : ℕ) → open_at new id ≡ option_map (change id) (open_at lanes id)) → AreFree next new
+free_changed_each next change lanes new free changed = λ id above. changed id ∙ ap (option_map (change id)) (free id above)
+
+clash : false ≡ true → ⊥
+clash e = absurd (cc)
+
+no_due : (b : Bool) (line : Option TransitionData) → line ≡ None → cond b line None ≡ None
+no_due true line none = none
+no_due false line none = refl
+
+-- the lanes that the index doesn't answer are told nothing
+pub untold : (index : IndexData) (lanes all : List (ℕ × OpenLaneData)) (ids : List ℕ) (event : EventRows) (old new : Option Obj) → IsIndexed index lanes → lanes ≡ all →
+    old ≡ object_of event.before → new ≡ object_of event.now →
+    ((id : ℕ) (s : Selection) → lane_at index.lanes id ≡ Some s → IsTrue (holds s old || holds s new) → IsTrue (is_listed ids id)) →
+    (q : ℕ) → is_listed ids q ≡ false → due_at all q event ≡ None
+untold index lanes all ids event old new indexed same was is listed q other =
+    subst (λ l. due_at l q event ≡ None) same (by (open_at lanes q) refl)
+  where
+    none : (o : OpenLaneData) → lane_at index.lanes q ≡ Some o.lane.selection → due o.lane event ≡ None
+    none o here = by_test (holds o.lane.selection old || holds o.lane.selection new)
+        (λ touched. absurd (clash (sym other ∙ listed q o.lane.selection here touched)))
+        (λ neither. no_due (not o.lane.behind && nat_lt o.lane.mark event.rev) (transition_of o.lane.selection event)
+        (untouched o.lane.selection event (ap (λ x. holds o.lane.selection x || holds o.lane.selection (object_of event.now)) (sym was) ∙ ap (λ x. holds o.lane.selection old || holds o.lane.selection x) (sym is) ∙ neither)))
+
+    by : (o : Option OpenLaneData) → open_at lanes q ≡ o → due_in (open_at lanes q) event ≡ None
+    by None is = ap (λ l. due_in l event) is
+    by (Some o) is = ap (λ l. due_in l event) is ∙ none o (indexed q ∙ ap selection_in is)
+
+-- the object of a row that is shared
+pub object_is : {A : Type 0} (row : A → RowData) (x : Option A) → option_map (λ s. (row s).obj) x ≡ object_of (option_map row x)
+object_is row None = refl
+object_is row (Some s) = refl

@@ -1,0 +1,7 @@
+pub mod LogLemmas
+pub mod LaneLemmas
+pub mod WaitingLemmas
+pub mod SendLemmas
+pub mod IndexLemmas
+pub mod CatchLemmas
+pub mod HubLemmas

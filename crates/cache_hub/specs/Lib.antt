@@ -1,0 +1,4 @@
+pub mod OpenLanes
+pub mod Due
+pub mod Catching
+pub mod Hubs

@@ -1,0 +1,12 @@
+//! The cache of one resource with the lanes of its watchers: what the cache takes in is told to those whom it concerns,
+//! and whoever falls behind catches up from the cache's last events.
+#![tactic(auto)]
+
+mod catching;
+mod due;
+mod hub;
+mod lanes;
+mod open_lane;
+
+pub use catching::{CatchNo, Caught};
+pub use hub::Hub;

@@ -1,0 +1,198 @@
+//! What is kept of one lane.
+
+ghost use Rattle.std.specs.Prelude.{◌≡◌, ◌≢◌, ◌≤◌, ◌⊎◌, Bool, false, Some, [], ◌∷◌, ◌++◌, map, IfOk, is_some, option_map, option_copied};
+ghost use Rattle.std.specs.List.{list_any};
+ghost use Rattle.rev_front.specs.Passes.{end_from};
+ghost use Rattle.up_api.specs.Sections.{log_of};
+ghost use Rattle.cache_world.specs.Lanes.{unsent, opened_lane, batch_between};
+ghost use Rattle.cache_hub.specs.Due.{IsWaiting, due, missed, transition_of};
+ghost use Rattle.cache_hub.specs.OpenLanes.{batch_of, told_lane, left_behind, caught_up};
+
+use encode_once::Shown;
+use event_ring::Event;
+use kube_meta::{Memory, Obj};
+use select_all::Selection;
+use std::alloc::Global;
+use std::marker::Model;
+use std::sync::Arc;
+use up_api::{LogFacts, Pass};
+use watch_lane::{Batch, LaneIn, Line};
+
+/// A watcher's selection, the revision up to which it was told everything, whether it is behind and so gets nothing
+/// until it has caught up, and the end of its queue.
+#[derive(Drop)]
+pub(crate) struct OpenLane<N: LogFacts> {
+    selection: Selection,
+    mark: u64,
+    behind: bool,
+    queue: LaneIn<N>,
+}
+
+impl<N: LogFacts> Model for OpenLane<N> {
+    ghost use Rattle.std.specs.Prelude.{map};
+    ghost use Rattle.cache_hub.specs.OpenLanes.{OpenLaneData, batch_of};
+
+    ghost Value = { OpenLaneData };
+
+    ghost view = { λ l. record { lane = record { selection = l.selection; mark = l.mark; behind = l.behind }; room = l.queue.capacity; sent = map batch_of l.queue.sent } };
+}
+
+impl<N: LogFacts> OpenLane<N> {
+    /// A lane that is opened at a position of a cache with this end.
+    pub fn new(selection: Selection, at: u64, end: u64, queue: LaneIn<N>) -> OpenLane<N>
+        ensures { result ≡ record { lane = opened_lane selection at end; room = queue.capacity; sent = map batch_of queue.sent } }
+    {
+        OpenLane {
+            selection,
+            mark: at,
+            behind: at < end,
+            queue,
+        }
+    }
+
+    /// What it has to be told of an event: nothing while it is behind, or where it was told already.
+    pub fn due(&self, event: &Event) -> Result<Option<Line>, Memory>
+        ensures { IfOk result (λ line. line ≡ due self.now.lane event.entry.now) }
+    {
+        if self.behind || event.rev <= self.mark {
+            return Ok(None);
+        }
+        line_of(&self.selection, event)
+    }
+
+    /// Sends what waits for the lane, if anything does.
+    pub fn take(&mut self, alloc: Global, lines: Vec<Line>, end: u64, told: &mut Pass<N>)
+        requires within { end ≤ end_from told.old.first told.old.seen }
+        requires waiting { IsWaiting (log_of N.base told.old) end lines.items (Some self.old) }
+        ensures told { told.new ≡ told.old }
+        ensures sent { (falls : Bool) × (self.new ≡ told_lane (log_of N.base told.old) end falls self.old) }
+    {
+        if !lines.is_empty() {
+            self.send(alloc, lines, end, told);
+        }
+    }
+
+    // Sends what came up to `end` as one batch. Where the queue is full, or there is no memory for the batch, the
+    // lane is behind.
+    fn send(&mut self, alloc: Global, lines: Vec<Line>, end: u64, told: &mut Pass<N>)
+        requires within { end ≤ end_from told.old.first told.old.seen }
+        requires in_step { self.old.lane.behind ≡ false }
+        requires lines { lines.items ≡ unsent (log_of N.base told.old) end self.old.lane }
+        requires some { lines.items ≢ [] }
+        ensures told { told.new ≡ told.old }
+        ensures sent { (falls : Bool) × (self.new ≡ told_lane (log_of N.base told.old) end falls self.old) }
+    {
+        match self.batch(alloc, lines, end, told) {
+            Ok(batch) => self.push(batch, end),
+            Err(Memory) => self.behind = true,
+        }
+    }
+
+    // The batch from the mark to the end.
+    fn batch(
+        &self,
+        alloc: Global,
+        lines: Vec<Line>,
+        end: u64,
+        told: &mut Pass<N>,
+    ) -> Result<Batch<N>, Memory>
+        requires within { end ≤ end_from told.old.first told.old.seen }
+        requires lines { lines.items ≡ unsent (log_of N.base told.old) end self.now.lane }
+        requires some { lines.items ≢ [] }
+        ensures told { told.new ≡ told.old }
+        ensures batch { IfOk result (λ batch. batch_of batch ≡ batch_between (log_of N.base told.old) self.now.lane.selection self.now.lane.mark end) }
+    {
+        let selection = self.selection.copy(alloc)?;
+        let note = told.split()?;
+        Ok(Batch::new(self.mark, end, selection, lines, note))
+    }
+
+    // Pushes a batch that goes to `end`, which is the mark then; or, where the queue is full, the lane is behind.
+    fn push(&mut self, batch: Batch<N>, end: u64)
+        ensures { (self.new ≡ record self.old { lane = record self.old.lane { mark = end }; sent = self.old.sent ++ batch_of batch ∷ [] }) ⊎ (self.new ≡ left_behind self.old) }
+    {
+        match self.queue.push(batch) {
+            Ok(()) => self.mark = end,
+            Err(_) => self.behind = true,
+        }
+    }
+
+    /// Is behind, if one of the events concerns it.
+    pub fn miss(&mut self, events: &[Event])
+        ensures { self.new ≡ missed events.now self.old }
+    {
+        if self.is_concerned(events) {
+            self.behind = true;
+        }
+    }
+
+    fn is_concerned(&self, events: &[Event]) -> bool
+        ensures { result ≡ list_any (λ event. is_some (due self.now.lane event)) events.now }
+    {
+        for event in events {
+            if self.is_due(event) {
+                return true;
+            }
+        }
+        false
+    }
+
+    fn is_due(&self, event: &Event) -> bool
+        ensures { result ≡ is_some (due self.now.lane event.entry.now) }
+    {
+        !self.behind && self.mark < event.rev && concerns(&self.selection, event)
+    }
+
+    /// Is behind.
+    pub fn lag(&mut self)
+        ensures { self.new ≡ left_behind self.old }
+    {
+        self.behind = true;
+    }
+
+    /// Takes note that the watcher has caught up to a revision. At the cache's end it isn't behind any longer.
+    pub fn catch_up(&mut self, to: u64, end: u64)
+        ensures { self.new ≡ caught_up to end self.old }
+    {
+        if end <= to {
+            self.mark = to;
+            self.behind = false;
+        }
+    }
+}
+
+/// The line that tells a watch of an event, if it concerns it: the object now, or where that isn't selected the one
+/// before, with the revision of the change. The object is shared.
+pub(crate) fn line_of(selection: &Selection, event: &Event) -> Result<Option<Line>, Memory>
+    ensures { IfOk result (λ line. line ≡ transition_of selection.now event.entry.now) }
+{
+    let Some(kind) = selection.passes(object(&event.before), object(&event.now)) else {
+        return Ok(None);
+    };
+    match kind.told(event.left.as_ref(), event.now.as_ref()) {
+        Some(shown) => Ok(Some(Line {
+            kind,
+            shown: Arc::try_clone(shown)?,
+        })),
+        None => Ok(None),
+    }
+}
+
+// Whether an event concerns a watch.
+pub(crate) fn concerns(selection: &Selection, event: &Event) -> bool
+    ensures { result ≡ is_some (transition_of selection.now event.entry.now) }
+{
+    selection
+        .passes(object(&event.before), object(&event.now))
+        .is_some()
+}
+
+/// The object, if there is one.
+pub(crate) fn object(shown: &Option<Arc<Shown>>) -> Option<&Obj>
+    ensures { option_copied result ≡ option_map (λ s. s.value.obj) shown.now }
+{
+    match shown {
+        Some(shown) => Some(&shown.row().obj),
+        None => None,
+    }
+}
