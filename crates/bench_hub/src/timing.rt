@@ -1,0 +1,263 @@
+//! The cache and the plain one beside each other, and what is printed with the word `time`.
+
+ghost use Rattle.std.specs.Prelude.{◌≡◌};
+ghost use Rattle.kube_meta.specs.declared.resources.Resource.TheVariants.{Pods};
+
+use crate::plain::Plain;
+use crate::scene::{Scene, WINDOW, since};
+use crate::things::{change, node};
+use kube_meta::{Memory, Resource};
+use select_all::Selection;
+use std::alloc::Global;
+use std::io;
+use std::rt::{Clock, Runtime};
+use std::sync::Arc;
+use std::time::Instant;
+use up_api::LogFacts;
+use watch_lane::LaneOut;
+
+/// What a step and its plain fellow take, in nanoseconds.
+#[derive(Clone, Copy)]
+pub struct Pair {
+    step: u64,
+    plain: u64,
+}
+
+const ZERO: Pair = Pair { step: 0, plain: 0 };
+
+const NONE: Pair = Pair {
+    step: u64::MAX,
+    plain: u64::MAX,
+};
+
+impl Pair {
+    fn plus(self, step: u64, plain: u64) -> Pair {
+        Pair {
+            step: self.step.saturating_add(step),
+            plain: self.plain.saturating_add(plain),
+        }
+    }
+
+    fn best(self, other: Pair) -> Pair {
+        Pair {
+            step: self.step.min(other.step),
+            plain: self.plain.min(other.plain),
+        }
+    }
+}
+
+/// How many objects a cache has, how many it had before, how many lines came since, and whether a plain cache has as
+/// many.
+#[derive(Clone, Copy)]
+pub struct Counts {
+    pub rows: usize,
+    pub old_rows: usize,
+    pub caught: usize,
+    pub plain_agrees: bool,
+}
+
+/// A cache, a plain one with the same objects, and a lane of the first for each of some nodes.
+#[derive(Drop)]
+pub struct Bench<N: LogFacts> {
+    alloc: Global,
+    scene: Scene<N>,
+    plain: Plain,
+    lanes: Vec<LaneOut<N>>,
+}
+
+/// The pods of one node, or all where none is given.
+#[derive(Drop)]
+struct Asked {
+    selection: Selection,
+    ghost of: { selection.resource ≡ Pods },
+}
+
+fn pods_of(alloc: Global, fields: &str) -> Result<Asked, Memory> {
+    match Selection::read(alloc, Resource::Pods, None, "", fields) {
+        Ok(selection) => Ok(Asked { selection }),
+        Err(_) => Err(Memory),
+    }
+}
+
+impl<N: LogFacts> Bench<N> {
+    /// A plain cache beside the scene's.
+    pub fn new(alloc: Global, scene: Scene<N>) -> Result<Bench<N>, Memory> {
+        let mut plain = Plain::new(alloc, WINDOW);
+        let snapshot = scene.hub.snapshot()?;
+        for shown in snapshot.range(None) {
+            plain.fill(shown)?;
+        }
+        Ok(Bench {
+            alloc,
+            scene,
+            plain,
+            lanes: Vec::new(alloc),
+        })
+    }
+
+    /// Opens lanes for nodes, until there are so many.
+    pub fn open_to(&mut self, many: usize) -> Result<(), Memory> {
+        for number in self.lanes.len()..many {
+            self.open(number)?;
+        }
+        Ok(())
+    }
+
+    fn open(&mut self, number: usize) -> Result<(), Memory> {
+        let node = node(self.alloc, number)?;
+        let fields = format!(in self.alloc; "spec.nodeName={}", node.as_str())?;
+        let asked = pods_of(self.alloc, fields.as_str())?;
+        self.lanes.push(self.scene.open(&asked.selection)?)?;
+        self.plain.open(node)
+    }
+
+    /// Makes so many changes, which both caches then take in one by one.
+    pub fn changes<R: Clock>(&mut self, rt: &R, many: usize) -> io::Result<Pair> {
+        for number in 0..many {
+            let ask = change(self.alloc, number, self.plain.len())?;
+            self.scene.write(&ask);
+        }
+        let mut pair = ZERO;
+        for _ in 0..many {
+            pair = self.change(rt, pair)?;
+        }
+        Ok(pair)
+    }
+
+    fn change<R: Clock>(&mut self, rt: &R, pair: Pair) -> io::Result<Pair> {
+        let Some((polled, took)) = self.scene.take_next(rt)? else {
+            return Ok(pair);
+        };
+        let from = Instant::now(rt)?;
+        self.plain.take_in(&polled)?;
+        Ok(pair.plus(took, since(rt, from)?))
+    }
+
+    /// Takes all batches out of the lanes. The answer is how many lines they had.
+    pub fn drain(&mut self) -> usize {
+        let mut lines = 0usize;
+        for lane in &mut self.lanes {
+            for _ in 0..256 {
+                let Some(batch) = lane.ready() else {
+                    break;
+                };
+                lines = lines.saturating_add(batch.lines.len());
+            }
+        }
+        lines
+    }
+
+    /// What stands in both caches, so many changes after another state.
+    pub fn counts(&mut self, behind: usize) -> io::Result<Counts> {
+        let rows = self.scene.hub.snapshot()?.len();
+        let old_rows = self.old_rows(behind);
+        let caught = self.caught(behind)?;
+        let plain_lines = self.plain.lines(behind)?.len();
+        Ok(Counts {
+            rows,
+            old_rows,
+            caught,
+            plain_agrees: rows == self.plain.len() && caught == plain_lines,
+        })
+    }
+
+    #[inline(never)]
+    fn old_rows(&self, behind: usize) -> usize {
+        let at = self.scene.hub.end().saturating_sub(behind as u64);
+        match self.scene.hub.at(at) {
+            Ok(snapshot) => snapshot.len(),
+            Err(_) => 0,
+        }
+    }
+
+    fn caught(&mut self, behind: usize) -> Result<usize, Memory> {
+        let all = pods_of(self.alloc, "")?;
+        Ok(self.scene.caught(&all.selection, behind as u64))
+    }
+}
+
+/// Prints one pair of so many steps: what each and its plain fellow take in tenths of a nanosecond, and their ratio.
+fn print_pair<R: Runtime>(rt: &R, name: &str, pair: Pair, steps: u64) -> io::Result<()> {
+    let step = pair.step.saturating_mul(10) / steps.max(1);
+    let plain = pair.plain.saturating_mul(10) / steps.max(1);
+    let ratio = pair.step.saturating_mul(100) / pair.plain.max(1);
+    println!(rt;
+        "{name} {}.{} ns, plain {}.{} ns, ratio {}.{:02}",
+        step / 10,
+        step % 10,
+        plain / 10,
+        plain % 10,
+        ratio / 100,
+        ratio % 100
+    )
+}
+
+impl<N: LogFacts> Bench<N> {
+    // The best of three runs of 10,000 changes with so many lanes.
+    fn time_changes<R: Runtime>(&mut self, rt: &R, lanes: usize) -> io::Result<Pair> {
+        self.open_to(lanes)?;
+        let mut best = NONE;
+        for _ in 0..3 {
+            best = best.best(self.changes(rt, 10_000)?);
+            let _lines = self.drain();
+        }
+        Ok(best)
+    }
+
+    // A million snapshots, beside as many counts of a shared object.
+    fn time_snapshots<R: Runtime>(&self, rt: &R) -> io::Result<Pair> {
+        let counted = Arc::new(self.alloc, 0u64)?;
+        let from = Instant::now(rt)?;
+        for _ in 0..1_000_000 {
+            let _snapshot = self.scene.hub.snapshot()?;
+        }
+        let step = since(rt, from)?;
+        let from = Instant::now(rt)?;
+        for _ in 0..1_000_000 {
+            let _count = Arc::try_clone(&counted)?;
+        }
+        let plain = since(rt, from)?;
+        Ok(Pair { step, plain })
+    }
+
+    // The state 1,000 changes before, beside as many puts into a plain map.
+    fn time_old<R: Runtime>(&mut self, rt: &R) -> io::Result<Pair> {
+        let from = Instant::now(rt)?;
+        let _rows = self.old_rows(1_000);
+        let step = since(rt, from)?;
+        let from = Instant::now(rt)?;
+        self.plain.undo(1_000)?;
+        let plain = since(rt, from)?;
+        Ok(Pair { step, plain })
+    }
+
+    // 1,000 lines, beside a pass over as many changes.
+    fn time_caught<R: Runtime>(&mut self, rt: &R) -> io::Result<Pair> {
+        let from = Instant::now(rt)?;
+        let _lines = self.caught(1_000)?;
+        let step = since(rt, from)?;
+        let from = Instant::now(rt)?;
+        let _lines = self.plain.lines(1_000)?;
+        let plain = since(rt, from)?;
+        Ok(Pair { step, plain })
+    }
+}
+
+/// Times all steps and prints the best of each.
+pub fn report<N: LogFacts, R: Runtime>(rt: &R, bench: &mut Bench<N>) -> io::Result<()> {
+    let none = bench.time_changes(rt, 0)?;
+    let some = bench.time_changes(rt, 50)?;
+    let many = bench.time_changes(rt, 1_000)?;
+    print_pair(rt, "apply without lanes", none, 10_000)?;
+    print_pair(rt, "apply with 50 lanes", some, 10_000)?;
+    print_pair(rt, "apply with 1000 lanes", many, 10_000)?;
+    let (mut snapshots, mut old, mut caught) = (NONE, NONE, NONE);
+    for _ in 0..5 {
+        snapshots = snapshots.best(bench.time_snapshots(rt)?);
+        caught = caught.best(bench.time_caught(rt)?);
+        old = old.best(bench.time_old(rt)?);
+    }
+    print_pair(rt, "snapshot", snapshots, 1_000_000)?;
+    print_pair(rt, "at, each change undone", old, 1_000)?;
+    print_pair(rt, "catch_up, each line", caught, 1_000)
+}

@@ -1,0 +1,36 @@
+//! Answers in words.
+use kube_meta::{Memory, Row};
+use obj_tree::Snapshot;
+use std::alloc::Global;
+use watch_lane::Line;
+
+/// Each line as `[Added p-1 2]`.
+pub fn lines_text(alloc: Global, lines: &[Line]) -> Result<String, Memory> {
+    if lines.is_empty() {
+        return Ok(format!(in alloc; "nothing")?);
+    }
+    let mut text = String::new(alloc);
+    for line in lines {
+        let row = line.shown.row();
+        text = format!(in alloc;
+            "{text}[{:?} {} {}]",
+            line.kind,
+            row.obj.key.name(),
+            row.rev
+        )?;
+    }
+    Ok(text)
+}
+
+/// Each row of a state as `[p-1 2]`.
+pub fn rows_text(alloc: Global, snapshot: &Snapshot) -> Result<String, Memory> {
+    let mut text = String::new(alloc);
+    for shown in snapshot.range(None) {
+        text = with_row(alloc, text, shown.row())?;
+    }
+    Ok(text)
+}
+
+fn with_row(alloc: Global, text: String, row: &Row) -> Result<String, Memory> {
+    Ok(format!(in alloc; "{text}[{} {}]", row.obj.key.name(), row.rev)?)
+}
