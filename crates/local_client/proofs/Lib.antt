@@ -1,0 +1,4 @@
+pub mod CacheLemmas
+pub mod FollowLemmas
+pub mod StandLemmas
+pub mod ReadLemmas

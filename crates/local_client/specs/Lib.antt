@@ -1,0 +1,5 @@
+pub mod Caches
+pub mod CachedLogs
+pub mod Following
+pub mod Reads
+pub mod Watching
