@@ -1,0 +1,5 @@
+pub mod KnowingLemmas
+pub mod ReadLemmas
+pub mod CacheLemmas
+pub mod StandLemmas
+pub mod WatchLemmas

@@ -1,0 +1,4 @@
+pub mod Knowing
+pub mod CacheStates
+pub mod Serving
+pub mod Watching

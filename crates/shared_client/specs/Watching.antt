@@ -1,0 +1,68 @@
+-- What a cache tells a watch.
+use Rattle.std.specs.Prelude.{◌≡◌, ◌==◌, ℕ, ◌<◌, ◌≤◌, ◌⊎◌, nat_le, List, [], length, Option, option_map, option_and_then, if◌then◌else◌}
+use Rattle.std.specs.Global.{Vec}
+use Rattle.kube_meta.specs.Rows.{RowData}
+use Rattle.rev_front.specs.Passes.{Pass, end_from}
+use Rattle.rev_log.specs.Changes.{RevisionData}
+use Rattle.up_api.specs.Sections.{log_of}
+use Rattle.select_all.specs.declared.selection.Meaning.TheVariants.{Any}
+use Rattle.select_all.specs.declared.selection.Selection.{Selection}
+use Rattle.select_all.specs.Floors.{IsEvicted}
+use Rattle.select_all.specs.Streams.{TransitionData, transitions}
+use Rattle.cache_hub.specs.Catching.{CaughtData}
+use Rattle.cache_hub.specs.declared.catching.CatchNo.{CatchNo}
+use Rattle.cache_hub.specs.declared.catching.CatchNo.TheVariants.{Lost, Memory}
+use Rattle.client_api.specs.declared.answers.Took.{Took}
+use Rattle.client_api.specs.declared.answers.Took.TheVariants.{Events, Quiet}
+use Rattle.client_api.specs.declared.answers.ListNo.{ListNo}
+use Rattle.client_api.specs.declared.answers.ListNo.TheVariants.{Expired, TooLarge, Absent}
+use Rattle.client_api.specs.declared.answers.ListNo.TheVariants as no_memory
+use Rattle.client_api.specs.Answers.{BegunData}
+use Rattle.client_api.specs.Facts.{Watched}
+use Rattle.client_api.specs.Refusals.{refusal_above}
+use Rattle.client_api.specs.Starts.{meaning_of}
+use Rattle.watch_rules.specs.declared.starts.Start.{Start}
+use Rattle.shared_client.specs.Serving.{IsServed}
+
+-- What a watch at a position is told that catches up, where this was shown and this is known then: all lines up to a
+-- revision. If there are any, that revision is seen; if not, the watch stays or goes on to a revision that is seen,
+-- and isn't behind what was shown.
+pub record IsTold (base : List RowData) (s : Selection) (at shown : ℕ) (q : Pass RevisionData) (caught : CaughtData) : Type 0 where
+  pub exact : caught.lines ≡ transitions (log_of base q) s at caught.upto
+  pub current : shown ≤ end_from q.first q.seen
+  pub reached : 0 < length caught.lines → caught.upto ≤ end_from q.first q.seen
+  pub quiet : length caught.lines ≡ 0 → (at ≤ caught.upto) × (shown ≤ caught.upto) × ((caught.upto ≡ at) ⊎ (caught.upto ≤ end_from q.first q.seen))
+
+-- it can't catch up: what came after its position may not all be kept
+abbrev pub IsLostAt : List RowData → ℕ → Selection → ℕ → Pass RevisionData → CatchNo → Type 0
+IsLostAt base window s at q (Lost asked floor) = (asked ≡ at) × (asked < floor) × IsEvicted (log_of base q) q.floor window s.resource at floor
+IsLostAt base window s at q Memory = Unit {0}
+
+-- a watch begins at the end of a cache that has reached what was shown, with these rows of the state there
+pub record BeginsAtEnd (base : List RowData) (s : Selection) (shown : ℕ) (rows_of : List RowData → List RowData) (begun : BegunData) (q : Pass RevisionData) : Type 0 where
+  pub state : List RowData
+  pub served : IsServed base s.resource Any shown q begun.at state
+  pub rows_are : begun.rows ≡ rows_of state
+
+-- no rows
+abbrev pub none_of : List RowData → List RowData
+none_of rows = []
+
+-- a watch can't begin at a position: what came after it may not all be kept
+abbrev pub IsStartLost : List RowData → ℕ → Selection → ℕ → Pass RevisionData → ListNo → Type 0
+IsStartLost base window s at q (Expired asked floor) = (asked ≡ at) × IsEvicted (log_of base q) q.floor window s.resource at floor
+IsStartLost base window s at q (TooLarge asked current) = ⊥
+IsStartLost base window s at q (Absent other) = ⊥
+IsStartLost base window s at q no_memory.Memory = Unit {0}
+
+-- what the lines up to a revision are to a turn, where the log is seen up to `seen`
+abbrev pub took_of : ℕ → ℕ → Vec TransitionData → ℕ → Took
+took_of from upto lines seen = if length lines.items == 0 then Quiet upto (nat_le upto seen) else Events from upto lines
+
+-- a watch, if there is one, at this revision
+abbrev pub moved_to : ℕ → Option Watched → Option Watched
+moved_to upto watching = option_map (λ (watched : Watched). record watched { position = upto }) watching
+
+-- the refusal of a start that names a revision above this one
+abbrev pub start_refusal : Start → ℕ → Option ListNo
+start_refusal start current = option_and_then (λ meaning. refusal_above meaning current) (meaning_of start)

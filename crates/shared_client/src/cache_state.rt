@@ -1,0 +1,383 @@
+//! The cache of one resource that many callers share.
+
+ghost use Rattle.std.specs.Prelude.{◌≡◌, ◌<◌, ◌≤◌, ℕ, Some, None, max, IfOk, IfErr, OnOk, OnErr};
+ghost use Rattle.rev_front.specs.Passes.{Extends, end_from};
+ghost use Rattle.rev_log.specs.States.{IsStateAt};
+ghost use Rattle.select_all.specs.declared.selection.Meaning.TheVariants.{Any, Exact};
+ghost use Rattle.select_all.specs.declared.selection.Selection.{Selection as SelectionData};
+ghost use Rattle.up_api.specs.Sections.{Learns, log_of, raised_once};
+ghost use Rattle.up_api.specs.Settings.{AreInRange};
+ghost use Rattle.reflect_core.specs.Pumps.{HasCause, RisesFor};
+ghost use Rattle.cache_hub.specs.Catching.{IsCaught, RefusesCatch};
+ghost use Rattle.cache_hub.specs.declared.catching.CatchNo.TheVariants.{Lost};
+ghost use Rattle.cache_hub.specs.Hubs.{HasCaughtUp};
+ghost use Rattle.cache_hub.specs.OpenLanes.{AreChanged, SetsLane, left_behind, newly_open, open_at};
+ghost use Rattle.shared_client.specs.CacheStates.{GoesOn, IsBrokenOff, IsPumped, IsSection, KeepsCache};
+ghost use Rattle.shared_client.specs.Knowing.{KnowsAllOf};
+ghost use Rattle.shared_client.specs.Serving.{IsServed, IsShown, IsUnserved, UnlessAlone};
+ghost use Rattle.shared_client.specs.Watching.{IsLostAt, IsTold};
+
+use crate::reads::{kept_at, revision_alone};
+use crate::resources::OfResource;
+use cache_core::AtNo;
+use cache_hub::{CatchNo, Caught, Hub};
+use client_api::ListNo;
+use kube_meta::Memory;
+use obj_tree::Snapshot;
+use reflect_core::{Pumped, Reflector};
+use select_all::{Meaning, Selection};
+use std::alloc::Global;
+use std::marker::{Model, PhantomData};
+use std::sync::Wait;
+use up_api::{Held, LogFacts, Pass, Settings, Upstream};
+use up_store::StoreDoor;
+use watch_lane::LaneOut;
+
+/// What a turn of a watch asks: the watch's lane and position, how many lines are wanted, and the time.
+#[derive(Clone, Copy, Debug)]
+pub(crate) struct Turn {
+    pub lane: u64,
+    pub at: u64,
+    pub max: usize,
+    pub ms: u64,
+}
+
+/// The cache of one resource, the reflector that keeps it up to date, and what is known of the log under its lock. Its
+/// type keeps that the cache stands for that log up to the cache's end, that both are of the resource that `One` tells,
+/// that the cache's window is the one that `N` tells, and that the reflector's feed is of no later generation than is
+/// known.
+///
+/// Each call meets the caller's pass first: the caller then knows all that is known under the lock, and makes no load.
+#[derive(Drop)]
+pub struct CacheState<N: LogFacts, One: OfResource> {
+    alloc: Global,
+    hub: Hub<N>,
+    reflector: Reflector,
+    pass: Pass<N>,
+    of: PhantomData<One>,
+}
+
+impl<N: LogFacts, One: OfResource> Model for CacheState<N, One> {
+    ghost use Rattle.shared_client.specs.CacheStates.{CacheStateData, IsFollowing};
+
+    ghost Value = { CacheStateData };
+
+    ghost view = { λ c. record { hub = c.hub; reflector = c.reflector; pass = c.pass } };
+
+    ghost invariant = { λ c. IsFollowing N.base N.window One.resource (record { hub = c.hub; reflector = c.reflector; pass = c.pass }) };
+}
+
+impl<N: LogFacts, One: OfResource> CacheState<N, One> {
+    /// The cache that upstream's history of the resource makes, without lanes. `pass` is given to it.
+    pub fn new<R: Wait + Copy>(
+        alloc: Global,
+        up: &mut StoreDoor<N, R>,
+        pass: Pass<N>,
+        settings: &Settings,
+    ) -> Result<CacheState<N, One>, Memory>
+        requires settings { AreInRange settings.now }
+        requires window { N.window ≡ settings.now.window }
+    {
+        let mut pass = pass;
+        let history = up.history(One::resource(), &mut pass)?;
+        let hub = Hub::new(alloc, One::resource(), history, settings, &mut pass)?;
+        let reflector = Reflector::with_batch(One::resource(), settings.batch);
+        Ok(CacheState {
+            alloc,
+            hub,
+            reflector,
+            pass,
+            of: PhantomData,
+        })
+    }
+
+    /// Brings the cache to a revision that the caller was shown.
+    pub fn pump<R: Wait + Copy>(
+        &mut self,
+        up: &mut StoreDoor<N, R>,
+        told: &mut Pass<N>,
+        until: u64,
+    ) -> Result<Pumped, Memory>
+        requires until { until ≤ told.old.shown }
+        ensures section { IsSection self.old self.new told.old told.new }
+        ensures goes_on { GoesOn self.old self.new told.new }
+        ensures pumped { IfOk result (IsPumped self.old self.new told.old told.new until) }
+        ensures broken { OnErr result (IsBrokenOff self.old self.new told.old told.new) }
+    {
+        self.share(told);
+        let pumped = self.follow(up, until);
+        self.share(told);
+        pumped
+    }
+
+    /// The objects of the resource at a revision that will do for the meaning: the cache's end, once it was brought to
+    /// all that the caller was shown, or the one revision that the meaning asks for. Only that one can be refused,
+    /// where it is below the compaction floor, which is loaded then.
+    pub fn serve<R: Wait + Copy>(
+        &mut self,
+        up: &mut StoreDoor<N, R>,
+        told: &mut Pass<N>,
+        meaning: Meaning,
+    ) -> Result<(u64, Snapshot), ListNo>
+        requires shown { IsShown meaning told.old.shown }
+        ensures section { IsSection self.old self.new told.old told.new }
+        ensures served { IfOk result (λ r. IsServed N.base One.resource meaning told.old.shown told.new r.0 r.1) }
+        ensures current { IfOk result (λ r. UnlessAlone meaning (r.0 ≡ self.new.hub.cache.end)) }
+        ensures refused { IfErr result (IsUnserved meaning told.new) }
+        ensures rebuilds { RisesFor (HasCause self.old.hub.cache.end told.old told.new) self.old.hub.rebuilds self.new.hub.rebuilds }
+    {
+        let shown = told.shown();
+        self.pump(up, told, shown)?;
+        match revision_alone(meaning) {
+            Some(at) => Ok((at, self.state_at(up, told, at)?)),
+            None => Ok(self.newest(told)?),
+        }
+    }
+
+    /// Opens a lane for a watch that stands at a position, under a number that no other lane has. It is refused where
+    /// what came after the position may not all be kept.
+    pub fn open(
+        &mut self,
+        told: &mut Pass<N>,
+        selection: &Selection,
+        at: u64,
+    ) -> Result<(u64, LaneOut<N>), CatchNo>
+        requires resource { selection.now.resource ≡ One.resource }
+        ensures section { IsSection self.old self.new told.old told.new }
+        ensures opened { IfOk result (λ r. SetsLane self.old.hub.lanes.all self.new.hub.lanes.all r.0
+            (Some (newly_open selection.now at self.old.hub.cache.end self.old.hub.lanes.room))) }
+        ensures number { IfOk result (λ r. open_at self.old.hub.lanes.all r.0 ≡ None) }
+        ensures same { KeepsCache self.old self.new }
+        ensures served { OnOk result (self.old.hub.cache.ring.floor ≤ at) }
+        ensures refused { IfErr result (RefusesCatch self.old.hub.cache at) }
+        ensures lost { IfErr result (IsLostAt N.base N.window selection.now at told.new) }
+        ensures kept { OnErr result (self.new.hub ≡ self.old.hub) }
+    {
+        self.share(told);
+        let lowest = self.floor(told);
+        if at < lowest {
+            return Err(CatchNo::Lost { at, floor: lowest });
+        }
+        Ok(self.lane(selection, at)?)
+    }
+
+    /// Closes a lane, if it is open.
+    pub fn close(&mut self, id: u64)
+        ensures closed { SetsLane self.old.hub.lanes.all self.new.hub.lanes.all id None }
+        ensures same { KeepsCache self.old self.new }
+        ensures pass { self.new.pass ≡ self.old.pass }
+    {
+        self.hub.close_lane(id);
+    }
+
+    /// What a watch of this selection is told that stands at a position, and has this lane: the lines of the fewest
+    /// whole revisions that hold at least `max` lines, or all that are left. The lane is no longer behind once all was
+    /// told up to the cache's end.
+    pub fn catch_up(
+        &mut self,
+        told: &mut Pass<N>,
+        id: u64,
+        selection: &Selection,
+        at: u64,
+        max: usize,
+    ) -> Result<Caught, CatchNo>
+        requires resource { selection.now.resource ≡ One.resource }
+        requires max { 1 ≤ max }
+        ensures section { IsSection self.old self.new told.old told.new }
+        ensures caught { IfOk result (IsCaught (log_of N.base told.new) selection.now at self.old.hub.cache.end max) }
+        ensures seen { self.old.hub.cache.end ≤ end_from told.new.first told.new.seen }
+        ensures lane { IfOk result (λ caught. HasCaughtUp (Some id) caught.upto self.old.hub self.new.hub) }
+        ensures same { KeepsCache self.old self.new }
+        ensures served { OnOk result (self.old.hub.cache.ring.floor ≤ at) }
+        ensures refused { IfErr result (RefusesCatch self.old.hub.cache at) }
+        ensures lost { IfErr result (IsLostAt N.base N.window selection.now at told.new) }
+        ensures kept { OnErr result (self.new.hub ≡ self.old.hub) }
+    {
+        self.share(told);
+        let _floor = self.floor(told);
+        self.hub.catch_up(Some(id), selection, at, max)
+    }
+
+    /// Builds the cache anew from upstream's history, and answers the compaction floor of that section; all lanes are
+    /// behind then. After want of memory the cache is as it was.
+    pub fn rebuild<R: Wait + Copy>(
+        &mut self,
+        up: &mut StoreDoor<N, R>,
+        told: &mut Pass<N>,
+    ) -> Result<u64, Memory>
+        ensures section { IsSection self.old self.new told.old told.new }
+        ensures floor { IfOk result (λ floor. (told.old.floor ≤ floor) × (floor ≤ told.new.floor)) }
+        ensures base { IfOk result (λ floor. self.new.hub.cache.base ≡ floor) }
+        ensures rebuilds { OnOk result (self.new.hub.rebuilds ≡ raised_once self.old.hub.rebuilds) }
+        ensures lanes { OnOk result (AreChanged left_behind self.old.hub.lanes.all self.new.hub.lanes.all) }
+        ensures kept { OnErr result (self.new.hub ≡ self.old.hub) }
+    {
+        self.share(told);
+        let rebuilt = self.read_anew(up);
+        self.share(told);
+        rebuilt
+    }
+
+    /// Tells the cache the time, in milliseconds, by which the age of its events is judged. It never goes back.
+    pub fn tick(&mut self, ms: u64)
+        ensures { self.new ≡ record self.old { hub = record self.old.hub { cache = record self.old.hub.cache { time = max self.old.hub.cache.time ms } } } }
+    {
+        self.hub.tick(ms);
+    }
+
+    /// The objects at the cache's end, once it was brought to all that the caller was shown, and a lane there.
+    pub(crate) fn start_at_end<R: Wait + Copy>(
+        &mut self,
+        up: &mut StoreDoor<N, R>,
+        told: &mut Pass<N>,
+        selection: &Selection,
+    ) -> Result<(u64, Snapshot, (u64, LaneOut<N>)), ListNo>
+        requires resource { selection.now.resource ≡ One.resource }
+        ensures learns { Learns told.old told.new }
+        ensures served { IfOk result (λ r. IsServed N.base One.resource Any told.old.shown told.new r.0 r.1) }
+        ensures refused { IfErr result (λ no. no ≡ ListNo.Memory) }
+    {
+        let (at, state) = self.serve(up, told, Meaning::Any)?;
+        let lane = self.lane(selection, at)?;
+        Ok((at, state, lane))
+    }
+
+    /// A lane at a position, once the cache was brought to all that the caller was shown.
+    pub(crate) fn start_from<R: Wait + Copy>(
+        &mut self,
+        up: &mut StoreDoor<N, R>,
+        told: &mut Pass<N>,
+        selection: &Selection,
+        at: u64,
+    ) -> Result<(u64, LaneOut<N>), CatchNo>
+        requires resource { selection.now.resource ≡ One.resource }
+        ensures learns { Learns told.old told.new }
+        ensures lost { IfErr result (IsLostAt N.base N.window selection.now at told.new) }
+    {
+        let shown = told.shown();
+        self.pump(up, told, shown)?;
+        self.open(told, selection, at)
+    }
+
+    /// What a watch at a position is told, once the cache was brought to all that the caller was shown.
+    pub(crate) fn turn<R: Wait + Copy>(
+        &mut self,
+        up: &mut StoreDoor<N, R>,
+        told: &mut Pass<N>,
+        selection: &Selection,
+        turn: Turn,
+    ) -> Result<Caught, CatchNo>
+        requires resource { selection.now.resource ≡ One.resource }
+        requires max { 1 ≤ turn.max }
+        ensures learns { Learns told.old told.new }
+        ensures told { IfOk result (IsTold N.base selection.now turn.at told.old.shown told.new) }
+        ensures lost { IfErr result (IsLostAt N.base N.window selection.now turn.at told.new) }
+    {
+        let shown = told.shown();
+        self.tick(turn.ms);
+        self.pump(up, told, shown)?;
+        self.catch_up(told, turn.lane, selection, turn.at, turn.max)
+    }
+
+    // The caller's pass and the one under the lock meet, and both are kept.
+    fn share(&mut self, told: &mut Pass<N>)
+        ensures section { IsSection self.old self.new told.old told.new }
+        ensures known { KnowsAllOf told.new self.new.pass }
+        ensures same { self.new ≡ record self.old { pass = self.new.pass } }
+    {
+        let _mine = self.pass.shown();
+        let _theirs = told.shown();
+        self.pass.share(told);
+    }
+
+    // Pumps the cache with what is known under the lock.
+    fn follow<R: Wait + Copy>(
+        &mut self,
+        up: &mut StoreDoor<N, R>,
+        until: u64,
+    ) -> Result<Pumped, Memory>
+        requires until { until ≤ self.old.pass.shown }
+        ensures onward { Extends self.old.pass self.new.pass }
+        ensures goes_on { GoesOn self.old self.new self.new.pass }
+        ensures pumped { IfOk result (IsPumped self.old self.new self.old.pass self.new.pass until) }
+        ensures broken { OnErr result (IsBrokenOff self.old self.new self.old.pass self.new.pass) }
+    {
+        self.reflector
+            .pump(&mut self.hub, up, &mut self.pass, until)
+    }
+
+    // Builds the cache anew with what is known under the lock.
+    fn read_anew<R: Wait + Copy>(&mut self, up: &mut StoreDoor<N, R>) -> Result<u64, Memory>
+        ensures onward { Extends self.old.pass self.new.pass }
+        ensures floor { IfOk result (λ floor. floor ≡ self.new.pass.floor) }
+        ensures base { IfOk result (λ floor. self.new.hub.cache.base ≡ floor) }
+        ensures rebuilds { OnOk result (self.new.hub.rebuilds ≡ raised_once self.old.hub.rebuilds) }
+        ensures lanes { OnOk result (AreChanged left_behind self.old.hub.lanes.all self.new.hub.lanes.all) }
+        ensures kept { OnErr result (self.new.hub ≡ self.old.hub) }
+    {
+        let history = up.history(One::resource(), &mut self.pass)?;
+        let floor = history.floor;
+        self.hub.build_anew(history, &mut self.pass)?;
+        Ok(floor)
+    }
+
+    // The floor of the cache's ring. What came after a lower position may not all be kept.
+    fn floor(&self, told: &Pass<N>) -> u64
+        requires knows { KnowsAllOf self.now.pass told.now }
+        ensures floor { result ≡ self.now.hub.cache.ring.floor }
+        ensures lost { (s : SelectionData) (at : ℕ) → s.resource ≡ One.resource → at < result →
+            IsLostAt N.base N.window s at told.now (Lost at result) }
+    {
+        self.hub.floor()
+    }
+
+    // The objects at the cache's end, which the caller has seen.
+    fn newest(&self, told: &Pass<N>) -> Result<(u64, Snapshot), Memory>
+        requires knows { KnowsAllOf self.now.pass told.now }
+        ensures state { IfOk result (λ r. IsStateAt (log_of N.base told.now) One.resource r.0 r.1) }
+        ensures end { IfOk result (λ r. r.0 ≡ self.now.hub.cache.end) }
+        ensures seen { self.now.hub.cache.end ≤ end_from told.now.first told.now.seen }
+    {
+        let state = self.hub.snapshot()?;
+        Ok((self.hub.end(), state))
+    }
+
+    // The objects at one revision that the cache has reached: from the cache as far back as its ring goes, and from
+    // upstream below that.
+    fn state_at<R: Wait + Copy>(
+        &self,
+        up: &mut StoreDoor<N, R>,
+        told: &mut Pass<N>,
+        at: u64,
+    ) -> Result<Snapshot, ListNo>
+        requires knows { KnowsAllOf self.now.pass told.old }
+        requires reached { at ≤ self.now.hub.cache.end }
+        ensures learns { Learns told.old told.new }
+        ensures served { IfOk result (IsServed N.base One.resource (Exact at) 0 told.new at) }
+        ensures refused { IfErr result (IsUnserved (Exact at) told.new) }
+    {
+        let _known = told.shown();
+        let floor = told.look_floor();
+        if at < floor {
+            return Err(ListNo::Expired { asked: at, floor });
+        }
+        match self.hub.at(at) {
+            Ok(state) => Ok(state),
+            Err(AtNo::Below { .. }) => kept_at(self.alloc, One::resource(), up, told, at),
+            Err(AtNo::Memory) => Err(ListNo::Memory),
+        }
+    }
+
+    // A lane at a position.
+    fn lane(&mut self, selection: &Selection, at: u64) -> Result<(u64, LaneOut<N>), Memory>
+        requires resource { selection.now.resource ≡ One.resource }
+        ensures opened { IfOk result (λ r. SetsLane self.old.hub.lanes.all self.new.hub.lanes.all r.0
+            (Some (newly_open selection.now at self.old.hub.cache.end self.old.hub.lanes.room))) }
+        ensures number { IfOk result (λ r. open_at self.old.hub.lanes.all r.0 ≡ None) }
+        ensures same { KeepsCache self.old self.new }
+        ensures pass { self.new.pass ≡ self.old.pass }
+        ensures kept { OnErr result (self.new.hub ≡ self.old.hub) }
+    {
+        self.hub.open_lane(selection, at)
+    }
+}

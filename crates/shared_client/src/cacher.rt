@@ -1,0 +1,111 @@
+//! The caches of a log, for many threads.
+
+ghost use Rattle.std.specs.Prelude.{◌≡◌, ◌≤◌, None, IfOk};
+ghost use Rattle.rev_front.specs.Passes.{Extends, Whole, pass_from};
+ghost use Rattle.rev_log.specs.Changes.{RevisionData};
+ghost use Rattle.up_api.specs.Sections.{Learns};
+ghost use Rattle.up_api.specs.Settings.{AreInRange};
+
+use crate::cache_state::CacheState;
+use crate::client::SharedClient;
+use crate::resources::{OfConfigMaps, OfDeployments, OfPods, OfResource};
+use kube_meta::Memory;
+use std::alloc::Global;
+use std::sync::{Mutex, Wait};
+use up_api::{LogFacts, Pass, Settings};
+use up_store::StoreDoor;
+
+/// A cache of each resource of one log, each behind a lock of its own. It is shared by reference among threads, and
+/// each of them makes clients of its own.
+#[derive(Drop)]
+pub struct Cacher<N: LogFacts, R: Wait + Copy> {
+    pub(crate) rt: R,
+    pub(crate) alloc: Global,
+    pub(crate) door: StoreDoor<N, R>,
+    pub(crate) pods: Mutex<CacheState<N, OfPods>>,
+    pub(crate) config_maps: Mutex<CacheState<N, OfConfigMaps>>,
+    pub(crate) deployments: Mutex<CacheState<N, OfDeployments>>,
+}
+
+impl<N: LogFacts, R: Wait + Copy> Cacher<N, R> {
+    /// The caches of the log behind this door, which wait for their locks by `rt`.
+    pub fn new(
+        rt: R,
+        alloc: Global,
+        door: StoreDoor<N, R>,
+        settings: &Settings,
+    ) -> Result<Cacher<N, R>, Memory>
+        requires settings { AreInRange settings.now }
+        requires window { N.window ≡ settings.now.window }
+    {
+        let mut door = door;
+        let pods = locked(alloc, &mut door, settings)?;
+        let config_maps = locked(alloc, &mut door, settings)?;
+        let deployments = locked(alloc, &mut door, settings)?;
+        Ok(Cacher {
+            rt,
+            alloc,
+            door,
+            pods,
+            config_maps,
+            deployments,
+        })
+    }
+
+    /// A client of the log, with no watch.
+    pub fn client(&self) -> Result<SharedClient<'_, N, R>, Memory>
+        ensures idle { IfOk result (λ client. (client.watch ≡ None) × (client.heard ≡ 0)) }
+        ensures pass { IfOk result (λ client. (whole : Whole RevisionData) × (client.told ≡ pass_from whole client.told.seat)) }
+    {
+        SharedClient::new(self)
+    }
+
+    /// A pass of the log, which knows it whole.
+    pub fn pass(&self) -> Result<Pass<N>, Memory>
+        ensures { IfOk result (λ p. (whole : Whole RevisionData) × (p ≡ pass_from whole p.seat)) }
+    {
+        self.door.pass()
+    }
+
+    /// Loads the revision that the log has reached, and brings each cache there.
+    pub fn pump_all(&self, told: &mut Pass<N>) -> Result<(), Memory>
+        ensures extends { Extends told.old told.new }
+    {
+        let until = told.look();
+        let mut door = self.door.again()?;
+        self.pods.lock(&self.rt).pump(&mut door, told, until)?;
+        self.config_maps
+            .lock(&self.rt)
+            .pump(&mut door, told, until)?;
+        self.deployments
+            .lock(&self.rt)
+            .pump(&mut door, told, until)?;
+        Ok(())
+    }
+
+    /// Builds each cache anew, and answers the compaction floor from which the last one was built. After want of memory
+    /// each is the old one or the new one.
+    pub fn restart(&self, told: &mut Pass<N>) -> Result<u64, Memory>
+        ensures learns { Learns told.old told.new }
+        ensures floor { IfOk result (λ floor. (told.old.floor ≤ floor) × (floor ≤ told.new.floor)) }
+    {
+        let mut door = self.door.again()?;
+        self.pods.lock(&self.rt).rebuild(&mut door, told)?;
+        self.config_maps.lock(&self.rt).rebuild(&mut door, told)?;
+        self.deployments.lock(&self.rt).rebuild(&mut door, told)
+    }
+}
+
+// The cache of one resource behind its lock.
+fn locked<N: LogFacts, R: Wait + Copy, One: OfResource>(
+    alloc: Global,
+    door: &mut StoreDoor<N, R>,
+    settings: &Settings,
+) -> Result<Mutex<CacheState<N, One>>, Memory>
+    requires settings { AreInRange settings.now }
+    requires window { N.window ≡ settings.now.window }
+{
+    let pass = door.pass()?;
+    let cache = CacheState::new(alloc, door, pass, settings)?;
+    Ok(Mutex::new(cache))
+}

@@ -1,0 +1,205 @@
+//! The shared client.
+
+ghost use Rattle.std.specs.Prelude.{◌≡◌, ◌≤◌, None, IfOk, IfErr};
+ghost use Rattle.rev_front.specs.Passes.{Whole, pass_from};
+ghost use Rattle.rev_log.specs.Changes.{RevisionData};
+ghost use Rattle.rev_log.specs.States.{IsStateAt};
+ghost use Rattle.up_api.specs.Sections.{log_of};
+ghost use Rattle.up_store.specs.Replies.{IsOperationReply};
+ghost use Rattle.up_store.specs.declared.operations.Operate.TheVariants as operations;
+ghost use Rattle.client_api.specs.Facts.{IsOnward};
+ghost use Rattle.client_api.specs.Fresh.{IsFresh};
+ghost use Rattle.shared_client.specs.Serving.{IsRefused};
+
+use crate::cacher::Cacher;
+use crate::reads::{listed, reach};
+use crate::watching::{Watch, begin, stand, turn};
+use client_api::{Begun, Client, Got, ListNo, Listed, Took};
+use kube_meta::{Memory, Resource};
+use list_rules::{GetAsk, ListAsk};
+use obj_tree::Snapshot;
+use select_all::Meaning;
+use std::sync::{Arc, Wait};
+use up_api::{LogFacts, Pass};
+use up_store::{OpNo, Operate, StoreDoor, Transaction, TxWriteNo, WriteAsk, WriteNo, Written};
+use watch_rules::WatchAsk;
+
+/// One of many clients of a log. It answers from the caches of its `Cacher`, which it shares with the others, and has a
+/// pass and a door to the store of its own.
+///
+/// Its lane is closed when its watch ends, and when it is let go.
+#[derive(Drop)]
+pub struct SharedClient<'a, N: LogFacts, R: Wait + Copy> {
+    cacher: &'a Cacher<N, R>,
+    door: StoreDoor<N, R>,
+    pub(crate) told: Pass<N>,
+    pub(crate) watch: Option<Watch<'a, N, R>>,
+    pub(crate) heard: u64,
+}
+
+impl<'a, N: LogFacts, R: Wait + Copy> SharedClient<'a, N, R> {
+    // A client with no watch.
+    pub(crate) fn new(cacher: &'a Cacher<N, R>) -> Result<SharedClient<'a, N, R>, Memory>
+        ensures idle { IfOk result (λ client. (client.watch ≡ None) × (client.heard ≡ 0)) }
+        ensures pass { IfOk result (λ client. (whole : Whole RevisionData) × (client.told ≡ pass_from whole client.told.seat)) }
+    {
+        Ok(SharedClient {
+            cacher,
+            door: cacher.door.again()?,
+            told: cacher.door.pass()?,
+            watch: None,
+            heard: 0,
+        })
+    }
+}
+
+impl<N: LogFacts, R: Wait + Copy> Client for SharedClient<'_, N, R> {
+    ghost use Rattle.std.specs.Prelude.{None};
+
+    ghost base = { N.base };
+
+    ghost mirror = { N.mirror };
+
+    ghost pass = { λ c. c.told };
+
+    ghost facts = { λ c. record { watching = c.watch; heard = c.heard; window = N.window; alone = None } };
+
+    // others hold the log too
+    ghost whole = { λ _. ⊥ };
+
+    ghost cached = { λ _. record { reads = 0; ends = λ _. 0 } };
+
+    fn write(&mut self, ask: &WriteAsk) -> Result<Written, WriteNo> {
+        let answer = self.door.write(ask, &mut self.told);
+        let _known = self.told.shown();
+        answer
+    }
+
+    fn transact(&mut self, ask: &Transaction) -> Result<Vec<Written>, TxWriteNo> {
+        let answer = self.door.transact(ask, &mut self.told);
+        let _known = self.told.shown();
+        answer
+    }
+
+    fn get(&mut self, ask: &GetAsk) -> Result<Got, ListNo> {
+        let (at, state) = read(
+            self.cacher,
+            &mut self.door,
+            &mut self.told,
+            ask.resource,
+            ask.meaning,
+        )?;
+        match state.get(&ask.key) {
+            Some(shown) => Ok(Got {
+                row: Arc::try_clone(shown)?,
+                at,
+            }),
+            None => Err(ListNo::Absent { at }),
+        }
+    }
+
+    fn list(&mut self, ask: &ListAsk) -> Result<Listed, ListNo> {
+        let (at, state) = read(
+            self.cacher,
+            &mut self.door,
+            &mut self.told,
+            ask.selection.resource,
+            ask.meaning,
+        )?;
+        Ok(listed(self.cacher.alloc, ask, at, &state)?)
+    }
+
+    fn watch(&mut self, ask: &WatchAsk) -> Result<Begun, ListNo> {
+        let (begun, watch) = begin(self.cacher, &mut self.door, &mut self.told, ask)?;
+        self.watch = Some(watch);
+        Ok(begun)
+    }
+
+    fn take(&mut self, max: usize) -> Result<Took, Memory> {
+        let Some(watch) = &mut self.watch else {
+            unreachable!()
+        };
+        let took = turn(&mut self.door, &mut self.told, watch, max, self.heard)?;
+        stand(&mut self.watch, &took);
+        Ok(took)
+    }
+
+    fn end_watch(&mut self) {
+        self.watch = None;
+    }
+
+    fn operate(&mut self, ask: Operate) -> Result<u64, OpNo> {
+        match ask {
+            Operate::Cut => cut(&self.door, &mut self.told),
+            Operate::Compact { at } => compact(&self.door, &mut self.told, at),
+            Operate::Restart => restart(self.cacher, &mut self.told),
+        }
+    }
+
+    fn tick(&mut self, ms: u64) {
+        self.heard = self.heard.max(ms);
+    }
+}
+
+// The objects of a resource at a revision that will do for the meaning. What has to be loaded is loaded before the
+// cache is locked.
+fn read<N: LogFacts, R: Wait + Copy>(
+    cacher: &Cacher<N, R>,
+    door: &mut StoreDoor<N, R>,
+    told: &mut Pass<N>,
+    resource: Resource,
+    meaning: Meaning,
+) -> Result<(u64, Snapshot), ListNo>
+    ensures onward { IsOnward told.old told.new }
+    ensures state { IfOk result (λ r. IsStateAt (log_of N.base told.new) resource r.0 r.1) }
+    ensures fresh { IfOk result (λ r. IsFresh told.old meaning r.0 told.new) }
+    ensures refused { IfErr result (IsRefused told.old meaning told.new) }
+{
+    if let Some(no) = reach(told, meaning) {
+        let _known = told.shown();
+        return Err(no);
+    }
+    let answer = cacher.serve(resource, door, told, meaning);
+    let _known = told.shown();
+    answer
+}
+
+// Cuts all feeds.
+fn cut<N: LogFacts, R: Wait + Copy>(door: &StoreDoor<N, R>, told: &mut Pass<N>) -> Result<u64, OpNo>
+    ensures onward { IsOnward told.old told.new }
+    ensures answer { IsOperationReply told.old operations.Cut result told.new }
+{
+    let answer = door.drop_feeds(told);
+    let _known = told.shown();
+    answer
+}
+
+// Compacts the log.
+fn compact<N: LogFacts, R: Wait + Copy>(
+    door: &StoreDoor<N, R>,
+    told: &mut Pass<N>,
+    at: u64,
+) -> Result<u64, OpNo>
+    ensures onward { IsOnward told.old told.new }
+    ensures answer { IsOperationReply told.old (operations.Compact at) result told.new }
+{
+    let answer = door.compact(at, told);
+    let _known = told.shown();
+    answer
+}
+
+// Builds all caches anew.
+fn restart<N: LogFacts, R: Wait + Copy>(
+    cacher: &Cacher<N, R>,
+    told: &mut Pass<N>,
+) -> Result<u64, OpNo>
+    ensures onward { IsOnward told.old told.new }
+    ensures answer { IsOperationReply told.old operations.Restart result told.new }
+{
+    let answer = cacher.restart(told);
+    let _known = told.shown();
+    match answer {
+        Ok(floor) => Ok(floor),
+        Err(Memory) => Err(OpNo::Memory),
+    }
+}

@@ -1,0 +1,21 @@
+//! Many clients of one log, in any number of threads, with a cache of each resource behind a lock of its own.
+//!
+//! A [`Cacher`] has the caches, and gives out clients. Under a cache's lock a client only brings the cache up to date
+//! and takes a snapshot, or catches up; it selects, pages and writes outside of it. A turn of a watch asks its lane
+//! first, which takes no lock. A thread locks a cache and, inside, the store; never the other way round, and never two
+//! caches.
+#![tactic(auto)]
+
+mod cache_state;
+mod cacher;
+mod client;
+mod crossing;
+mod reads;
+mod resources;
+mod sections;
+mod watching;
+
+pub use cache_state::CacheState;
+pub use cacher::Cacher;
+pub use client::SharedClient;
+pub use resources::{OfConfigMaps, OfDeployments, OfPods, OfResource};
