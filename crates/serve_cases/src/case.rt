@@ -1,0 +1,119 @@
+//! How a case is written, line by line.
+
+use crate::ends::Sign;
+use std::alloc::{AllocError, Global};
+
+/// A connection: what it waits for, what it sends, when its clock is late, and what is wanted to come back.
+#[derive(Drop)]
+pub struct Plan {
+    pub waits: Vec<Sign>,
+    pub bytes: Vec<u8>,
+    pub late: Vec<u8>,
+    pub wanted: Vec<u8>,
+}
+
+/// A server, its connections, and how it is wanted to end.
+#[derive(Drop)]
+pub struct Case {
+    pub name: String,
+    pub workers: usize,
+    pub connections: u64,
+    pub fails: Option<u64>,
+    pub plans: Vec<Plan>,
+    pub end: String,
+    alloc: Global,
+}
+
+impl Case {
+    /// A case with this name, of a server with four workers that nobody connects to.
+    pub fn new(alloc: Global, name: &str) -> Result<Case, AllocError> {
+        Ok(Case {
+            name: String::from_str(alloc, name)?,
+            workers: 4,
+            connections: 0,
+            fails: None,
+            plans: Vec::new(alloc),
+            end: String::new(alloc),
+            alloc,
+        })
+    }
+
+    /// Takes in a line, and answers whether it is one of a case.
+    pub fn take_line(&mut self, line: &str) -> Result<bool, AllocError> {
+        let (word, text) = line.split_once(' ').unwrap_or((line, ""));
+        match word {
+            "workers" => self.workers = text.parse::<usize>().unwrap_or(0),
+            "connections" => self.connections = text.parse::<u64>().unwrap_or(0),
+            "fails" => self.fails = text.parse::<u64>().ok(),
+            "connection" => self.plans.push(new_plan(self.alloc))?,
+            "end" => self.end.push_str(text)?,
+            _ => return self.take_plan_line(word, text),
+        }
+        Ok(true)
+    }
+
+    // Takes in a line of the last connection.
+    fn take_plan_line(&mut self, word: &str, text: &str) -> Result<bool, AllocError> {
+        match self.plans.last_mut() {
+            Some(plan) => plan.take_line(self.alloc, word, text),
+            None => Ok(false),
+        }
+    }
+}
+
+// A connection that sends nothing.
+fn new_plan(alloc: Global) -> Plan {
+    Plan {
+        waits: Vec::new(alloc),
+        bytes: Vec::new(alloc),
+        late: Vec::new(alloc),
+        wanted: Vec::new(alloc),
+    }
+}
+
+impl Plan {
+    fn take_line(&mut self, alloc: Global, word: &str, text: &str) -> Result<bool, AllocError> {
+        match word {
+            "waits" => self.waits.push(read_sign(alloc, text)?)?,
+            "late" => self.late.extend_from_slice(text.as_bytes())?,
+            "bytes" => put_plain(&mut self.bytes, text)?,
+            "wants" => put_plain(&mut self.wanted, text)?,
+            _ => return Ok(false),
+        }
+        Ok(true)
+    }
+}
+
+// The number of a connection, from 1, and a text.
+fn read_sign(alloc: Global, text: &str) -> Result<Sign, AllocError> {
+    let (number, text) = text.split_once(' ').unwrap_or((text, ""));
+    Ok(Sign {
+        number: number.parse::<usize>().unwrap_or(0).saturating_sub(1),
+        text: Vec::from_slice(alloc, text.as_bytes())?,
+    })
+}
+
+// Puts bytes as they are; `<CRLF>` and `<LF>` stand for these.
+fn put_plain(bytes: &mut Vec<u8>, text: &str) -> Result<(), AllocError> {
+    let mut is_first = true;
+    for part in text.split('<') {
+        if is_first {
+            bytes.extend_from_slice(part.as_bytes())?;
+            is_first = false;
+        } else {
+            put_named(bytes, part)?;
+        }
+    }
+    Ok(())
+}
+
+// Puts what stands behind a `<`.
+fn put_named(bytes: &mut Vec<u8>, part: &str) -> Result<(), AllocError> {
+    let (name, behind) = part.split_once('>').unwrap_or((part, ""));
+    match name {
+        "CRLF" => bytes.extend_from_slice(b"\r\n")?,
+        "LF" => bytes.extend_from_slice(b"\n")?,
+        _ => bytes.extend_from_slice(name.as_bytes())?,
+    }
+    bytes.extend_from_slice(behind.as_bytes())
+}

@@ -1,0 +1,291 @@
+//! The ends of connections in memory, each of which others may see: a source may wait until another connection was
+//! written some text, and a clock shows a late time once its own was.
+
+ghost use Rattle.std.specs.Prelude.{◌≡◌, None, ⊤};
+
+use edge_io::{Clock, Failed, Listener, Reading, Sink, Source};
+use std::alloc::{AllocError, Global};
+use std::collections::VecDeque;
+use std::sync::{Arc, Mutex, Wait};
+use std::thread;
+use std::time::Duration;
+
+/// How often a source looks whether it may go on. A millisecond lies between two looks.
+const LOOKS: u64 = 10_000;
+
+/// How often a clock looks whether it is late.
+const TURNS: u64 = 1_000;
+
+/// The time that a late clock shows, in milliseconds: longer than any watch.
+const LATE_MS: u64 = 1_000_000_000;
+
+/// What the connections were written, by their numbers from 0.
+#[derive(Drop)]
+pub struct Board<R> {
+    rt: R,
+    texts: Vec<Mutex<Vec<u8>>>,
+}
+
+impl<R: Wait + Drop> Board<R> {
+    /// A board of so many connections.
+    pub fn new(rt: R, alloc: Global, connections: usize) -> Result<Board<R>, AllocError> {
+        let mut texts = Vec::new(alloc);
+        for _ in 0..connections {
+            texts.push(Mutex::new(Vec::new(alloc)))?;
+        }
+        Ok(Board { rt, texts })
+    }
+
+    /// What a connection was written.
+    pub fn text(&self, alloc: Global, number: usize) -> Result<Vec<u8>, AllocError> {
+        match self.texts.get(number) {
+            Some(text) => Vec::from_slice(alloc, text.lock(&self.rt).as_slice()),
+            None => Ok(Vec::new(alloc)),
+        }
+    }
+
+    // Whether a connection was written this.
+    fn has(&self, number: usize, part: &[u8]) -> bool {
+        match self.texts.get(number) {
+            Some(text) => contains(text.lock(&self.rt).as_slice(), part),
+            None => false,
+        }
+    }
+
+    // Writes to a connection, if there is memory.
+    fn write(&self, number: usize, bytes: &[u8]) -> Result<(), Failed> {
+        match self.texts.get(number) {
+            Some(text) => text
+                .lock(&self.rt)
+                .extend_from_slice(bytes)
+                .map_err(|_| Failed),
+            None => Err(Failed),
+        }
+    }
+}
+
+// Whether a text contains another one.
+fn contains(text: &[u8], part: &[u8]) -> bool {
+    for at in 0..text.len() {
+        if text[at..].starts_with(part) {
+            return true;
+        }
+    }
+    false
+}
+
+/// A text that a connection is to be written.
+#[derive(Drop)]
+pub struct Sign {
+    pub number: usize,
+    pub text: Vec<u8>,
+}
+
+impl Sign {
+    /// The same sign once more.
+    pub fn copy(&self, alloc: Global) -> Result<Sign, AllocError> {
+        Ok(Sign {
+            number: self.number,
+            text: Vec::from_slice(alloc, self.text.as_slice())?,
+        })
+    }
+}
+
+/// Bytes that come once all signs are there. Where one doesn't come in time none do.
+#[derive(Drop)]
+pub struct CaseSource<R: Wait + Copy + Drop> {
+    board: Arc<Board<R>>,
+    signs: Vec<Sign>,
+    bytes: Vec<u8>,
+    at: usize,
+}
+
+impl<R: Wait + Copy + Drop + std::time::Clock> CaseSource<R> {
+    /// The source of these bytes.
+    pub fn new(board: Arc<Board<R>>, signs: Vec<Sign>, bytes: Vec<u8>) -> CaseSource<R> {
+        CaseSource {
+            board,
+            signs,
+            bytes,
+            at: 0,
+        }
+    }
+
+    // Waits for the signs.
+    fn have_come(&self) -> bool {
+        self.signs.iter().all(|sign| self.has_come(sign))
+    }
+
+    // Waits for one.
+    fn has_come(&self, sign: &Sign) -> bool {
+        for _ in 0..LOOKS {
+            if self.board.has(sign.number, sign.text.as_slice()) {
+                return true;
+            }
+            thread::sleep(&self.board.rt, Duration::from_millis(1));
+        }
+        false
+    }
+}
+
+impl<R: Wait + Copy + Drop + std::time::Clock> Source for CaseSource<R> {
+    ghost left = { λ _. None };
+
+    ghost faults = { λ _. 0 };
+
+    fn read(&mut self, buf: &mut [u8]) -> Result<usize, Failed> {
+        if self.at == 0 && !self.have_come() {
+            self.at = self.bytes.len();
+        }
+        let left = self.bytes.get(self.at..).unwrap_or(&[]);
+        let n = left.len().min(buf.len());
+        buf[..n].copy_from_slice(&left[..n]);
+        self.at = self.at.saturating_add(n);
+        Ok(n)
+    }
+}
+
+/// What a connection is written stands on the board.
+#[derive(Drop)]
+pub struct CaseSink<R: Wait + Drop> {
+    board: Arc<Board<R>>,
+    number: usize,
+    faults: u64,
+}
+
+impl<R: Wait + Drop> CaseSink<R> {
+    /// The sink of a connection.
+    pub fn new(board: Arc<Board<R>>, number: usize) -> CaseSink<R> {
+        CaseSink {
+            board,
+            number,
+            faults: 0,
+        }
+    }
+}
+
+impl<R: Wait + Drop> Sink for CaseSink<R> {
+    ghost written = { λ _. None };
+
+    ghost faults = { λ sink. sink.faults };
+
+    ghost settled = { λ _. ⊤ };
+
+    fn write(&mut self, bytes: &[u8]) -> Result<usize, Failed> {
+        match self.board.write(self.number, bytes) {
+            Ok(()) => Ok(bytes.len()),
+            Err(failed) => {
+                self.faults = self.faults.saturating_add(1);
+                Err(failed)
+            }
+        }
+    }
+
+    fn flush(&mut self) -> Result<(), Failed> {
+        Ok(())
+    }
+}
+
+/// A clock that stands at 0 until its connection was written a text, or was looked at too often; then it is late.
+#[derive(Drop)]
+pub struct CaseClock<R: Wait + Drop> {
+    board: Arc<Board<R>>,
+    late: Sign,
+    turns: u64,
+    last: u64,
+}
+
+impl<R: Wait + Drop> CaseClock<R> {
+    /// The clock that is late by this sign.
+    pub fn new(board: Arc<Board<R>>, late: Sign) -> CaseClock<R> {
+        CaseClock {
+            board,
+            late,
+            turns: 0,
+            last: 0,
+        }
+    }
+}
+
+impl<R: Wait + Drop + std::time::Clock> Clock for CaseClock<R> {
+    ghost last = { λ clock. clock.last };
+
+    ghost readings = { λ _. None };
+
+    fn now(&mut self) -> Reading {
+        self.turns = self.turns.saturating_add(1);
+        if self.turns > TURNS || self.board.has(self.late.number, self.late.text.as_slice()) {
+            self.last = self.last.max(LATE_MS);
+        }
+        Reading {
+            ms: self.last,
+            stop: false,
+        }
+    }
+
+    fn rest(&mut self) {
+        thread::sleep(&self.board.rt, Duration::from_millis(1));
+    }
+}
+
+/// The ends of a connection, and its clock.
+pub type CaseEnds<R> = (CaseSource<R>, CaseSink<R>, CaseClock<R>);
+
+/// A listener that hands out connections, the first one first, and may fail in between.
+#[derive(Drop)]
+pub struct CaseListener<R: Wait + Copy + Drop> {
+    waiting: VecDeque<CaseEnds<R>>,
+    fails: Option<u64>,
+    given: u64,
+    faults: u64,
+}
+
+impl<R: Wait + Copy + Drop> CaseListener<R> {
+    /// A listener of these connections. Where `fails` is a number, accepting fails once so many were given.
+    pub fn new(waiting: Vec<CaseEnds<R>>, fails: Option<u64>) -> CaseListener<R>
+        ensures given { result.given ≡ 0 }
+        ensures faults { result.faults ≡ 0 }
+    {
+        CaseListener {
+            waiting: VecDeque::from(waiting),
+            fails,
+            given: 0,
+            faults: 0,
+        }
+    }
+
+    /// How often accepting failed.
+    pub fn faults(&self) -> u64 {
+        self.faults
+    }
+}
+
+impl<R: Wait + Copy + Drop + std::time::Clock + Send + Sync> Listener for CaseListener<R> {
+    ghost use Rattle.std.specs.Prelude.{[]};
+
+    type S = CaseSource<R>;
+
+    type K = CaseSink<R>;
+
+    type T = CaseClock<R>;
+
+    ghost given = { λ listener. listener.given };
+
+    ghost faults = { λ listener. listener.faults };
+
+    ghost over = { λ listener. listener.waiting.items ≡ [] };
+
+    fn accept(&mut self) -> Result<Option<CaseEnds<R>>, Failed> {
+        if self.fails == Some(self.given) {
+            self.faults += 1;
+            return Err(Failed);
+        }
+        match self.waiting.pop_front() {
+            Some(ends) => {
+                self.given += 1;
+                Ok(Some(ends))
+            }
+            None => Ok(None),
+        }
+    }
+}

@@ -1,0 +1,137 @@
+//! Servers with many connections as data: each file that the command line names has cases, and each case is the
+//! connections of one server, what each sends and when, what it gets back, and how the server ends.
+//!
+//! A case that comes out otherwise is printed with both texts; the last line counts. How cases are written stands in
+//! `data/README.txt`.
+#![tactic(auto)]
+
+mod case;
+mod ends;
+mod serving;
+
+use case::{Case, Plan};
+use serving::{Host, Outcome, serve_case};
+use std::alloc::{AllocError, Global};
+use std::rt::Runtime;
+use std::{env, fs, io};
+
+/// How many servers there were, and how many came out otherwise.
+#[derive(Clone, Copy)]
+struct Tally {
+    cases: u64,
+    mismatches: u64,
+}
+
+impl Tally {
+    fn count(&mut self, met: bool) {
+        self.cases = self.cases.saturating_add(1);
+        if !met {
+            self.mismatches = self.mismatches.saturating_add(1);
+        }
+    }
+}
+
+fn main(rt: HostRuntime) -> io::Result<()> {
+    let mut tally = Tally {
+        cases: 0,
+        mismatches: 0,
+    };
+    for file in env::args(&rt)?.skip(1) {
+        run_file(rt, rt.alloc(), file.as_str(), &mut tally)?;
+    }
+    println!(rt;
+        "{} servers, {} come out otherwise",
+        tally.cases, tally.mismatches
+    )
+}
+
+/// Runs the cases of one file.
+fn run_file<R: Runtime + Host>(
+    rt: R,
+    alloc: Global,
+    file: &str,
+    tally: &mut Tally,
+) -> io::Result<()> {
+    let text = fs::read_to_string(&rt, file)?;
+    let mut case = None;
+    for line in text.as_str().lines() {
+        if let Some(name) = line.strip_prefix("case ") {
+            finish(rt, alloc, case, tally)?;
+            case = Some(Case::new(alloc, name)?);
+        } else if !take_line(&mut case, line)? {
+            println!(rt; "{file}: no line of a case: {line}")?;
+            tally.count(false);
+        }
+    }
+    finish(rt, alloc, case, tally)
+}
+
+/// Whether a line is one of the case, or says nothing.
+fn take_line(case: &mut Option<Case>, line: &str) -> Result<bool, AllocError> {
+    if line.is_empty() || line.starts_with('#') {
+        return Ok(true);
+    }
+    match case {
+        Some(case) => case.take_line(line),
+        None => Ok(false),
+    }
+}
+
+/// Serves a case that was read whole, and counts it.
+fn finish<R: Runtime + Host>(
+    rt: R,
+    alloc: Global,
+    case: Option<Case>,
+    tally: &mut Tally,
+) -> io::Result<()> {
+    let Some(case) = case else {
+        return Ok(());
+    };
+    let outcome = serve_case(rt, alloc, &case)?;
+    let met = compare(rt, alloc, &case, &outcome)?;
+    tally.count(met);
+    Ok(())
+}
+
+/// Whether a case came out as it is wanted; what didn't is printed.
+fn compare<R: Runtime + Host>(
+    rt: R,
+    alloc: Global,
+    case: &Case,
+    outcome: &Outcome,
+) -> io::Result<bool> {
+    let mut met = outcome.end.as_str() == case.end.as_str();
+    if !met {
+        println!(rt; "{}: wanted: {}", case.name.as_str(), case.end.as_str())?;
+        println!(rt; "    is: {}", outcome.end.as_str())?;
+    }
+    for (plan, text) in case.plans.iter().zip(outcome.texts.iter()) {
+        if !comes_back(rt, alloc, case, plan, text.as_slice())? {
+            met = false;
+        }
+    }
+    Ok(met)
+}
+
+/// Whether a connection got back what is wanted; if not, both are printed.
+fn comes_back<R: Runtime + Host>(
+    rt: R,
+    alloc: Global,
+    case: &Case,
+    plan: &Plan,
+    text: &[u8],
+) -> io::Result<bool> {
+    if plan.wanted.as_slice() == text {
+        return Ok(true);
+    }
+    println!(rt; "{}", case.name.as_str())?;
+    println!(rt;
+        "    wanted: {}",
+        String::from_utf8_lossy(alloc, plan.wanted.as_slice())?.as_str()
+    )?;
+    println!(rt;
+        "    is:     {}",
+        String::from_utf8_lossy(alloc, text)?.as_str()
+    )?;
+    Ok(false)
+}
