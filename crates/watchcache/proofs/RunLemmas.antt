@@ -1,12 +1,12 @@
 -- The session of the program, from what is proved of a session of any client.
-use Rattle.std.proofs.Common.{◌≡◌, refl, subst}
+use Rattle.std.proofs.Common.{◌≡◌, subst, ap, ◌∙◌, Bool, Option, Some, ℕ, List}
 use Rattle.std.specs.Prelude.{false, []}
-use Rattle.rev_front.specs.Passes.{Pass}
+use Rattle.kube_meta.specs.Rows.{RowData}
+use Rattle.rev_front.specs.Passes.{Pass, empty_log, pass_from}
 use Rattle.rev_log.specs.Changes.{RevisionData}
-use Rattle.up_api.specs.Sections.{HasSeenAll}
-use Rattle.up_api.specs.Settings.{usual}
 use Rattle.up_api.specs.declared.settings.Settings.{Settings}
-use Rattle.plain_client.specs.Plain.{PlainData, new_plain}
+use Rattle.client_api.specs.Facts.{Facts}
+use Rattle.local_client.specs.CachedLogs.{CachedLogData, IsNewLog, KnowsWhole, window_of}
 use Rattle.sess_serve.specs.Session.{Traffic, IsSession}
 use Rattle.sess_serve.specs.declared.ends.SessionEnd.{SessionEnd}
 use Rattle.sess_turns.specs.Terms.{Terms, terms_of}
@@ -27,14 +27,29 @@ known-whole t W p traffic q how whole s = record {
   ended = s.ended;
 }
 
--- a session of a new plain client in the usual settings
-pub of_new_client : (client : PlainData) (settings : Settings) (traffic : Traffic) (q : Pass RevisionData) (how : SessionEnd) →
-    client ≡ new_plain 1 10000 100 → settings ≡ usual →
-    IsSession (terms_of [] false client.facts settings) (HasSeenAll client.pass) client.pass traffic q how →
-    IsSession terms (Unit {0}) new_pass traffic q how
-of_new_client client settings traffic q how new set s =
-    let usual_one : IsSession (terms_of [] false client.facts usual) (HasSeenAll client.pass) client.pass traffic q how =
-    subst (λ (it : Settings). IsSession (terms_of [] false client.facts it) (HasSeenAll client.pass) client.pass traffic q how) set s in
-    let new_one : IsSession (terms_of [] false (new_plain 1 10000 100).facts usual) (HasSeenAll (new_plain 1 10000 100).pass) (new_plain 1 10000 100).pass traffic q how =
-    subst (λ (it : PlainData). IsSession (terms_of [] false it.facts usual) (HasSeenAll it.pass) it.pass traffic q how) new usual_one in
-    known-whole terms (HasSeenAll (new_plain 1 10000 100).pass) new_pass traffic q how refl new_one
+-- what such a client's session is told once
+terms-are : (base : List RowData) (mirror : Bool) (facts : Facts) (settings : Settings) →
+    base ≡ [] → mirror ≡ false → facts.window ≡ settings.window → facts.alone ≡ Some settings.history →
+    terms_of base mirror facts settings ≡ terms settings
+terms-are base mirror facts settings base-is own window-is alone-is =
+    ap (λ (b : List RowData). record { base = b; mirror = mirror; window = facts.window; alone = facts.alone; settings = settings }) base-is
+    ∙ ap (λ (m : Bool). record { base = []; mirror = m; window = facts.window; alone = facts.alone; settings = settings }) own
+    ∙ ap (λ (w : ℕ). record { base = []; mirror = false; window = w; alone = facts.alone; settings = settings }) window-is
+    ∙ ap (λ (a : Option ℕ). record { base = []; mirror = false; window = settings.window; alone = a; settings = settings }) alone-is
+
+-- a session of a client of a new log, in the settings that it was made with
+pub of_new_log : (first : ℕ) (base : List RowData) (mirror : Bool) (facts : Facts) (log : CachedLogData) (settings : Settings)
+    (traffic : Traffic) (q : Pass RevisionData) (how : SessionEnd) → first ≡ 1 → base ≡ [] → mirror ≡ false →
+    facts.window ≡ window_of log → facts.alone ≡ Some log.store.history → IsNewLog first settings log →
+    IsSession (terms_of base mirror facts settings) (KnowsWhole log) log.pass traffic q how →
+    IsSession (terms settings) (Unit {0}) (new_pass log.pass.seat) traffic q how
+of_new_log first base mirror facts log settings traffic q how first-is base-is own window-is alone-is new s =
+    let terms-is = terms-are base mirror facts settings base-is own (window-is ∙ new.window_is)
+    (alone-is ∙ ap (λ (h : ℕ). Some h) new.history_is) in
+    let pass-is : log.pass ≡ new_pass log.pass.seat =
+    new.pass_is ∙ ap (λ (n : ℕ). pass_from (empty_log n) log.pass.seat) first-is in
+    let in-terms : IsSession (terms settings) (KnowsWhole log) log.pass traffic q how =
+    subst (λ (t : Terms). IsSession t (KnowsWhole log) log.pass traffic q how) terms-is s in
+    let from-new : IsSession (terms settings) (KnowsWhole log) (new_pass log.pass.seat) traffic q how =
+    subst (λ (p : Pass RevisionData). IsSession (terms settings) (KnowsWhole log) p traffic q how) pass-is in-terms in
+    known-whole (terms settings) (KnowsWhole log) (new_pass log.pass.seat) traffic q how new.whole from-new

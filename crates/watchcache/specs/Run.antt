@@ -1,67 +1,158 @@
--- What the program does for its words: its exit status, the bytes that it took and those that it wrote.
-use Rattle.std.specs.Prelude.{◌≡◌, ℕ, ◌⊎◌, List, [], ◌∷◌, map, codes, false, Option, None, Some, String, string_bytes}
-use Rattle.std.specs.declared.alloc.Global.{Global}
+-- What the program does for the words of its command line: its exit status, the bytes that it took and those that it wrote.
+use Rattle.std.specs.Prelude.{◌≡◌, ℕ, ◌<◌, ◌≤◌, ◌⊎◌, List, [], false, Option, Some, Result, Ok, Err}
+use Rattle.command_line.specs.Words.{Reads}
+use Rattle.command_line.specs.declared.asked.Asked.{Asked}
+use Rattle.command_line.specs.declared.asked.Asked.TheVariants.{Help, Version, Session, Serve, Load}
+use Rattle.command_line.specs.declared.asked.ServeOptions.{ServeOptions}
+use Rattle.command_line.specs.declared.asked.WordsNo.{WordsNo}
+use Rattle.command_line.specs.declared.asked.WordsNo.TheVariants.{Bad, Memory}
 use Rattle.edge_io.specs.Told.{prepended, appended, AppendedSome, Noted}
 use Rattle.edge_io.specs.declared.clock.Reading.{Reading}
+use Rattle.net_front.specs.Ends.{limit_of}
 use Rattle.rev_front.specs.Passes.{Pass, empty_log, pass_from}
 use Rattle.rev_log.specs.Changes.{RevisionData}
-use Rattle.up_api.specs.Settings.{usual}
+use Rattle.sess_serve.specs.Ends.{UnlessBroken}
 use Rattle.sess_serve.specs.Session.{IsSession}
 use Rattle.sess_serve.specs.Status.{status_of}
 use Rattle.sess_serve.specs.declared.ends.SessionEnd.{SessionEnd}
 use Rattle.sess_turns.specs.Terms.{Terms}
+use Rattle.up_api.specs.declared.settings.Settings.{Settings}
+use Rattle.watchcache.specs.Texts.{help, version, bad_line, sessions}
 
--- the single word `session`
-abbrev pub AreSession : List (String Global) → Type 0
-AreSession words = map string_bytes words ≡ codes "session" ∷ []
+-- ---- what went through the program's ends
 
--- what a client of a new log knows: the log begins at revision 1 and is empty
-abbrev pub new_pass : Pass RevisionData
-new_pass = pass_from (empty_log 1) 0
+-- what went through the sink: what was written, where it is told; whether nothing is held back; and whether its count of
+-- faults rose
+pub record Sent : Type 1 where
+  pub written_old : Option (List ℕ)
+  pub written_new : Option (List ℕ)
+  pub settled_old : Type 0
+  pub settled_new : Type 0
+  pub write_fault : Type 0
 
--- a log with no base rows, which is no mirror's and which nobody else holds; watches that are served from 100 changes back;
--- and the states of the last 10,000 revisions
-abbrev pub terms : Terms
-terms = record { base = []; mirror = false; window = 100; alone = Some 10000; settings = usual }
-
--- what went through the program's ends: what is left to be read, what was written, and the readings of the clock, where they
--- are told; and whether the counts of faults rose
+-- what is left to be read, and the readings of the clock, where they are told; whether the source's count of faults rose;
+-- and what went through the sink
 pub record Ends : Type 1 where
   pub left_old : Option (List ℕ)
   pub left_new : Option (List ℕ)
-  pub written_old : Option (List ℕ)
-  pub written_new : Option (List ℕ)
   pub readings_old : Option (List Reading)
   pub readings_new : Option (List Reading)
   pub read_fault : Type 0
-  pub write_fault : Type 0
+  pub sent : Sent
 
--- one session, of a client that holds a new log alone
-pub record IsSessionRun (ends : Ends) (status : ℕ) : Type 0 where
+-- some listener that gave so many connections is over, so that no more will come
+abbrev pub IsOver : {L : Type 0} → (L → ℕ) → (L → Type 0) → ℕ → Type 0
+IsOver {L} given over n = ∥ ((listener : L) × (given listener ≡ n) × over listener) ∥₁
+
+-- the net's count of faults; how many connections the listener had given that was shut last; and whether a listener that
+-- gave as many is over
+pub record NetUse : Type 1 where
+  pub faults_old : ℕ
+  pub faults_new : ℕ
+  pub served_old : ℕ
+  pub served_new : ℕ
+  pub over : Type 0
+
+-- nothing was read, and no time
+abbrev pub IsIdle : Ends → Type 0
+IsIdle ends = (ends.left_new ≡ ends.left_old) × (ends.readings_new ≡ ends.readings_old)
+
+-- the text was written and sent on
+abbrev pub IsSentOn : List ℕ → Sent → Type 0
+IsSentOn text sent = (sent.written_new ≡ appended sent.written_old text) × sent.settled_new
+
+-- the sink failed behind a beginning of the text, or as it was to be sent on
+abbrev pub IsBrokenOff : List ℕ → Sent → Type 0
+IsBrokenOff text sent = AppendedSome sent.written_old sent.written_new text × sent.write_fault
+
+-- the text was sent on, and the status is `done`; or it was broken off, and the status is 4
+abbrev pub IsTold : List ℕ → ℕ → Sent → ℕ → Type 0
+IsTold text done sent status = ((status ≡ done) × IsSentOn text sent) ⊎ ((status ≡ 4) × IsBrokenOff text sent)
+
+-- there was no memory: nothing was read or written, and the status is 8
+abbrev pub IsUnserved : Ends → ℕ → Type 0
+IsUnserved ends status = IsIdle ends × (ends.sent.written_new ≡ ends.sent.written_old) × (status ≡ 8)
+
+-- ---- one session
+
+-- what a client of a new log knows that has this seat: the log begins at revision 1 and is empty
+abbrev pub new_pass : ℕ → Pass RevisionData
+new_pass seat = pass_from (empty_log 1) seat
+
+-- a log with no base rows, which is no mirror's and which nobody else holds; watches that are served from so many changes
+-- back as the settings say, and the states of so many revisions
+abbrev pub terms : Settings → Terms
+terms settings = record { base = []; mirror = false; window = settings.window; alone = Some settings.history; settings = settings }
+
+-- one session in these settings, of a client that holds a new log alone; nothing is held back where it wasn't broken off
+pub record IsSessionRun (settings : Settings) (ends : Ends) (status : ℕ) : Type 0 where
   pub taken : List ℕ
   pub written : List ℕ
   pub readings : List Reading
+  pub seat : ℕ
   pub last : Pass RevisionData
   pub how : SessionEnd
   pub source : ends.left_old ≡ prepended taken ends.left_new
-  pub sink : ends.written_new ≡ appended ends.written_old written
+  pub sink : ends.sent.written_new ≡ appended ends.sent.written_old written
   pub clock : Noted ends.readings_old ends.readings_new readings
-  pub session : IsSession terms (Unit {0}) new_pass
-      (record { taken = taken; written = written; readings = readings; read_fault = ends.read_fault; write_fault = ends.write_fault; left = ends.left_new })
+  pub session : IsSession (terms settings) (Unit {0}) (new_pass seat)
+      (record { taken = taken; written = written; readings = readings; read_fault = ends.read_fault; write_fault = ends.sent.write_fault; left = ends.left_new })
       last how
+  pub settled : ends.sent.settled_old → UnlessBroken how ends.sent.settled_new
   pub status_is : status ≡ status_of how
 
--- the line that says that the command line is bad
-abbrev pub refusal : List ℕ
-refusal = codes "watchcache: bad command line\n"
+-- a session, or there was no memory to begin it
+abbrev pub RunsSession : Settings → Ends → ℕ → Type 0
+RunsSession settings ends status = IsSessionRun settings ends status ⊎ IsUnserved ends status
 
--- nothing was read, and the line was written; or a beginning of it, where the sink failed
-pub record IsRefusal (ends : Ends) (status : ℕ) : Type 0 where
+-- ---- a server
+
+-- nothing was read or written, and this is the status
+abbrev pub IsSilent : Ends → ℕ → ℕ → Type 0
+IsSilent ends wanted status =
+    (ends.left_new ≡ ends.left_old) × (ends.sent.written_new ≡ ends.sent.written_old) × (status ≡ wanted)
+
+-- the net's count of faults rose
+abbrev pub HasFailed : NetUse → Type 0
+HasFailed net = net.faults_old < net.faults_new
+
+-- how many sessions were served was told, and the status is 0, or 4 where that was broken off; and 9 where the net failed
+abbrev pub TellsSessions : NetUse → Sent → ℕ → Type 0
+TellsSessions net sent status =
+    ((net.faults_new ≡ net.faults_old) × IsTold (sessions net.served_new) 0 sent status)
+    ⊎ (HasFailed net × (status ≡ 9) × (IsSentOn (sessions net.served_new) sent ⊎ IsBrokenOff (sessions net.served_new) sent))
+
+-- a server ended: no more connections will come, the net failed, or as many were accepted as were asked for
+pub record IsServed (options : ServeOptions) (ends : Ends) (net : NetUse) (status : ℕ) : Type 0 where
+  pub ended : net.over ⊎ HasFailed net ⊎ (limit_of options.connections ≤ net.served_new)
   pub unread : ends.left_new ≡ ends.left_old
-  pub untimed : ends.readings_new ≡ ends.readings_old
-  pub told : ((status ≡ 2) × (ends.written_new ≡ appended ends.written_old refusal))
-      ⊎ ((status ≡ 4) × AppendedSome ends.written_old ends.written_new refusal × ends.write_fault)
+  pub told : TellsSessions net ends.sent status
 
--- what the program does
-abbrev pub IsRun : List (String Global) → Ends → ℕ → Type 0
-IsRun words ends status = (AreSession words × IsSessionRun ends status) ⊎ (¬ (AreSession words) × IsRefusal ends status)
+-- a server: it ended; or it had no port, for the net failed; or no memory
+abbrev pub RunsServer : ServeOptions → Ends → NetUse → ℕ → Type 0
+RunsServer options ends net status =
+    IsServed options ends net status
+    ⊎ ((HasFailed net × IsSilent ends 9 status) ⊎ ((net.faults_new ≡ net.faults_old) × IsSilent ends 8 status))
+
+-- ---- the program
+
+-- the net isn't used
+abbrev pub IsUnused : NetUse → Type 0
+IsUnused net = (net.faults_new ≡ net.faults_old) × (net.served_new ≡ net.served_old)
+
+-- what is done for what the words ask for, or where they ask for nothing; a load is read, but isn't served, and so is a bad
+-- line too
+abbrev pub Does : Result Asked WordsNo → Ends → NetUse → ℕ → Type 0
+Does (Ok Help) ends net status = IsUnused net × IsIdle ends × IsTold help 0 ends.sent status
+Does (Ok Version) ends net status = IsUnused net × IsIdle ends × IsTold version 0 ends.sent status
+Does (Ok (Session settings)) ends net status = IsUnused net × RunsSession settings ends status
+Does (Ok (Serve options)) ends net status = RunsServer options ends net status
+Does (Ok (Load options)) ends net status = IsUnused net × IsIdle ends × IsTold bad_line 2 ends.sent status
+Does (Err Bad) ends net status = IsUnused net × IsIdle ends × IsTold bad_line 2 ends.sent status
+Does (Err Memory) ends net status = IsUnused net × IsUnserved ends status
+
+-- what the program does: the words are read as clap reads them, and what they ask for is done
+pub record IsRun (words : List (List ℕ)) (ends : Ends) (net : NetUse) (status : ℕ) : Type 0 where
+  pub asked : Result Asked WordsNo
+  pub read : Reads words asked
+  pub done : Does asked ends net status

@@ -1,35 +1,42 @@
 //! The watch cache of a Kubernetes API server.
 //!
 //! `watchcache session` reads the requests of one connection on standard input, and writes the replies to standard
-//! output.
+//! output. `watchcache serve` does so for the connections to a port. `watchcache --help` says which options they have.
 #![tactic(auto)]
 
+mod announced;
+mod commands;
+mod server;
 mod session;
-#[cfg(test)]
-mod tests;
-mod words;
+mod statuses;
+mod texts;
 
-ghost use Rattle.std.specs.Prelude.{◌≡◌, ◌<◌, ◌^◌};
+ghost use Rattle.std.specs.Prelude.{◌≡◌, ◌<◌, ◌^◌, map, string_bytes};
 ghost use Rattle.edge_io.specs.Counts.{Rose};
-ghost use Rattle.watchcache.specs.Run.{IsRun};
+ghost use Rattle.watchcache.specs.Run.{IsOver, IsRun};
 
-use edge_io::{Clock, MemNet, Net, ReadEnd, Sink, Source, StepClock, SystemClock, WriteEnd};
-use session::{refuse, run_session};
+use announced::AnnouncedNet;
+use command_line::read_words;
+use commands::perform;
+use edge_io::{Clock, Net, ReadEnd, Sink, Source, StepClock, SystemClock, TcpNet, WriteEnd};
+use statuses::OUT_OF_MEMORY;
 use std::alloc::{AllocError, Global};
 use std::env::{self, Env};
 use std::io::ErrorKind;
 use std::process::ExitCode;
-use words::is_session;
-
-/// The exit status where the words can't be read for want of memory.
-const OUT_OF_MEMORY: u8 = 8;
+use std::sync::Wait;
+use std::thread::Threads;
 
 /// Does all that the program does. `words` are those of the command line behind the program's name. Answers the exit
 /// status.
 ///
-/// The single word `session` is one session over `source` and `sink`, with a client that has a log of its own, whose
-/// first revision is 1. All else is a bad command line: status 2, or 4 where the sink failed.
-pub fn run<S: Source, K: Sink, T: Clock, N: Net>(
+/// `session` with its options is one session over `source` and `sink`, with a client that answers from caches of a
+/// log of its own, whose first revision is 1. `serve` serves each connection to a port by such a session, over one
+/// log, and tells on `sink` how many there were; the status is 9 where `net` failed. `--help` and `--version`, at any
+/// place, are told on `sink`: status 0. All else is a bad command line: status 2, `load` too, which is read but not
+/// served. The status is 4 where `sink` failed, and 8 where memory ran out.
+pub fn run<R, S, K, T, N>(
+    rt: R,
     alloc: Global,
     words: &[String],
     source: &mut S,
@@ -37,32 +44,71 @@ pub fn run<S: Source, K: Sink, T: Clock, N: Net>(
     clock: &mut T,
     net: &mut N,
 ) -> u8
+where
+    R: Threads + Wait + Copy + Send + Sync,
+    S: Source,
+    K: Sink,
+    T: Clock + Send,
+    N: Net,
     requires { N.faults net.old < 2 ^ 62 }
-    ensures run { IsRun words.now (record {
+    ensures { IsRun (map string_bytes words.now) (record {
       left_old = S.left source.old;
       left_new = S.left source.new;
-      written_old = K.written sink.old;
-      written_new = K.written sink.new;
       readings_old = T.readings clock.old;
       readings_new = T.readings clock.new;
       read_fault = Rose (S.faults source.old) (S.faults source.new);
-      write_fault = Rose (K.faults sink.old) (K.faults sink.new);
+      sent = record {
+        written_old = K.written sink.old;
+        written_new = K.written sink.new;
+        settled_old = K.settled sink.old;
+        settled_new = K.settled sink.new;
+        write_fault = Rose (K.faults sink.old) (K.faults sink.new);
+      };
+    }) (record {
+      faults_old = N.faults net.old;
+      faults_new = N.faults net.new;
+      served_old = N.served net.old;
+      served_new = N.served net.new;
+      over = IsOver N.L.given N.L.over (N.served net.new);
     }) result }
-    ensures net { net.new ≡ net.old }
 {
-    let _ = net;
-    if is_session(words) {
-        run_session(alloc, source, sink, clock)
-    } else {
-        refuse(source, sink, clock)
-    }
+    let asked = read_words(alloc, words);
+    perform(rt, alloc, asked, source, sink, clock, net)
 }
 
+// Runs over standard input and output and TCP. A server shows the time; all else reads a clock that steps.
 fn main(rt: HostRuntime) -> ExitCode {
-    match words_of(&rt) {
-        Ok(words) => ExitCode::from(run_real(rt, &words)),
-        Err(AllocError) => ExitCode::from(OUT_OF_MEMORY),
-    }
+    let alloc = rt.alloc();
+    let Ok(words) = words_of(&rt) else {
+        return ExitCode::from(OUT_OF_MEMORY);
+    };
+    let mut source = ReadEnd::new(rt.reader());
+    let mut sink = WriteEnd::new(alloc, rt.stdout());
+    let mut net = AnnouncedNet::new(TcpNet::new(alloc, rt), rt);
+    let status = if is_server(&words) {
+        let mut clock = SystemClock::new(rt);
+        run(
+            rt,
+            alloc,
+            &words,
+            &mut source,
+            &mut sink,
+            &mut clock,
+            &mut net,
+        )
+    } else {
+        let mut clock = StepClock::new();
+        run(
+            rt,
+            alloc,
+            &words,
+            &mut source,
+            &mut sink,
+            &mut clock,
+            &mut net,
+        )
+    };
+    ExitCode::from(status)
 }
 
 /// The words of the command line behind the program's name. No word stands for words that can't be read, as one that
@@ -75,17 +121,7 @@ fn words_of<R: Env + AllocGlobal>(rt: &R) -> Result<Vec<String>, AllocError> {
     }
 }
 
-/// Runs over standard input and output. A server shows the time; all else reads a clock that steps.
-fn run_real(rt: HostRuntime, words: &[String]) -> u8 {
-    let alloc = rt.alloc();
-    let mut source = ReadEnd::new(rt.reader());
-    let mut sink = WriteEnd::new(alloc, rt.stdout());
-    let mut net = MemNet::new(Vec::new(alloc));
-    if words.first().is_some_and(|word| word.as_str() == "serve") {
-        let mut clock = SystemClock::new(rt);
-        run(alloc, words, &mut source, &mut sink, &mut clock, &mut net)
-    } else {
-        let mut clock = StepClock::new();
-        run(alloc, words, &mut source, &mut sink, &mut clock, &mut net)
-    }
+// Whether the first word is `serve`.
+fn is_server(words: &[String]) -> bool {
+    words.first().is_some_and(|word| word.as_str() == "serve")
 }

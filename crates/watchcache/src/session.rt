@@ -1,65 +1,86 @@
-//! What the program does for its words.
-ghost use Rattle.std.specs.Prelude.{◌≡◌};
-ghost use Rattle.edge_io.specs.Counts.{Rose};
-ghost use Rattle.watchcache.specs.Run.{IsSessionRun, IsRefusal};
+//! One session.
 
+ghost use Rattle.std.specs.Prelude.{◌≡◌, [], false};
+ghost use Rattle.edge_io.specs.Counts.{Rose};
+ghost use Rattle.up_api.specs.Settings.{AreInRange};
+ghost use Rattle.watchcache.specs.Run.{RunsSession};
+
+use crate::statuses::OUT_OF_MEMORY;
 use edge_io::{Clock, Sink, Source};
-use plain_client::PlainClient;
+use local_client::LocalClient;
+use rev_front::{Blank, blank};
+use rev_log::Revision;
 use sess_serve::serve_session;
 use std::alloc::Global;
-use up_api::Settings;
+use std::marker::Brand;
+use up_api::{LogFacts, Settings};
 
 /// The first revision of a new log.
 const FIRST: u64 = 1;
 
-/// The exit status of a bad command line, and the one where the sink failed.
-const BAD_WORDS: u8 = 2;
-
-const WRITE_FAULT: u8 = 4;
-
-/// One session with a client of a new log, in the usual settings.
+/// One session with a client of a new log, in these settings. Answers the status of its end.
 pub fn run_session<S: Source, K: Sink, T: Clock>(
     alloc: Global,
+    settings: &Settings,
     source: &mut S,
     sink: &mut K,
     clock: &mut T,
 ) -> u8
-    ensures run { IsSessionRun (record {
+    requires settings { AreInRange settings.now }
+    ensures run { RunsSession settings.now (record {
       left_old = S.left source.old;
       left_new = S.left source.new;
-      written_old = K.written sink.old;
-      written_new = K.written sink.new;
       readings_old = T.readings clock.old;
       readings_new = T.readings clock.new;
       read_fault = Rose (S.faults source.old) (S.faults source.new);
-      write_fault = Rose (K.faults sink.old) (K.faults sink.new);
+      sent = record {
+        written_old = K.written sink.old;
+        written_new = K.written sink.new;
+        settled_old = K.settled sink.old;
+        settled_new = K.settled sink.new;
+        write_fault = Rose (K.faults sink.old) (K.faults sink.new);
+      };
     }) result }
 {
-    let settings = Settings::usual();
-    let mut client = PlainClient::new(alloc, FIRST, settings.history, settings.window as u64);
-    serve_session(alloc, &mut client, source, sink, clock, &settings).status()
+    match blank(alloc, FIRST) {
+        Ok(made) => serve_new::<Brand, S, K, T>(alloc, made, settings, source, sink, clock),
+        Err(_) => OUT_OF_MEMORY,
+    }
 }
 
-/// Says that the command line is bad.
-pub fn refuse<S: Source, K: Sink, T: Clock>(source: &S, sink: &mut K, clock: &T) -> u8
-    ensures { IsRefusal (record {
-      left_old = S.left source.now;
-      left_new = S.left source.now;
-      written_old = K.written sink.old;
-      written_new = K.written sink.new;
-      readings_old = T.readings clock.now;
-      readings_new = T.readings clock.now;
-      read_fault = Rose (S.faults source.now) (S.faults source.now);
-      write_fault = Rose (K.faults sink.old) (K.faults sink.new);
+// The session, with a client of the log whose table was just made.
+fn serve_new<N: LogFacts, S: Source, K: Sink, T: Clock>(
+    alloc: Global,
+    made: Blank<Revision>,
+    settings: &Settings,
+    source: &mut S,
+    sink: &mut K,
+    clock: &mut T,
+) -> u8
+    requires name { made ≡ N.log }
+    requires first { N.log.first ≡ 1 }
+    requires base { N.base ≡ [] }
+    requires own { N.mirror ≡ false }
+    requires settings { AreInRange settings.now }
+    ensures run { RunsSession settings.now (record {
+      left_old = S.left source.old;
+      left_new = S.left source.new;
+      readings_old = T.readings clock.old;
+      readings_new = T.readings clock.new;
+      read_fault = Rose (S.faults source.old) (S.faults source.new);
+      sent = record {
+        written_old = K.written sink.old;
+        written_new = K.written sink.new;
+        settled_old = K.settled sink.old;
+        settled_new = K.settled sink.new;
+        write_fault = Rose (K.faults sink.old) (K.faults sink.new);
+      };
     }) result }
 {
-    let _ = source;
-    let _ = clock;
-    if sink.write_all(b"watchcache: bad command line\n").is_err() {
-        return WRITE_FAULT;
+    match LocalClient::<N>::new(alloc, made, settings) {
+        Ok(mut client) => {
+            serve_session(alloc, &mut client, source, sink, clock, settings).status()
+        }
+        Err(_) => OUT_OF_MEMORY,
     }
-    if sink.flush().is_err() {
-        return WRITE_FAULT;
-    }
-    BAD_WORDS
 }

@@ -1,0 +1,51 @@
+-- The texts that the program writes for its words.
+use Rattle.std.specs.Prelude.{ℕ, List, [], ◌∷◌, ◌++◌, codes, decimal}
+use Rattle.std.specs.List.{concat}
+
+-- how the program is used: its commands, their options with range and default, and its exit statuses
+abbrev pub help : List ℕ
+help =
+    concat (codes "watchcache: the watch cache of a Kubernetes API server\n"
+    ∷ codes "\n"
+    ∷ codes "usage:\n"
+    ∷ codes "  watchcache session [OPTION]..   serve one connection: requests on standard input, replies on standard output\n"
+    ∷ codes "  watchcache serve [OPTION]..     serve connections to a port of 127.0.0.1, until it is told to end\n"
+    ∷ codes "  watchcache --help               write this text\n"
+    ∷ codes "  watchcache --version            write the version\n"
+    ∷ codes "\n"
+    ∷ codes "options, each at most once, as --window 50 or --window=50; those of session and serve:\n"
+    ∷ codes "  --window N        changes of one resource that a watch reaches back at least: 1 to 102400, default 100\n"
+    ∷ codes "  --window-max N    changes of one resource that are kept while fresh: the window to 102400, default the window\n"
+    ∷ codes "  --fresh-ms N      milliseconds for which a change is fresh: 1 to 86400000, default 75000\n"
+    ∷ codes "  --lane N          batches that wait for one watcher: 1 to 1024, default 16\n"
+    ∷ codes "  --batch N         events that a watch is told in one turn: 1 to 10000, default 100\n"
+    ∷ codes "  --history N       revisions whose states are kept: 1 to 1000000, default 10000\n"
+    ∷ codes "  --bookmark-ms N   milliseconds between the bookmarks of a watch: 1 to 86400000, default 60000\n"
+    ∷ codes "  --timeout-s N     seconds that a watch lasts whose request doesn't say: 1 to 1000000, default 1800\n"
+    ∷ codes "\n"
+    ∷ codes "and of serve:\n"
+    ∷ codes "  --port N          the port: 0 to 65535, default 8001; 0 is any that is free\n"
+    ∷ codes "  --workers N       connections that are served side by side: 1 to 64, default 4\n"
+    ∷ codes "  --connections N   connections that are accepted before it ends: 0 to 4611686018427387904, default 0, which is all\n"
+    ∷ codes "\n"
+    ∷ codes "exit status:\n"
+    ∷ codes "  0   all input was answered, a request asked for the end, or a watch ended; a text was written\n"
+    ∷ codes "  2   the command line is bad\n"
+    ∷ codes "  3   reading failed\n"
+    ∷ codes "  4   writing failed\n"
+    ∷ codes "  5   the input ended inside a request\n"
+    ∷ codes "  6   the input went on with what is no request, as its reply says\n"
+    ∷ codes "  7   1000000 requests were answered\n"
+    ∷ codes "  8   memory ran out\n"
+    ∷ codes "  9   listening or accepting failed\n"
+    ∷ [])
+
+-- how many sessions a server served
+abbrev pub sessions : ℕ → List ℕ
+sessions accepted = codes "sessions " ++ decimal accepted ++ codes "\n"
+
+abbrev pub version : List ℕ
+version = codes "watchcache 0.1.0\n"
+
+abbrev pub bad_line : List ℕ
+bad_line = codes "watchcache: bad command line\n"

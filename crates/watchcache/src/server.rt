@@ -1,0 +1,255 @@
+//! A server of many connections.
+
+ghost use Rattle.std.specs.Prelude.{◌≡◌, ◌<◌, ◌≤◌, ◌^◌, ◌↔◌, [], false, IsTrue, IfOk};
+ghost use Rattle.command_line.specs.Words.{AreServed};
+ghost use Rattle.edge_io.specs.Counts.{Rose};
+ghost use Rattle.up_api.specs.Settings.{AreInRange};
+ghost use Rattle.watchcache.specs.Run.{IsOver, IsTold, RunsServer, TellsSessions};
+ghost use Rattle.watchcache.specs.Texts.{sessions};
+
+use crate::statuses::{DONE, NET_FAULT, OUT_OF_MEMORY, WRITE_FAULT};
+use command_line::ServeOptions;
+use edge_io::{Clock, Listener, Net, Sink, Source};
+use itoa::Buffer;
+use kube_meta::Memory;
+use net_front::{Served, serve_all};
+use rev_front::{Blank, blank};
+use rev_log::Revision;
+use shared_client::Cacher;
+use std::alloc::Global;
+use std::marker::Brand;
+use std::sync::Wait;
+use std::thread::Threads;
+use up_api::{LogFacts, Settings};
+use up_store::{Store, StoreDoor};
+
+/// The first revision of a new log.
+const FIRST: u64 = 1;
+
+/// Serves the connections to a port, over caches of one new log, and tells how many there were. Answers the status.
+pub fn serve<R, S, K, T, N>(
+    rt: R,
+    alloc: Global,
+    options: ServeOptions,
+    source: &mut S,
+    sink: &mut K,
+    clock: &mut T,
+    net: &mut N,
+) -> u8
+where
+    R: Threads + Wait + Copy + Send + Sync,
+    S: Source,
+    K: Sink,
+    T: Clock + Send,
+    N: Net,
+    requires range { AreServed options }
+    requires few_faults { N.faults net.old < 2 ^ 62 }
+    ensures { RunsServer options (record {
+      left_old = S.left source.old;
+      left_new = S.left source.new;
+      readings_old = T.readings clock.old;
+      readings_new = T.readings clock.new;
+      read_fault = Rose (S.faults source.old) (S.faults source.new);
+      sent = record {
+        written_old = K.written sink.old;
+        written_new = K.written sink.new;
+        settled_old = K.settled sink.old;
+        settled_new = K.settled sink.new;
+        write_fault = Rose (K.faults sink.old) (K.faults sink.new);
+      };
+    }) (record {
+      faults_old = N.faults net.old;
+      faults_new = N.faults net.new;
+      served_old = N.served net.old;
+      served_new = N.served net.new;
+      over = IsOver N.L.given N.L.over (N.served net.new);
+    }) result }
+{
+    match blank(alloc, FIRST) {
+        Ok(made) => serve_log::<Brand, R, S, K, T, N>(
+            rt, alloc, made, options, source, sink, clock, net,
+        ),
+        Err(_) => OUT_OF_MEMORY,
+    }
+}
+
+// The same, over the log whose table was just made.
+fn serve_log<L, R, S, K, T, N>(
+    rt: R,
+    alloc: Global,
+    made: Blank<Revision>,
+    options: ServeOptions,
+    source: &mut S,
+    sink: &mut K,
+    clock: &mut T,
+    net: &mut N,
+) -> u8
+where
+    L: LogFacts + Send + Sync,
+    R: Threads + Wait + Copy + Send + Sync,
+    S: Source,
+    K: Sink,
+    T: Clock + Send,
+    N: Net,
+    requires name { made ≡ L.log }
+    requires base { L.base ≡ [] }
+    requires own { L.mirror ≡ false }
+    requires window { L.window ≡ options.settings.window }
+    requires range { AreServed options }
+    requires few_faults { N.faults net.old < 2 ^ 62 }
+    ensures { RunsServer options (record {
+      left_old = S.left source.old;
+      left_new = S.left source.new;
+      readings_old = T.readings clock.old;
+      readings_new = T.readings clock.new;
+      read_fault = Rose (S.faults source.old) (S.faults source.new);
+      sent = record {
+        written_old = K.written sink.old;
+        written_new = K.written sink.new;
+        settled_old = K.settled sink.old;
+        settled_new = K.settled sink.new;
+        write_fault = Rose (K.faults sink.old) (K.faults sink.new);
+      };
+    }) (record {
+      faults_old = N.faults net.old;
+      faults_new = N.faults net.new;
+      served_old = N.served net.old;
+      served_new = N.served net.new;
+      over = IsOver N.L.given N.L.over (N.served net.new);
+    }) result }
+{
+    let _ = source;
+    match cacher_of::<L, R>(rt, alloc, made, &options.settings) {
+        Ok(cacher) => serve_port(rt, alloc, &cacher, options, source, sink, clock, net),
+        Err(_) => OUT_OF_MEMORY,
+    }
+}
+
+// The caches of a new log, behind their locks.
+fn cacher_of<L, R>(
+    rt: R,
+    alloc: Global,
+    made: Blank<Revision>,
+    settings: &Settings,
+) -> Result<Cacher<L, R>, Memory>
+where
+    L: LogFacts,
+    R: Wait + Copy,
+    requires name { made ≡ L.log }
+    requires base { L.base ≡ [] }
+    requires own { L.mirror ≡ false }
+    requires window { L.window ≡ settings.now.window }
+    requires settings { AreInRange settings.now }
+{
+    let store = Store::new(alloc, made, settings.history)?;
+    Cacher::new(rt, alloc, StoreDoor::new(rt, store)?, settings)
+}
+
+// Listens, serves and tells how many sessions there were.
+fn serve_port<L, R, S, K, T, N>(
+    rt: R,
+    alloc: Global,
+    cacher: &Cacher<L, R>,
+    options: ServeOptions,
+    source: &mut S,
+    sink: &mut K,
+    clock: &mut T,
+    net: &mut N,
+) -> u8
+where
+    L: LogFacts + Send + Sync,
+    R: Threads + Wait + Copy + Send + Sync,
+    S: Source,
+    K: Sink,
+    T: Clock + Send,
+    N: Net,
+    requires range { AreServed options }
+    requires few_faults { N.faults net.old < 2 ^ 62 }
+    ensures { RunsServer options (record {
+      left_old = S.left source.old;
+      left_new = S.left source.new;
+      readings_old = T.readings clock.old;
+      readings_new = T.readings clock.new;
+      read_fault = Rose (S.faults source.old) (S.faults source.new);
+      sent = record {
+        written_old = K.written sink.old;
+        written_new = K.written sink.new;
+        settled_old = K.settled sink.old;
+        settled_new = K.settled sink.new;
+        write_fault = Rose (K.faults sink.old) (K.faults sink.new);
+      };
+    }) (record {
+      faults_old = N.faults net.old;
+      faults_new = N.faults net.new;
+      served_old = N.served net.old;
+      served_new = N.served net.new;
+      over = IsOver N.L.given N.L.over (N.served net.new);
+    }) result }
+{
+    let _ = source;
+    let Ok(listener) = net.listen(options.port) else {
+        return NET_FAULT;
+    };
+    let (workers, connections) = (options.workers, options.connections);
+    match serve_all(
+        &rt,
+        alloc,
+        listener,
+        cacher,
+        clock,
+        workers,
+        connections,
+        &options.settings,
+    ) {
+        Ok(served) => finish(served, sink, net),
+        Err(_) => OUT_OF_MEMORY,
+    }
+}
+
+// Shuts the listener, and tells how many sessions it gave. That the net failed goes before a failed write.
+fn finish<K: Sink, N: Net>(served: Served<N::L>, sink: &mut K, net: &mut N) -> u8
+    requires accepted { served.accepted ≡ N.L.given served.listener }
+    requires faulted { IsTrue served.faulted ↔ (0 < N.L.faults served.listener) }
+    requires few_faults { N.faults net.old < 2 ^ 62 }
+    ensures served { N.served net.new ≡ N.L.given served.listener }
+    ensures failed { 0 < N.L.faults served.listener → N.faults net.old < N.faults net.new }
+    ensures told { TellsSessions (record {
+      faults_old = N.faults net.old;
+      faults_new = N.faults net.new;
+      served_old = N.served net.old;
+      served_new = N.served net.new;
+      over = IsOver N.L.given N.L.over (N.served net.new);
+    }) (record {
+      written_old = K.written sink.old;
+      written_new = K.written sink.new;
+      settled_old = K.settled sink.old;
+      settled_new = K.settled sink.new;
+      write_fault = Rose (K.faults sink.old) (K.faults sink.new);
+    }) result }
+{
+    let (accepted, faulted) = (served.accepted, served.faulted);
+    net.shut(served.listener);
+    let told = write_sessions(accepted, sink);
+    if faulted { NET_FAULT } else { told }
+}
+
+// Tells how many sessions a server served.
+fn write_sessions<K: Sink>(accepted: u64, sink: &mut K) -> u8
+    ensures { IsTold (sessions accepted) 0 (record {
+      written_old = K.written sink.old;
+      written_new = K.written sink.new;
+      settled_old = K.settled sink.old;
+      settled_new = K.settled sink.new;
+      write_fault = Rose (K.faults sink.old) (K.faults sink.new);
+    }) result }
+{
+    let mut digits = Buffer::new();
+    let pieces: [&[u8]; 3] = [b"sessions ", digits.format(accepted).as_bytes(), b"\n"];
+    if sink.write_pieces(&pieces).is_err() {
+        return WRITE_FAULT;
+    }
+    if sink.flush().is_err() {
+        return WRITE_FAULT;
+    }
+    DONE
+}

@@ -1,0 +1,16 @@
+//! Exit statuses, beside those of a session's ends.
+
+/// What was asked for was done.
+pub const DONE: u8 = 0;
+
+/// The command line is bad.
+pub const BAD_WORDS: u8 = 2;
+
+/// The sink failed.
+pub const WRITE_FAULT: u8 = 4;
+
+/// Memory ran out.
+pub const OUT_OF_MEMORY: u8 = 8;
+
+/// Listening or accepting failed.
+pub const NET_FAULT: u8 = 9;

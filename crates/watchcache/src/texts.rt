@@ -1,0 +1,107 @@
+//! The texts that the program writes for its words, and writing them.
+
+ghost use Rattle.edge_io.specs.Counts.{Rose};
+ghost use Rattle.watchcache.specs.Run.{IsTold};
+ghost use Rattle.watchcache.specs.Texts.{help, version, bad_line};
+
+use crate::statuses::{BAD_WORDS, DONE, WRITE_FAULT};
+use edge_io::Sink;
+
+/// How the program is used: commands, options with their ranges and defaults, exit statuses.
+const HELP: &[u8] = b"\
+watchcache: the watch cache of a Kubernetes API server
+
+usage:
+  watchcache session [OPTION]..   serve one connection: requests on standard input, replies on standard output
+  watchcache serve [OPTION]..     serve connections to a port of 127.0.0.1, until it is told to end
+  watchcache --help               write this text
+  watchcache --version            write the version
+
+options, each at most once, as --window 50 or --window=50; those of session and serve:
+  --window N        changes of one resource that a watch reaches back at least: 1 to 102400, default 100
+  --window-max N    changes of one resource that are kept while fresh: the window to 102400, default the window
+  --fresh-ms N      milliseconds for which a change is fresh: 1 to 86400000, default 75000
+  --lane N          batches that wait for one watcher: 1 to 1024, default 16
+  --batch N         events that a watch is told in one turn: 1 to 10000, default 100
+  --history N       revisions whose states are kept: 1 to 1000000, default 10000
+  --bookmark-ms N   milliseconds between the bookmarks of a watch: 1 to 86400000, default 60000
+  --timeout-s N     seconds that a watch lasts whose request doesn't say: 1 to 1000000, default 1800
+
+and of serve:
+  --port N          the port: 0 to 65535, default 8001; 0 is any that is free
+  --workers N       connections that are served side by side: 1 to 64, default 4
+  --connections N   connections that are accepted before it ends: 0 to 4611686018427387904, default 0, which is all
+
+exit status:
+  0   all input was answered, a request asked for the end, or a watch ended; a text was written
+  2   the command line is bad
+  3   reading failed
+  4   writing failed
+  5   the input ended inside a request
+  6   the input went on with what is no request, as its reply says
+  7   1000000 requests were answered
+  8   memory ran out
+  9   listening or accepting failed
+";
+
+const VERSION: &[u8] = b"watchcache 0.1.0\n";
+
+const BAD_LINE: &[u8] = b"watchcache: bad command line\n";
+
+/// Writes how the program is used.
+pub fn write_help<K: Sink>(sink: &mut K) -> u8
+    ensures { IsTold help 0 (record {
+      written_old = K.written sink.old;
+      written_new = K.written sink.new;
+      settled_old = K.settled sink.old;
+      settled_new = K.settled sink.new;
+      write_fault = Rose (K.faults sink.old) (K.faults sink.new);
+    }) result }
+{
+    write(sink, HELP, DONE)
+}
+
+/// Writes the version.
+pub fn write_version<K: Sink>(sink: &mut K) -> u8
+    ensures { IsTold version 0 (record {
+      written_old = K.written sink.old;
+      written_new = K.written sink.new;
+      settled_old = K.settled sink.old;
+      settled_new = K.settled sink.new;
+      write_fault = Rose (K.faults sink.old) (K.faults sink.new);
+    }) result }
+{
+    write(sink, VERSION, DONE)
+}
+
+/// Says that the command line is bad.
+pub fn write_bad_line<K: Sink>(sink: &mut K) -> u8
+    ensures { IsTold bad_line 2 (record {
+      written_old = K.written sink.old;
+      written_new = K.written sink.new;
+      settled_old = K.settled sink.old;
+      settled_new = K.settled sink.new;
+      write_fault = Rose (K.faults sink.old) (K.faults sink.new);
+    }) result }
+{
+    write(sink, BAD_LINE, BAD_WORDS)
+}
+
+// Writes a text and sends it on. Answers `done`, or the status of a failed write.
+fn write<K: Sink>(sink: &mut K, text: &[u8], done: u8) -> u8
+    ensures { IsTold text.now done (record {
+      written_old = K.written sink.old;
+      written_new = K.written sink.new;
+      settled_old = K.settled sink.old;
+      settled_new = K.settled sink.new;
+      write_fault = Rose (K.faults sink.old) (K.faults sink.new);
+    }) result }
+{
+    if sink.write_all(text).is_err() {
+        return WRITE_FAULT;
+    }
+    if sink.flush().is_err() {
+        return WRITE_FAULT;
+    }
+    done
+}
