@@ -1,17 +1,21 @@
 # watchcache: the targets of the README.
 # They need the Rattle toolchain's command `rt` on the PATH.
 
-.PHONY: demo build test bench
+.PHONY: demo serve build test bench
 
-# The program at work: a pod is created and its namespace listed, in under a minute.
+# The program at work: a pod is created, its namespace listed and watched, in a minute or two.
 demo:
 	@demo/first-session
+
+# A server on port 8001 of the loopback address: the proved program where it was built, and else one without proofs.
+serve:
+	@demo/serve
 
 # The proved, optimised program, at bin/watchcache.
 build:
 	@cd crates/watchcache && rt run -- session </dev/null
 	@mkdir -p bin && cp crates/watchcache/out/watchcache bin/watchcache
-	@echo "bin/watchcache is the proved program: bin/watchcache session reads requests on standard input"
+	@echo "bin/watchcache is the proved program: bin/watchcache serve listens on port 8001 of 127.0.0.1"
 
 # The gate: every proof, must-fail edit, test and program, and then the repository's own checks.
 test:
