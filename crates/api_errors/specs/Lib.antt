@@ -1,5 +1,5 @@
 pub mod Reasons
-pub mod Told
+pub mod Failures
 pub mod Requests
 pub mod Selectors
 pub mod Options

@@ -6,15 +6,15 @@ use Rattle.list_rules.specs.declared.refusal.TokenNo.{TokenNo}
 use Rattle.list_rules.specs.declared.refusal.TokenNo.TheVariants as token
 use Rattle.watch_rules.specs.declared.refusal.WatchNo.{WatchNo}
 use Rattle.watch_rules.specs.declared.refusal.WatchNo.TheVariants as watch
-use Rattle.api_errors.specs.Told.{bad, invalid}
-use Rattle.api_errors.specs.declared.told.Told.{Told}
+use Rattle.api_errors.specs.Failures.{bad, invalid}
+use Rattle.api_errors.specs.declared.failures.Failure.{Failure}
 
-abbrev pub token_told : TokenNo → Option Told
+abbrev pub token_told : TokenNo → Option Failure
 token_told token.NotToken = bad (codes "continue: NotToken")
 token_told token.OtherList = bad (codes "continue: OtherList")
 token_told token.Memory = None
 
-abbrev pub list_told : AskNo → Option Told
+abbrev pub list_told : AskNo → Option Failure
 list_told ask.BadRevision = bad (codes "list option: BadRevision")
 list_told ask.BadMatch = invalid (codes "list option: BadMatch")
 list_told ask.MatchNeedsRevision = invalid (codes "list option: MatchNeedsRevision")
@@ -26,7 +26,7 @@ list_told ask.BadLimit = bad (codes "list option: BadLimit")
 list_told (ask.BadContinue fault) = token_told fault
 list_told ask.Memory = None
 
-abbrev pub watch_told : WatchNo → Option Told
+abbrev pub watch_told : WatchNo → Option Failure
 watch_told watch.BadRevision = bad (codes "watch option: BadRevision")
 watch_told watch.MatchWithoutInitial = invalid (codes "watch option: MatchWithoutInitial")
 watch_told watch.InitialNeedsNotOlder = invalid (codes "watch option: InitialNeedsNotOlder")

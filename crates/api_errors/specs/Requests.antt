@@ -2,11 +2,11 @@
 use Rattle.std.specs.Prelude.{Option, None, codes}
 use Rattle.http_read.specs.declared.refusal.ReqNo.{ReqNo}
 use Rattle.http_read.specs.declared.refusal.ReqNo.TheVariants.{Malformed, HeadTooLong, TooManyHeaders, BodyTooLong, NeedsLength, CutShort, ReadFault, Memory}
-use Rattle.api_errors.specs.Told.{say}
+use Rattle.api_errors.specs.Failures.{say}
 use Rattle.api_errors.specs.declared.reasons.Reason.TheVariants.{BadRequest, LengthRequired, RequestEntityTooLarge}
-use Rattle.api_errors.specs.declared.told.Told.{Told}
+use Rattle.api_errors.specs.declared.failures.Failure.{Failure}
 
-abbrev pub request_told : ReqNo → Option Told
+abbrev pub request_told : ReqNo → Option Failure
 request_told Malformed = say BadRequest (codes "request: Malformed")
 request_told HeadTooLong = say RequestEntityTooLarge (codes "request: HeadTooLong")
 request_told TooManyHeaders = say RequestEntityTooLarge (codes "request: TooManyHeaders")

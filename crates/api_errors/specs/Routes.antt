@@ -8,11 +8,11 @@ use Rattle.route_req.specs.declared.transactions.TxTextNo.{TxTextNo}
 use Rattle.route_req.specs.declared.transactions.TxTextNo.TheVariants as transaction
 use Rattle.api_errors.specs.Options.{list_told, watch_told}
 use Rattle.api_errors.specs.Selectors.{selector_told}
-use Rattle.api_errors.specs.Told.{say, bad, bad_at}
+use Rattle.api_errors.specs.Failures.{say, bad, bad_at}
 use Rattle.api_errors.specs.declared.reasons.Reason.TheVariants.{NotFound, MethodNotAllowed}
-use Rattle.api_errors.specs.declared.told.Told.{Told}
+use Rattle.api_errors.specs.declared.failures.Failure.{Failure}
 
-abbrev pub object_told : ObjNo → Option Told
+abbrev pub object_told : ObjNo → Option Failure
 object_told object.NotJson = bad (codes "object: NotJson")
 object_told object.Float = bad (codes "object: Float")
 object_told object.TooDeep = bad (codes "object: TooDeep")
@@ -20,7 +20,7 @@ object_told object.WrongKind = bad (codes "object: WrongKind")
 object_told object.BadMeta = bad (codes "object: BadMeta")
 object_told object.Memory = None
 
-abbrev pub transaction_told : TxTextNo → Option Told
+abbrev pub transaction_told : TxTextNo → Option Failure
 transaction_told transaction.NotJson = bad (codes "transaction: NotJson")
 transaction_told transaction.Float = bad (codes "transaction: Float")
 transaction_told transaction.TooDeep = bad (codes "transaction: TooDeep")
@@ -32,7 +32,7 @@ transaction_told (transaction.BadObject index fault) = bad_at (codes "transactio
 transaction_told (transaction.Repeated index) = bad_at (codes "transaction: Repeated in item ") index
 transaction_told transaction.Memory = None
 
-abbrev pub route_told : RouteNo → Option Told
+abbrev pub route_told : RouteNo → Option Failure
 route_told route.NoPath = say NotFound (codes "the server could not find the requested resource")
 route_told route.NoMethod = say MethodNotAllowed (codes "the server does not allow this method on the requested resource")
 route_told (route.Selector fault) = selector_told fault

@@ -2,18 +2,19 @@
 //! request, as the Kubernetes API words its failures.
 #![tactic(auto)]
 
+mod failures;
 mod options;
 mod reasons;
 mod requests;
 mod routes;
 mod selectors;
-mod told;
 mod writes;
 
+pub use failures::{
+    Failure, already_exists, bad_upgrade, conflict, expired, not_found, read_only, too_large,
+    used_up,
+};
 pub use reasons::Reason;
 pub use requests::request_told;
 pub use routes::route_told;
-pub use told::{
-    Told, already_exists, bad_upgrade, conflict, expired, not_found, read_only, too_large, used_up,
-};
 pub use writes::{operation_told, write_no, write_told};

@@ -3,14 +3,14 @@
 ghost use Rattle.std.specs.Prelude.{◌≡◌, IfOk};
 ghost use Rattle.api_errors.specs.Options as spec;
 
-use crate::Told;
-use crate::told::{bad, invalid};
+use crate::Failure;
+use crate::failures::{bad, invalid};
 use kube_meta::Memory;
 use list_rules::{AskNo, TokenNo};
 use std::alloc::Global;
 use watch_rules::WatchNo;
 
-pub(crate) fn list_told(alloc: Global, fault: AskNo) -> Result<Option<Told>, Memory>
+pub(crate) fn list_told(alloc: Global, fault: AskNo) -> Result<Option<Failure>, Memory>
     ensures { IfOk result (λ told. told ≡ spec.list_told fault) }
 {
     match fault {
@@ -27,7 +27,7 @@ pub(crate) fn list_told(alloc: Global, fault: AskNo) -> Result<Option<Told>, Mem
     }
 }
 
-fn token_told(alloc: Global, fault: TokenNo) -> Result<Option<Told>, Memory>
+fn token_told(alloc: Global, fault: TokenNo) -> Result<Option<Failure>, Memory>
     ensures { IfOk result (λ told. told ≡ spec.token_told fault) }
 {
     match fault {
@@ -37,7 +37,7 @@ fn token_told(alloc: Global, fault: TokenNo) -> Result<Option<Told>, Memory>
     }
 }
 
-pub(crate) fn watch_told(alloc: Global, fault: WatchNo) -> Result<Option<Told>, Memory>
+pub(crate) fn watch_told(alloc: Global, fault: WatchNo) -> Result<Option<Failure>, Memory>
     ensures { IfOk result (λ told. told ≡ spec.watch_told fault) }
 {
     match fault {

@@ -3,17 +3,17 @@
 ghost use Rattle.std.specs.Prelude.{◌≡◌, IfOk};
 ghost use Rattle.api_errors.specs.Routes as spec;
 
+use crate::failures::{bad, bad_at, say};
 use crate::options::{list_told, watch_told};
 use crate::selectors::selector_told;
-use crate::told::{bad, bad_at, say};
-use crate::{Reason, Told};
+use crate::{Failure, Reason};
 use json_obj::ObjNo;
 use kube_meta::Memory;
 use route_req::{RouteNo, TxTextNo};
 use std::alloc::Global;
 
 /// What is told of a request that has no route; `None` for want of memory.
-pub fn route_told(alloc: Global, fault: RouteNo) -> Result<Option<Told>, Memory>
+pub fn route_told(alloc: Global, fault: RouteNo) -> Result<Option<Failure>, Memory>
     ensures { IfOk result (λ told. told ≡ spec.route_told fault) }
 {
     match fault {
@@ -37,7 +37,7 @@ pub fn route_told(alloc: Global, fault: RouteNo) -> Result<Option<Told>, Memory>
     }
 }
 
-fn object_told(alloc: Global, fault: ObjNo) -> Result<Option<Told>, Memory>
+fn object_told(alloc: Global, fault: ObjNo) -> Result<Option<Failure>, Memory>
     ensures { IfOk result (λ told. told ≡ spec.object_told fault) }
 {
     match fault {
@@ -50,7 +50,7 @@ fn object_told(alloc: Global, fault: ObjNo) -> Result<Option<Told>, Memory>
     }
 }
 
-fn transaction_told(alloc: Global, fault: TxTextNo) -> Result<Option<Told>, Memory>
+fn transaction_told(alloc: Global, fault: TxTextNo) -> Result<Option<Failure>, Memory>
     ensures { IfOk result (λ told. told ≡ spec.transaction_told fault) }
 {
     match fault {

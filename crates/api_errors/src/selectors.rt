@@ -3,15 +3,15 @@
 ghost use Rattle.std.specs.Prelude.{◌≡◌, IfOk};
 ghost use Rattle.api_errors.specs.Selectors as spec;
 
-use crate::Told;
-use crate::told::{bad, bad_at};
+use crate::Failure;
+use crate::failures::{bad, bad_at};
 use field_select::FieldNo;
 use kube_meta::Memory;
 use label_select::LabelNo;
 use select_all::SelNo;
 use std::alloc::Global;
 
-pub(crate) fn selector_told(alloc: Global, fault: SelNo) -> Result<Option<Told>, Memory>
+pub(crate) fn selector_told(alloc: Global, fault: SelNo) -> Result<Option<Failure>, Memory>
     ensures { IfOk result (λ told. told ≡ spec.selector_told fault) }
 {
     match fault {
@@ -21,7 +21,7 @@ pub(crate) fn selector_told(alloc: Global, fault: SelNo) -> Result<Option<Told>,
     }
 }
 
-fn label_told(alloc: Global, fault: LabelNo) -> Result<Option<Told>, Memory>
+fn label_told(alloc: Global, fault: LabelNo) -> Result<Option<Failure>, Memory>
     ensures { IfOk result (λ told. told ≡ spec.label_told fault) }
 {
     match fault {
@@ -34,7 +34,7 @@ fn label_told(alloc: Global, fault: LabelNo) -> Result<Option<Told>, Memory>
     }
 }
 
-fn field_told(alloc: Global, fault: FieldNo) -> Result<Option<Told>, Memory>
+fn field_told(alloc: Global, fault: FieldNo) -> Result<Option<Failure>, Memory>
     ensures { IfOk result (λ told. told ≡ spec.field_told fault) }
 {
     match fault {

@@ -3,8 +3,8 @@
 ghost use Rattle.std.specs.Prelude.{◌≡◌, IfOk};
 ghost use Rattle.api_errors.specs.Writes as spec;
 
-use crate::told::{
-    Told, already_exists, conflict, expired, not_found, read_only, too_large, used_up,
+use crate::failures::{
+    Failure, already_exists, conflict, expired, not_found, read_only, too_large, used_up,
 };
 use kube_meta::{Memory, Resource};
 use std::alloc::Global;
@@ -16,7 +16,7 @@ pub fn write_told(
     resource: Resource,
     name: &str,
     fault: WriteNo,
-) -> Result<Option<Told>, Memory>
+) -> Result<Option<Failure>, Memory>
     ensures { IfOk result (λ told. told ≡ spec.write_told resource name.now fault) }
 {
     match fault {
@@ -45,7 +45,7 @@ pub fn write_no(fault: TxWriteNo) -> WriteNo
 }
 
 /// What is told of a refused operation; `None` for want of memory.
-pub fn operation_told(alloc: Global, fault: OpNo) -> Result<Option<Told>, Memory>
+pub fn operation_told(alloc: Global, fault: OpNo) -> Result<Option<Failure>, Memory>
     ensures { IfOk result (λ told. told ≡ spec.operation_told fault) }
 {
     match fault {

@@ -10,6 +10,3 @@ mod writing;
 
 pub use cache::Cache;
 pub use refusals::AtNo;
-
-#[cfg(test)]
-mod tests;

@@ -3,7 +3,7 @@
 use crate::routes;
 use crate::samples::{Answer, resource, words};
 use api_errors::{
-    Told, already_exists, bad_upgrade, conflict, expired, not_found, operation_told, read_only,
+    Failure, already_exists, bad_upgrade, conflict, expired, not_found, operation_told, read_only,
     request_told, route_told, too_large, used_up, write_told,
 };
 use edge_io::MemSource;
@@ -27,7 +27,7 @@ pub fn answer(alloc: Global, input: &str) -> Answer {
 }
 
 /// The code, the reason and the message.
-fn told_words(alloc: Global, told: Option<Told>) -> Answer {
+fn told_words(alloc: Global, told: Option<Failure>) -> Answer {
     let Some(told) = told else {
         return words(alloc, "nothing is told");
     };
@@ -67,7 +67,7 @@ fn of_object(
     what: &str,
     resource: Resource,
     name: &str,
-) -> Result<Option<Told>, AllocError> {
+) -> Result<Option<Failure>, AllocError> {
     let stale = WriteNo::Stale {
         at: 4,
         given: 2,

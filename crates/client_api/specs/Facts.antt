@@ -18,7 +18,7 @@ pub record Facts : Type 0 where
   pub watching : Option Watched
   pub heard : ℕ
   pub window : ℕ
-  pub alone : Option ℕ
+  pub sole_history : Option ℕ
 
 -- how often the store's states and histories were read, and where the cache of each resource ends
 pub record Cached : Type 0 where

@@ -48,7 +48,7 @@ pub trait Client {
         ensures onward { IsOnward (pass self.old) (pass self.new) }
         ensures answer { IsWriteReply base mirror (pass self.old) ask.now result (pass self.new) }
         ensures facts { facts self.new ≡ facts self.old }
-        ensures sole { whole self.old → IfSome (facts self.old).alone
+        ensures sole { whole self.old → IfSome (facts self.old).sole_history
             (λ history. SoleWrite base mirror history (pass self.old) ask.now result (pass self.new)) }
         ensures kept { whole self.old → IsToldWrite result → whole self.new }
         ensures reads { whole self.old → (cached self.new).reads ≡ (cached self.old).reads };
@@ -58,7 +58,7 @@ pub trait Client {
         ensures onward { IsOnward (pass self.old) (pass self.new) }
         ensures answer { IsTransactionReply base mirror (pass self.old) ask.now (answers_in result) (pass self.new) }
         ensures facts { facts self.new ≡ facts self.old }
-        ensures sole { whole self.old → IfSome (facts self.old).alone
+        ensures sole { whole self.old → IfSome (facts self.old).sole_history
             (λ history. SoleTransact base mirror history (pass self.old) ask.now (answers_in result) (pass self.new)) }
         ensures kept { whole self.old → IsToldTx result → whole self.new }
         ensures reads { whole self.old → (cached self.new).reads ≡ (cached self.old).reads };

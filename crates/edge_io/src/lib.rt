@@ -30,6 +30,3 @@ pub use real_net::{TcpNet, TcpPort};
 pub use sink::Sink;
 pub use source::Source;
 pub use step_clock::StepClock;
-
-#[cfg(test)]
-mod tests;

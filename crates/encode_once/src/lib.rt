@@ -72,6 +72,3 @@ impl Shown {
         self.row.obj.back.as_str().as_bytes()
     }
 }
-
-#[cfg(test)]
-mod tests;

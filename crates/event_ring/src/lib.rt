@@ -15,6 +15,3 @@ pub use laws::{
 };
 pub use ring::{Below, Ring};
 pub use span::Span;
-
-#[cfg(test)]
-mod tests;

@@ -8,6 +8,3 @@ mod replies;
 
 pub use pieces::{SendNo, part, parts};
 pub use replies::{begin_chunk, begin_reply, begin_stream, end_chunk, end_stream, send_chunk};
-
-#[cfg(test)]
-mod tests;

@@ -22,6 +22,3 @@ pub use resources::{
 pub use revisions::{MAX_REVISION, Rev, RevNo, revisions_are_read_back};
 pub use std::alloc::AllocError as Memory;
 pub use texts::Text;
-
-#[cfg(test)]
-mod tests;

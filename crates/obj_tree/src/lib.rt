@@ -16,6 +16,3 @@ pub use laws::{puts_are_updates, puts_stay_rising, removals_are_updates, removal
 pub use rows::Rows;
 pub use snapshot::Snapshot;
 pub use tree::Tree;
-
-#[cfg(test)]
-mod tests;

@@ -15,7 +15,7 @@ pub record PlainData : Type 0 where
 abbrev pub new_plain : ℕ → ℕ → ℕ → PlainData
 new_plain first history window = record {
   pass = pass_from (empty_log first) 0;
-  facts = record { watching = None; heard = 0; window = window; alone = Some history };
+  facts = record { watching = None; heard = 0; window = window; sole_history = Some history };
 }
 
 -- the log that it knows, which has no base rows

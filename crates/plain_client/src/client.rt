@@ -36,7 +36,7 @@ impl Model for PlainClient {
 
     ghost view = { λ c. record {
       pass = c.log;
-      facts = record { watching = c.watch; heard = c.heard; window = c.window; alone = Some c.history };
+      facts = record { watching = c.watch; heard = c.heard; window = c.window; sole_history = Some c.history };
     } };
 }
 

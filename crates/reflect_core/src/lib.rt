@@ -11,6 +11,3 @@ mod reflector;
 
 pub use pump::Pumped;
 pub use reflector::Reflector;
-
-#[cfg(test)]
-mod tests;

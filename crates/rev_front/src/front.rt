@@ -20,7 +20,7 @@ pub struct Front<E: Entry, N: LogName> {
     pub(crate) end: u64,
     // What its last look gave, and the greatest revision that it was told otherwise: a look writes but one number.
     pub(crate) last: u64,
-    pub(crate) told: u64,
+    pub(crate) heard: u64,
     pub(crate) floor: u64,
     pub(crate) of: PhantomData<N>,
 }
@@ -36,7 +36,7 @@ impl<E: Entry, N: LogName> Model for Front<E, N> {
 
     ghost view = { λ f. pass_of N.log.first f.seat.id f.seat.me.0 };
 
-    ghost invariant = { λ f. Sits N.log (arc_value f.board).shared.table_id (arc_value f.board).shared.key f.seat.table_id f.seat.me.1 × IsReaderOf E.fits N.log.first f.seat.id f.seat.me.0 f.end f.last f.told f.floor };
+    ghost invariant = { λ f. Sits N.log (arc_value f.board).shared.table_id (arc_value f.board).shared.key f.seat.table_id f.seat.me.1 × IsReaderOf E.fits N.log.first f.seat.id f.seat.me.0 f.end f.last f.heard f.floor };
 }
 
 impl<E: Entry, N: LogName> Front<E, N> {
@@ -80,7 +80,7 @@ impl<E: Entry, N: LogName> Front<E, N> {
         ensures lawful { IsPass E.fits self.now }
         ensures name { self.now.first ≡ N.log.first }
     {
-        self.last.max(self.told)
+        self.last.max(self.heard)
     }
 
     /// The greatest compaction floor that it knows.
@@ -115,7 +115,7 @@ impl<E: Entry, N: LogName> Front<E, N> {
             seat,
             end,
             last,
-            told,
+            heard,
             floor,
             of,
         } = self.tell();
@@ -124,7 +124,7 @@ impl<E: Entry, N: LogName> Front<E, N> {
             seat,
             end,
             last,
-            told,
+            heard,
             floor,
             of,
         })
@@ -142,7 +142,7 @@ impl<E: Entry, N: LogName> Front<E, N> {
             seat,
             end,
             last,
-            told,
+            heard,
             floor,
             of,
             ..
@@ -151,7 +151,7 @@ impl<E: Entry, N: LogName> Front<E, N> {
             seat,
             end,
             last,
-            told,
+            heard,
             floor,
             of,
         });
@@ -181,7 +181,7 @@ impl<E: Entry, N: LogName> Front<E, N> {
             seat,
             end: self.end,
             last: self.last,
-            told: self.told,
+            heard: self.heard,
             floor: self.floor,
             of: PhantomData,
         }
@@ -196,7 +196,7 @@ impl<E: Entry, N: LogName> Front<E, N> {
             seat,
             end,
             last,
-            told,
+            heard,
             floor,
             ..
         } = news;
@@ -204,7 +204,7 @@ impl<E: Entry, N: LogName> Front<E, N> {
         shared.join_seat::<Meet>(&mut self.seat, seat);
         shared.load::<RecallPass>(&mut self.seat, 0);
         self.end = self.end.max(end);
-        self.told = self.told.max(last).max(told);
+        self.heard = self.heard.max(last).max(heard);
         self.floor = self.floor.max(floor);
     }
 }

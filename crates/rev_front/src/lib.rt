@@ -21,8 +21,6 @@ mod news;
 mod pen;
 mod sight;
 mod steps;
-#[cfg(test)]
-mod tests;
 
 pub use blanks::{Blank, start};
 pub use entry::Entry;

@@ -10,7 +10,7 @@ pub(crate) struct News<E: Entry, N: LogName> {
     pub(crate) seat: Place<E>,
     pub(crate) end: u64,
     pub(crate) last: u64,
-    pub(crate) told: u64,
+    pub(crate) heard: u64,
     pub(crate) floor: u64,
     pub(crate) of: PhantomData<N>,
 }
@@ -25,5 +25,5 @@ impl<E: Entry, N: LogName> Model for News<E, N> {
 
     ghost view = { λ n. pass_of N.log.first n.seat.id n.seat.me.0 };
 
-    ghost invariant = { λ n. Comes N.log n.seat.table_id n.seat.me.1 × IsReaderOf E.fits N.log.first n.seat.id n.seat.me.0 n.end n.last n.told n.floor };
+    ghost invariant = { λ n. Comes N.log n.seat.table_id n.seat.me.1 × IsReaderOf E.fits N.log.first n.seat.id n.seat.me.0 n.end n.last n.heard n.floor };
 }

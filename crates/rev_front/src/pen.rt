@@ -97,7 +97,7 @@ impl<E: Entry, N: LogName> Pen<E, N> {
             seat,
             end,
             last,
-            told,
+            heard,
             floor,
             of,
         } = self.tell();
@@ -106,7 +106,7 @@ impl<E: Entry, N: LogName> Pen<E, N> {
             seat,
             end,
             last,
-            told,
+            heard,
             floor,
             of,
         })
@@ -124,7 +124,7 @@ impl<E: Entry, N: LogName> Pen<E, N> {
             seat,
             end,
             last,
-            told,
+            heard,
             floor,
             of,
             ..
@@ -133,7 +133,7 @@ impl<E: Entry, N: LogName> Pen<E, N> {
             seat,
             end,
             last,
-            told,
+            heard,
             floor,
             of,
         });
@@ -163,7 +163,7 @@ impl<E: Entry, N: LogName> Pen<E, N> {
             seat,
             end: self.revision,
             last: 0,
-            told: self.revision,
+            heard: self.revision,
             floor: self.floor,
             of: PhantomData,
         }

@@ -14,6 +14,3 @@ pub use laws::{
 };
 pub use rows::{Rows, make_changes, rows_in_order};
 pub use states::state;
-
-#[cfg(test)]
-mod tests;

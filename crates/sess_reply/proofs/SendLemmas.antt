@@ -4,7 +4,7 @@ use Rattle.std.specs.Prelude.{Option, Result, OnOk, OnErr}
 use Rattle.edge_io.specs.Told.{appended, AppendedSome}
 use Rattle.edge_io.proofs.ToldLemmas.{AppendedSome-first, AppendedSome-second, appended-appended}
 use Rattle.http_send.specs.Replies.{reply_head_text, reply_text}
-use Rattle.api_errors.specs.declared.told.Told.{Told}
+use Rattle.api_errors.specs.declared.failures.Failure.{Failure}
 use Rattle.sess_reply.specs.Contents.{Content, refusal}
 use Rattle.sess_reply.specs.Replies.{text_of}
 
@@ -67,7 +67,7 @@ module _ (code : ℕ) (retry close : Bool) (json : List ℕ) (content : Content)
   content_broken r old new p = subst (λ t. OnErr r (AppendedSome old new t)) text_same p
 
 -- what was written is what is told
-module _ (close : Bool) (told other : Option Told) (same : told ≡ other) where
+module _ (close : Bool) (told other : Option Failure) (same : told ≡ other) where
   pub told_sent : {A E : Type 0} (r : Result A E) (old new : Option (List ℕ))
       → OnOk r (new ≡ appended old (text_of close (refusal told))) → OnOk r (new ≡ appended old (text_of close (refusal other)))
   told_sent r old new p = subst (λ t. OnOk r (new ≡ appended old (text_of close (refusal t)))) same p

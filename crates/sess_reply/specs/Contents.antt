@@ -16,9 +16,9 @@ use Rattle.up_store.specs.declared.transactions.TxWriteNo.{TxWriteNo}
 use Rattle.up_store.specs.declared.transactions.TxWriteNo.TheVariants as transaction
 use Rattle.up_store.specs.declared.operations.OpNo.{OpNo}
 use Rattle.api_errors.specs.Reasons.{code_of, is_too_large}
-use Rattle.api_errors.specs.Told.{refusal_of, not_found, used_up, read_only, expired, too_large}
+use Rattle.api_errors.specs.Failures.{refusal_of, not_found, used_up, read_only, expired, too_large}
 use Rattle.api_errors.specs.Writes.{write_told, operation_told}
-use Rattle.api_errors.specs.declared.told.Told.{Told}
+use Rattle.api_errors.specs.declared.failures.Failure.{Failure}
 use Rattle.meta_view.specs.Lines.{shown, version_in, list_kind_in}
 use Rattle.meta_view.specs.declared.form.Form.{Form}
 use Rattle.meta_view.specs.declared.form.Form.TheVariants.{Whole}
@@ -37,10 +37,10 @@ abbrev pub said : ℕ → List ℕ → Option Content
 said code json = Some (record { code = code; retry = false; json = json })
 
 -- a refusal says its Status; a revision that isn't reached yet is to be asked for again
-abbrev pub refused : Told → Content
+abbrev pub refused : Failure → Content
 refused told = record { code = code_of told.reason; retry = is_too_large told.reason; json = status_text (refusal_of told) }
 
-abbrev pub refusal : Option Told → Option Content
+abbrev pub refusal : Option Failure → Option Content
 refusal told = option_map refused told
 
 -- an object in a form, at its row's revision
@@ -60,7 +60,7 @@ accepted_code (Replace resource obj given) = 200
 accepted_code (Remove resource key) = 200
 
 -- of an object, its resource and its name are told
-abbrev pub fault_told : WriteAsk → WriteNo → Option Told
+abbrev pub fault_told : WriteAsk → WriteNo → Option Failure
 fault_told ask fault = let target = target_of ask in write_told target.0 (name_of target.1) fault
 
 -- an accepted write says its object, whole: the new one, or the one that was removed
@@ -75,7 +75,7 @@ revision_of [] = 0
 revision_of (written ∷ more) = written.rev
 
 -- one that is refused for a write is told as that write would be by itself
-abbrev pub transaction_told : List WriteAsk → TxWriteNo → Option Told
+abbrev pub transaction_told : List WriteAsk → TxWriteNo → Option Failure
 transaction_told asks (transaction.Item index fault) = option_and_then (λ ask. fault_told ask fault) (slice_get asks index)
 transaction_told asks (transaction.UsedUp at) = Some used_up
 transaction_told asks (transaction.ReadOnly at) = Some read_only
@@ -94,13 +94,13 @@ operated_content (Err fault) = refusal (operation_told fault)
 -- ---- lists, gets and watches
 
 -- of a list or a watch no object is told to be absent
-abbrev pub read_told : ListNo → Option Told
+abbrev pub read_told : ListNo → Option Failure
 read_told (Expired asked floor) = Some (expired asked floor)
 read_told (TooLarge asked current) = Some (too_large asked current)
 read_told (Absent at) = None
 read_told Memory = None
 
-abbrev pub get_told : GetAsk → ListNo → Option Told
+abbrev pub get_told : GetAsk → ListNo → Option Failure
 get_told ask (Absent at) = Some (not_found ask.resource (name_of ask.key))
 get_told ask fault = read_told fault
 

@@ -15,7 +15,7 @@ use Rattle.up_store.specs.declared.operations.OpNo.{OpNo}
 use Rattle.route_req.specs.declared.routing.RouteNo.{RouteNo}
 use Rattle.api_errors.specs.Requests.{request_told}
 use Rattle.api_errors.specs.Routes.{route_told}
-use Rattle.api_errors.specs.Told as errors
+use Rattle.api_errors.specs.Failures as errors
 use Rattle.meta_view.specs.Accept.{wants_metadata}
 use Rattle.meta_view.specs.declared.form.Form.{Form}
 use Rattle.meta_view.specs.declared.form.Form.TheVariants.{Whole, Metadata}

@@ -5,7 +5,7 @@ ghost use Rattle.kube_meta.specs.Keys.{name_of};
 ghost use Rattle.up_store.specs.Transactions.{target_of};
 ghost use Rattle.sess_reply.specs.Contents as spec;
 
-use api_errors::{Told, expired, not_found, read_only, too_large, used_up, write_told};
+use api_errors::{Failure, expired, not_found, read_only, too_large, used_up, write_told};
 use client_api::ListNo;
 use kube_meta::{Memory, Resource};
 use list_rules::GetAsk;
@@ -36,7 +36,7 @@ pub(crate) fn fault_told(
     alloc: Global,
     ask: &WriteAsk,
     fault: WriteNo,
-) -> Result<Option<Told>, Memory>
+) -> Result<Option<Failure>, Memory>
     ensures { IfOk result (λ told. told ≡ spec.fault_told ask.now fault) }
 {
     write_told(alloc, resource_of(ask), name_of(ask), fault)
@@ -47,7 +47,7 @@ pub(crate) fn transaction_told(
     alloc: Global,
     asks: &[WriteAsk],
     fault: TxWriteNo,
-) -> Result<Option<Told>, Memory>
+) -> Result<Option<Failure>, Memory>
     ensures { IfOk result (λ told. told ≡ spec.transaction_told asks.now fault) }
 {
     match fault {
@@ -62,7 +62,7 @@ pub(crate) fn transaction_told(
 }
 
 /// What is told of a refused list or watch.
-pub(crate) fn read_told(alloc: Global, fault: ListNo) -> Result<Option<Told>, Memory>
+pub(crate) fn read_told(alloc: Global, fault: ListNo) -> Result<Option<Failure>, Memory>
     ensures { IfOk result (λ told. told ≡ spec.read_told fault) }
 {
     match fault {
@@ -73,7 +73,11 @@ pub(crate) fn read_told(alloc: Global, fault: ListNo) -> Result<Option<Told>, Me
 }
 
 /// What is told of a refused get.
-pub(crate) fn get_told(alloc: Global, ask: &GetAsk, fault: ListNo) -> Result<Option<Told>, Memory>
+pub(crate) fn get_told(
+    alloc: Global,
+    ask: &GetAsk,
+    fault: ListNo,
+) -> Result<Option<Failure>, Memory>
     ensures { IfOk result (λ told. told ≡ spec.get_told ask.now fault) }
 {
     match fault {

@@ -10,7 +10,7 @@ ghost use Rattle.sess_reply.specs.Sending.{Counts};
 
 use crate::Broken;
 use crate::body::send_pieces;
-use api_errors::{Told, request_told, route_told};
+use api_errors::{Failure, request_told, route_told};
 use edge_io::Sink;
 use http_read::ReqNo;
 use json_obj::status;
@@ -23,7 +23,7 @@ pub(crate) fn send_told<K: Sink>(
     alloc: Global,
     sink: &mut K,
     close: bool,
-    told: Option<Told>,
+    told: Option<Failure>,
 ) -> Result<(), Broken>
     ensures sent { OnOk result (K.written sink.new ≡ appended (K.written sink.old) (text_of close (refusal told))) }
     ensures settled { OnOk result (K.settled sink.new) }

@@ -75,11 +75,11 @@ module _ (base : List RowData) (mirror : Bool) (facts : Facts) (s : Settings) (p
   terms = terms_of base mirror facts s
 
   abbrev IsBegun : Type 0
-  IsBegun = (q.seen ≡ p.seen) ⊎ IfSome facts.alone (λ history. Begins terms history p req q)
+  IsBegun = (q.seen ≡ p.seen) ⊎ IfSome facts.sole_history (λ history. Begins terms history p req q)
 
   pub lacks-write : (ask : WriteAsk) (answer : Result Written WriteNo) → IsRoute req (routed.Write ask) → answer ≡ Err write_no.Memory
-      → IfSome facts.alone (λ history. SoleWrite base mirror history p ask answer q) → IsBegun
-  lacks-write ask answer route is sole = inr (by facts.alone (subst (λ a. IfSome facts.alone (λ history. SoleWrite base mirror history p ask a q)) is sole))
+      → IfSome facts.sole_history (λ history. SoleWrite base mirror history p ask answer q) → IsBegun
+  lacks-write ask answer route is sole = inr (by facts.sole_history (subst (λ a. IfSome facts.sole_history (λ history. SoleWrite base mirror history p ask a q)) is sole))
     where
       by : (alone : Option ℕ) → IfSome alone (λ history. SoleWrite base mirror history p ask (Err write_no.Memory) q)
           → IfSome alone (λ history. Begins terms history p req q)
@@ -87,8 +87,8 @@ module _ (base : List RowData) (mirror : Bool) (facts : Facts) (s : Settings) (p
       by (Some history) h = inl (ask, route, h)
 
   pub lacks-transact : (asks : List WriteAsk) (answer : Result (List Written) TxWriteNo) → IsRoute req (routed.Transact asks) → answer ≡ Err tx_no.Memory
-      → IfSome facts.alone (λ history. SoleTransact base mirror history p asks answer q) → IsBegun
-  lacks-transact asks answer route is sole = inr (by facts.alone (subst (λ a. IfSome facts.alone (λ history. SoleTransact base mirror history p asks a q)) is sole))
+      → IfSome facts.sole_history (λ history. SoleTransact base mirror history p asks answer q) → IsBegun
+  lacks-transact asks answer route is sole = inr (by facts.sole_history (subst (λ a. IfSome facts.sole_history (λ history. SoleTransact base mirror history p asks a q)) is sole))
     where
       by : (alone : Option ℕ) → IfSome alone (λ history. SoleTransact base mirror history p asks (Err tx_no.Memory) q)
           → IfSome alone (λ history. Begins terms history p req q)
@@ -148,7 +148,7 @@ module _ (terms : Terms) (whole : Type 0) (p q : Pass RevisionData) (req : Req) 
       (subst (λ f. OnErr sent (AppendedSome old new (reply_text f req.close reply))) is some)
 
   -- there was no memory, and nothing was written
-  pub lacks : new ≡ old → IsOnward p q → (whole → (q.seen ≡ p.seen) ⊎ IfSome terms.alone (λ history. Begins terms history p req q))
+  pub lacks : new ≡ old → IsOnward p q → (whole → (q.seen ≡ p.seen) ⊎ IfSome terms.sole_history (λ history. Begins terms history p req q))
       → Replied terms whole p req old new q (Err broken.Memory)
   lacks still onward sole = record {
     written = [];

@@ -30,7 +30,7 @@ module _ (terms : Terms) (whole : Type 0) (p q : Pass RevisionData) (old_reader 
   -- ---- a request was read and answered
 
   -- what was begun for the request is what was begun for the bytes
-  lacking : (bytes after : List ℕ) (req : Req) → ReadsOne bytes req after → (q.seen ≡ p.seen) ⊎ IfSome terms.alone (λ history. Begins terms history p req q) → SoleMemory terms p bytes q
+  lacking : (bytes after : List ℕ) (req : Req) → ReadsOne bytes req after → (q.seen ≡ p.seen) ⊎ IfSome terms.sole_history (λ history. Begins terms history p req q) → SoleMemory terms p bytes q
   lacking bytes after req reads (inl same) = inl same
   lacking bytes after req reads (inr done) = inr (req, after, reads, done)
 

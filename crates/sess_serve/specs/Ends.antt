@@ -119,7 +119,7 @@ Begins terms history p req q =
 
 abbrev pub SoleMemory : Terms → Pass RevisionData → List ℕ → Pass RevisionData → Type 0
 SoleMemory terms p rest q =
-    (q.seen ≡ p.seen) ⊎ ((req : Req) × (after : List ℕ) × ReadsOne rest req after × IfSome terms.alone (λ history. Begins terms history p req q))
+    (q.seen ≡ p.seen) ⊎ ((req : Req) × (after : List ℕ) × ReadsOne rest req after × IfSome terms.sole_history (λ history. Begins terms history p req q))
 
 -- of a log that nobody else holds: after want of memory it is as it was, or with what was begun
 abbrev pub KnowsAlone : Terms → SessionEnd → Pass RevisionData → List ℕ → Pass RevisionData → Type 0

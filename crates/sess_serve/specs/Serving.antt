@@ -40,7 +40,7 @@ pub record Unanswered (terms : Terms) (whole : Type 0) (p : Pass RevisionData) (
   pub nothing : written ≡ []
   pub unread : readings ≡ []
   pub onward : IsOnward p q
-  pub sole : whole → (q.seen ≡ p.seen) ⊎ IfSome terms.alone (λ history. Begins terms history p req q)
+  pub sole : whole → (q.seen ≡ p.seen) ⊎ IfSome terms.sole_history (λ history. Begins terms history p req q)
 
 -- the answer was written: a reply, or a stream to its end; or a beginning of it was; or there was no memory for it
 abbrev pub AnsweredAs : Terms → Type 0 → Pass RevisionData → Req → List ℕ → List Reading → Pass RevisionData → Result (Option WatchEnd) Broken → Type 0

@@ -70,8 +70,8 @@ Run terms p (e ∷ es) last = Step terms p e × Run terms e.pass es last
 -- ---- a log that nobody else holds: what becomes of it, its floor and its generation; each load gives its end
 
 abbrev pub IsAloneReply : Terms → Pass RevisionData → Reply → Pass RevisionData → Type 0
-IsAloneReply terms p (wrote ask answer) q = IfSome terms.alone (λ history. SoleWrite terms.base terms.mirror history p ask answer q)
-IsAloneReply terms p (transacted asks answer) q = IfSome terms.alone (λ history. SoleTransact terms.base terms.mirror history p asks answer q)
+IsAloneReply terms p (wrote ask answer) q = IfSome terms.sole_history (λ history. SoleWrite terms.base terms.mirror history p ask answer q)
+IsAloneReply terms p (transacted asks answer) q = IfSome terms.sole_history (λ history. SoleTransact terms.base terms.mirror history p asks answer q)
 IsAloneReply terms p (operated ask answer) q = SoleOperate p ask answer q
 IsAloneReply terms p (unrouted fault) q = IsSoleRead p q
 IsAloneReply terms p (got ask answer) q = IsSoleRead p q

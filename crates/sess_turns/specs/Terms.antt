@@ -10,12 +10,12 @@ pub record Terms : Type 0 where
   pub base : List RowData
   pub mirror : Bool
   pub window : ℕ
-  pub alone : Option ℕ
+  pub sole_history : Option ℕ
   pub settings : Settings
 
 abbrev pub terms_of : List RowData → Bool → Facts → Settings → Terms
 terms_of base mirror facts settings =
-    record { base = base; mirror = mirror; window = facts.window; alone = facts.alone; settings = settings }
+    record { base = base; mirror = mirror; window = facts.window; sole_history = facts.sole_history; settings = settings }
 
 -- after how many seconds a watch ends, where its ask says so many, or 0
 abbrev pub seconds_of : Settings → ℕ → ℕ

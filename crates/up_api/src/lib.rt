@@ -19,6 +19,3 @@ pub use named::LogFacts;
 pub use refusals::UpNo;
 pub use settings::Settings;
 pub use upstream::{Pass, Upstream, logs_grow, polls_join};
-
-#[cfg(test)]
-mod tests;

@@ -10,6 +10,3 @@ mod queue;
 pub use batch::{Batch, Line};
 pub use index::LaneIndex;
 pub use queue::{LaneIn, LaneOut, lane};
-
-#[cfg(test)]
-mod tests;

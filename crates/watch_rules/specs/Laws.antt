@@ -75,9 +75,9 @@ TellingsBegin =
 -- bookmark where one may stand; or by a loss that the log bears out.
 pub record GoOn (log : Log) (log_floor low : ℕ) (ask : WatchAsk) (at : ℕ) (lines : List Line) (p : ℕ) : Type 0 where
   pub stretch : (to : ℕ) → p ≤ to → to ≤ end_of log →
-      let told : List Line = lines ++ map Told (transitions log ask.selection p to) in TellsBody log log_floor low ask at told to × AreOpen told
+      let more : List Line = lines ++ map Told (transitions log ask.selection p to) in TellsBody log log_floor low ask at more to × AreOpen more
   pub mark : IsTrue ask.bookmarks → p ≤ end_of log →
-      let told : List Line = lines ++ Bookmark p ∷ [] in TellsBody log log_floor low ask at told p × AreOpen told
+      let more : List Line = lines ++ Bookmark p ∷ [] in TellsBody log log_floor low ask at more p × AreOpen more
   pub loss : (floor : ℕ) → IsEvicted log log_floor low ask.selection.resource p floor →
       TellsBody log log_floor low ask at (lines ++ Lost p floor ∷ []) p
 

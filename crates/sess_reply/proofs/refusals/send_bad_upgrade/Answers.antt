@@ -1,5 +1,5 @@
 use Rattle.std.proofs.Common.{ap, Some}
-use Rattle.api_errors.specs.Told.{bad_upgrade}
+use Rattle.api_errors.specs.Failures.{bad_upgrade}
 use Rattle.sess_reply.proofs.SendLemmas.{told_sent, told_broken}
 use Rattle.sess_reply.proofs.refusals.send_bad_upgrade.Goals as goal
 
