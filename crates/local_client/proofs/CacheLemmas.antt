@@ -1,5 +1,5 @@
 -- Caches follow a log as what is known of it goes on, and what the count of reads does.
-use Rattle.std.specs.Prelude.{Result, Ok, Err, OnOk, OnErr}
+use Rattle.std.specs.Prelude.{Result, Ok, Err, IfOk, OnOk, OnErr}
 use Rattle.std.proofs.Common.{◌≡◌, ℕ, zero, suc, ◌≤◌, ◌<◌, ◌⊎◌, inl, inr, Option, Some, None, List, refl, ap, sym, ◌∙◌, subst, arith}
 use Rattle.kube_meta.specs.Rows.{RowData}
 use Rattle.kube_meta.specs.declared.resources.Resource.{Resource}
@@ -105,6 +105,17 @@ made_follow base window p m q pods config_maps deployments first second one two 
     follows_later base m q pods second window Pods (follows_later base p m pods first window Pods one)
 made_follow base window p m q pods config_maps deployments first second one two three ConfigMaps = follows_later base m q config_maps second window ConfigMaps two
 made_follow base window p m q pods config_maps deployments first second one two three Deployments = three
+
+-- what was made
+pub made_is : {A E : Type 0} (P : A → Type 0) (answer : Result A E) (a : A) → answer ≡ Ok a → IfOk answer P → P a
+made_is P answer a is given = subst (λ r. IfOk r P) is given
+
+-- caches that were made with what is known then
+pub joined_follow : {E : Type 0} (base : List RowData) (window : ℕ) (p : Pass RevisionData) (caches : Result CachesData E) (known : Result (Pass RevisionData) E) (made : Result (CachesData × Pass RevisionData) E) →
+    IfOk made (λ z. (caches ≡ Ok z.0) × (known ≡ Ok z.1)) → IfOk caches (AreFollowing base window p) → IfOk known (Extends p) → IfOk made (λ z. AreFollowing base window z.1 z.0)
+joined_follow base window p caches known (Ok z) are following later =
+    follow_later base p z.1 z.0 (made_is (Extends p) known z.1 are.1 later) window (made_is (AreFollowing base window p) caches z.0 are.0 following)
+joined_follow base window p caches known (Err memory) are following later = tt
 
 -- the window is that of the caches themselves
 pub own_window : (base : List RowData) (window : ℕ) (p : Pass RevisionData) (caches : CachesData) → AreFollowing base window p caches → AreFollowing base caches.pods.hub.cache.ring.window p caches

@@ -2,7 +2,7 @@
 use Rattle.std.proofs.Common.{◌≡◌, ℕ, ◌≤◌, inl, inr, List, [], length, ap, sym, ◌∙◌, subst}
 use Rattle.std.specs.Prelude.{All, Result, Ok, Err}
 use Rattle.kube_meta.specs.declared.resources.Resource.{Resource}
-use Rattle.rev_front.specs.Passes.{Pass, IsPass, Whole, empty_log, end_from, looked, pass_from, revision}
+use Rattle.rev_front.specs.Passes.{Pass, IsPass, Whole, end_from, looked, pass_from, revision}
 use Rattle.rev_log.specs.Changes.{RevisionData}
 use Rattle.rev_log.specs.Logs.{Fits}
 use Rattle.up_api.specs.Sections.{HasSeenAll, Knows, Learns, StaysOrSeesAll}
@@ -65,10 +65,10 @@ whole_behind old mid new stays behind =
       };
     }
 
--- the pass of a new log that only learnt since, and knows the log whole
-pub new_pass : (first seat : ℕ) (p q : Pass RevisionData) → p ≡ pass_from (empty_log first) seat → Learns p q → KnowsAll (empty_log first) q → IsPass Fits q → q ≡ pass_from (empty_log first) q.seat
-new_pass first seat p q is learns whole lawful i =
-    let shown : q.shown ≡ end_from {E = RevisionData} first [] = whole.1 ∙ ap (λ (z : ℕ × List RevisionData). end_from {E = RevisionData} z.0 z.1) {x = (q.first, q.seen)} {y = (first, [])} (λ j. (whole.0.first j, whole.0.seen j)) in
+-- a pass that was made of a log and only learnt since, and knows it whole
+pub still_first : (w : Whole RevisionData) (seat : ℕ) (p q : Pass RevisionData) → p ≡ pass_from w seat → Learns p q → KnowsAll w q → IsPass Fits q → q ≡ pass_from w q.seat
+still_first w seat p q is learns whole lawful i =
+    let shown : q.shown ≡ revision w = whole.1 ∙ ap (λ (z : ℕ × List RevisionData). end_from {E = RevisionData} z.0 z.1) {x = (q.first, q.seen)} {y = (w.first, w.log)} (λ j. (whole.0.first j, whole.0.seen j)) in
     let loads : q.loads ≡ [] = learns.loads_stay ∙ ap (λ (x : Pass RevisionData). x.loads) is in
     let looks : q.looks ≡ 0 = lawful.looks_is ∙ ap length loads in
     let last : q.last ≡ 0 = learns.last_stays ∙ ap (λ (x : Pass RevisionData). x.last) is in

@@ -1,4 +1,3 @@
 pub mod CacheLemmas
 pub mod FollowLemmas
 pub mod StandLemmas
-pub mod ReadLemmas

@@ -1,17 +1,12 @@
 -- What stood at one revision, from a cache or from the store behind it.
-use Rattle.std.specs.Prelude.{◌≡◌, ℕ, ◌<◌, ◌≤◌, List, Option, Some, None, option_and_then, Result, Ok, Err}
+use Rattle.std.specs.Prelude.{◌≡◌, ℕ, ◌<◌, ◌≤◌, List, Result, Ok, Err}
 use Rattle.kube_meta.specs.Rows.{RowData}
 use Rattle.kube_meta.specs.declared.resources.Resource.{Resource}
 use Rattle.rev_front.specs.Passes.{end_from}
 use Rattle.rev_log.specs.States.{IsStateAt}
 use Rattle.up_api.specs.Sections.{Learns, log_of}
-use Rattle.select_all.specs.declared.selection.Meaning.{Meaning}
-use Rattle.select_all.specs.declared.selection.Meaning.TheVariants.{Exact}
-use Rattle.watch_rules.specs.declared.starts.Start.{Start}
 use Rattle.client_api.specs.declared.answers.ListNo.{ListNo}
 use Rattle.client_api.specs.declared.answers.ListNo.TheVariants.{Expired, TooLarge, Absent, Memory}
-use Rattle.client_api.specs.Refusals.{refusal_above}
-use Rattle.client_api.specs.Starts.{meaning_of}
 use Rattle.local_client.specs.CachedLogs.{CachedLogData, KnowsWhole}
 
 -- the rows that stood there, not below the compaction floor and seen; or the floor that is above
@@ -31,12 +26,3 @@ pub record IsReadBehind (old new : CachedLogData) : Type 0 where
   pub log : new.store.whole ≡ old.store.whole
   pub history : new.store.history ≡ old.store.history
   pub whole : KnowsWhole old → KnowsWhole new
-
--- the refusal of a start that names a revision above this one
-abbrev pub start_refusal : Start → ℕ → Option ListNo
-start_refusal start current = option_and_then (λ meaning. refusal_above meaning current) (meaning_of start)
-
--- the one revision that will do, where a meaning has one
-abbrev pub revision_alone : Meaning → Option ℕ
-revision_alone (Exact asked) = Some asked
-revision_alone meaning = None

@@ -1,24 +1,25 @@
 //! A log that nobody else holds, with a cache of each resource.
 
 ghost use Rattle.std.specs.Prelude.{◌≡◌, ℕ, ◌≤◌, ◌<◌, max, [], false, IfOk, IfErr, OnOk};
-ghost use Rattle.rev_front.specs.Passes.{end_from};
+ghost use Rattle.rev_front.specs.Passes.{end_from, pass_from};
 ghost use Rattle.rev_log.specs.States.{IsStateAt};
 ghost use Rattle.select_all.specs.Floors.{IsEvicted};
 ghost use Rattle.up_api.specs.Sections.{HasSeenAll, log_of};
 ghost use Rattle.up_api.specs.Settings.{AreInRange};
 ghost use Rattle.up_store.specs.Replies.{IsWriteReply, IsTransactionReply, IsOperationReply};
+ghost use Rattle.up_store.specs.Stores.{KnowsAll};
 ghost use Rattle.up_store.specs.Transacting.{answers_in};
 ghost use Rattle.up_store.specs.declared.operations.Operate.TheVariants as operations;
 ghost use Rattle.cache_hub.specs.Catching.{RefusesCatch};
 ghost use Rattle.client_api.specs.Alone.{SoleWrite, SoleTransact, SoleOperate};
-ghost use Rattle.local_client.specs.Caches.{AreBuiltAnew, cache_of, end_at};
+ghost use Rattle.local_client.specs.Caches.{AreBuiltAnew, AreFollowing, cache_of, end_at};
 ghost use Rattle.local_client.specs.CachedLogs.{IsNewLog, GoesOn, KnowsWhole, cached_in, window_of};
 ghost use Rattle.local_client.specs.Following.{HasFollowed, ReadsFor, StaysWholeIfTold};
 ghost use Rattle.local_client.specs.Reads.{IsReadBehind, IsStateAnswer};
 ghost use Rattle.local_client.specs.Watching.{IsTold};
 
 use crate::caches::Caches;
-use crate::reads::snapshot_of;
+use cache_answers::{both, snapshot_of};
 use cache_core::AtNo;
 use cache_hub::{CatchNo, Caught};
 use client_api::ListNo;
@@ -67,10 +68,8 @@ impl<N: LogFacts> CachedLog<N> {
         ensures { IfOk result (IsNewLog N.log.first settings.now) }
     {
         let mut store = Store::new(alloc, blank, settings.history)?;
-        let mut told = store.pass()?;
-        let caches = Caches::new(alloc, settings, &mut store, &mut told)?;
-        store.tell(&mut told);
-        let _known = told.shown();
+        let made = caches_of(alloc, settings, &mut store);
+        let (store, (caches, told)) = both(Ok(store), made)?;
         Ok(CachedLog {
             alloc,
             store,
@@ -273,4 +272,24 @@ impl<N: LogFacts> CachedLog<N> {
     {
         self.caches.tick(resource, ms);
     }
+}
+
+// The caches of a store, and what is known of its log then.
+fn caches_of<N: LogFacts>(
+    alloc: Global,
+    settings: &Settings,
+    store: &mut Store<N>,
+) -> Result<(Caches<N>, Pass<N>), Memory>
+    requires settings { AreInRange settings.now }
+    ensures log { store.new.whole ≡ store.old.whole }
+    ensures history { store.new.history ≡ store.old.history }
+    ensures following { IfOk result (λ made. AreFollowing N.base settings.now.window made.1 made.0) }
+    ensures pass { IfOk result (λ made. made.1 ≡ pass_from store.new.whole made.1.seat) }
+    ensures whole { IfOk result (λ made. KnowsAll store.new.whole made.1) }
+{
+    let mut told = store.pass()?;
+    let caches = Caches::new(alloc, settings, store, &mut told);
+    store.tell(&mut told);
+    let _known = told.shown();
+    both(caches, Ok(told))
 }

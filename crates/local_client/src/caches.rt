@@ -12,6 +12,7 @@ ghost use Rattle.cache_hub.specs.Hubs.{StandsFor};
 ghost use Rattle.local_client.specs.Caches.{AreBuiltAnew, AreFollowing, FollowOn, cache_of, end_at};
 
 use crate::resource_cache::ResourceCache;
+use cache_answers::both;
 use cache_hub::{CatchNo, Caught};
 use kube_meta::{Memory, Resource};
 use select_all::Selection;
@@ -50,9 +51,10 @@ impl<N: LogFacts> Caches<N> {
         ensures history { store.new.history ≡ store.old.history }
         ensures following { IfOk result (AreFollowing N.base settings.now.window told.new) }
     {
-        let pods = ResourceCache::new(alloc, Resource::Pods, settings, store, told)?;
-        let config_maps = ResourceCache::new(alloc, Resource::ConfigMaps, settings, store, told)?;
-        let deployments = ResourceCache::new(alloc, Resource::Deployments, settings, store, told)?;
+        let pods = ResourceCache::new(alloc, Resource::Pods, settings, store, told);
+        let config_maps = ResourceCache::new(alloc, Resource::ConfigMaps, settings, store, told);
+        let deployments = ResourceCache::new(alloc, Resource::Deployments, settings, store, told);
+        let ((pods, config_maps), deployments) = both(both(pods, config_maps), deployments)?;
         Ok(Caches {
             pods,
             config_maps,

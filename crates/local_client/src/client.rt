@@ -4,21 +4,21 @@ ghost use Rattle.std.specs.Prelude.{◌≡◌, ℕ, ◌≤◌, [], false, Some, 
 ghost use Rattle.up_api.specs.Settings.{AreInRange};
 ghost use Rattle.client_api.specs.Lists.{IsListAnswer, IsListed};
 ghost use Rattle.client_api.specs.Refusals.{refusal_above};
+ghost use Rattle.cache_answers.specs.Reads.{revision_alone};
 ghost use Rattle.local_client.specs.Caches.{cache_of, end_at};
 ghost use Rattle.local_client.specs.CachedLogs.{CachedLogData, GoesOn, IsNewLog};
 ghost use Rattle.local_client.specs.Following.{HasFollowed};
-ghost use Rattle.local_client.specs.Reads.{IsReadBehind, revision_alone};
+ghost use Rattle.local_client.specs.Reads.{IsReadBehind};
 
 use crate::cached_log::CachedLog;
-use crate::reads::{listed, revision_alone};
 use crate::watching::{Watch, begin, stand, turn};
+use cache_answers::{found, listed, revision_alone};
 use client_api::{Begun, Client, Got, ListNo, Listed, Took, too_large};
 use kube_meta::Memory;
 use list_rules::{GetAsk, ListAsk};
 use rev_front::Blank;
 use rev_log::Revision;
 use std::alloc::Global;
-use std::sync::Arc;
 use up_api::{LogFacts, Settings};
 use up_store::{OpNo, Operate, Transaction, TxWriteNo, WriteAsk, WriteNo, Written};
 use watch_rules::WatchAsk;
@@ -70,7 +70,7 @@ impl<N: LogFacts> Client for LocalClient<N> {
       watching = c.watch;
       heard = c.heard;
       window = window_of c.log;
-      alone = Some c.log.store.history;
+      sole_history = Some c.log.store.history;
     } };
 
     ghost whole = { λ c. KnowsWhole c.log };
@@ -92,13 +92,7 @@ impl<N: LogFacts> Client for LocalClient<N> {
         }
         let at = self.log.end(ask.resource);
         let state = self.log.snapshot(ask.resource)?;
-        match state.get(&ask.key) {
-            Some(shown) => Ok(Got {
-                row: Arc::try_clone(shown)?,
-                at,
-            }),
-            None => Err(ListNo::Absent { at }),
-        }
+        found(&state, &ask.key, at)
     }
 
     fn list(&mut self, ask: &ListAsk) -> Result<Listed, ListNo> {
@@ -164,7 +158,7 @@ fn exact<N: LogFacts>(
     ask: &ListAsk,
     at: u64,
 ) -> Result<Listed, ListNo>
-    requires alone { revision_alone ask.now.meaning ≡ Some at }
+    requires exact { revision_alone ask.now.meaning ≡ Some at }
     requires reached { at ≤ end_at log.old.caches ask.now.selection.resource }
     ensures goes_on { GoesOn log.old log.new }
     ensures behind { IsReadBehind log.old log.new }

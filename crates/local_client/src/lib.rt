@@ -6,7 +6,6 @@
 mod cached_log;
 mod caches;
 mod client;
-mod reads;
 mod resource_cache;
 mod watching;
 

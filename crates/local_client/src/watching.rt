@@ -4,16 +4,15 @@ ghost use Rattle.std.specs.Prelude.{◌≡◌, ℕ, ◌≤◌, IfOk, option_and_
 ghost use Rattle.client_api.specs.Caches.{StartsWithin, TakesWithin};
 ghost use Rattle.client_api.specs.Starts.{IsWatchAnswer};
 ghost use Rattle.client_api.specs.Turns.{IsTurn, watch_after};
+ghost use Rattle.cache_answers.specs.Turns.{moved_to};
 ghost use Rattle.local_client.specs.Caches.{end_at};
 ghost use Rattle.local_client.specs.CachedLogs.{CachedLogData, window_of};
 ghost use Rattle.local_client.specs.Following.{HasFollowed};
-ghost use Rattle.local_client.specs.Reads.{start_refusal};
-ghost use Rattle.local_client.specs.Watching.{moved_to, took_of};
 
 use crate::cached_log::CachedLog;
-use crate::reads::{bare, opened};
+use cache_answers::{bare, opened, took, unreached};
 use cache_hub::{CatchNo, Caught};
-use client_api::{Begun, Line, ListNo, Took, too_large};
+use client_api::{Begun, ListNo, Took};
 use kube_meta::Memory;
 use select_all::Selection;
 use std::alloc::Global;
@@ -81,16 +80,6 @@ pub fn begin<N: LogFacts>(
     }
 }
 
-// The refusal of a start that names a revision above what a load gave.
-fn unreached(start: Start, loaded: u64) -> Option<ListNo>
-    ensures { result ≡ start_refusal start loaded }
-{
-    match start {
-        Start::FromState(meaning) | Start::FromHere(meaning) => too_large(meaning, loaded),
-        Start::FromRevision(_) => None,
-    }
-}
-
 /// A turn of a watch, once the cache of its resource was brought to what a load gave.
 pub fn turn<N: LogFacts>(log: &mut CachedLog<N>, watch: &Watch, max: usize) -> Result<Took, Memory>
     requires max { 1 ≤ max }
@@ -111,19 +100,6 @@ pub fn turn<N: LogFacts>(log: &mut CachedLog<N>, watch: &Watch, max: usize) -> R
         Err(CatchNo::Lost { at, floor }) => Ok(Took::Lost { at, floor }),
         Err(CatchNo::Memory) => Err(Memory),
     }
-}
-
-// What these lines are to a turn, where the log is seen up to a revision.
-fn took(from: u64, upto: u64, lines: Vec<Line>, seen: u64) -> Took
-    ensures { result ≡ took_of from upto lines seen }
-{
-    if lines.is_empty() {
-        return Took::Quiet {
-            upto,
-            reached: upto <= seen,
-        };
-    }
-    Took::Events { from, upto, lines }
 }
 
 /// Leaves the watch where a turn leaves it.

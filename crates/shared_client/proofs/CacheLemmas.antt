@@ -9,6 +9,7 @@ use Rattle.up_api.specs.declared.feeds.Feed.{Feed}
 use Rattle.up_api.specs.Sections.{StandsAt, log_upto}
 use Rattle.reflect_core.specs.Pumps.{IsKnown}
 use Rattle.cache_core.specs.Caches.{CacheData}
+use Rattle.cache_core.specs.Feeding.{Stays}
 use Rattle.cache_hub.specs.Hubs.{HubData, OnlyLanes, StandsFor}
 use Rattle.shared_client.specs.Knowing.{KnowsAllOf}
 use Rattle.shared_client.specs.CacheStates.{CacheStateData, IsFollowing}
@@ -50,6 +51,18 @@ follows_pumped base window resource old new is later cache reflector window_same
     | inl same ↦ omega (arith, same, is.built, later.floor_on)
     | inr low ↦ low
   ];
+}
+
+-- after it was built anew
+pub follows_rebuilt : (base : List RowData) (window : ℕ) (resource : Resource) (c : CacheStateData) (hub : HubData) (q : Pass RevisionData) → IsFollowing base window resource c → Extends c.pass q →
+    Stays c.hub.cache hub.cache → hub.cache.base ≤ q.floor → StandsAt (λ log. StandsFor log hub) base q hub.cache.end → IsFollowing base window resource (record { hub = hub; reflector = c.reflector; pass = q })
+follows_rebuilt base window resource c hub q is later stays based stands = record {
+  cache_is = stays.resource ∙ is.cache_is;
+  reflector_is = is.reflector_is;
+  window_is = stays.window ∙ is.window_is;
+  stands = stands;
+  known = known-later c.pass q c.reflector.feed later.gen_on is.known;
+  built = based;
 }
 
 -- one that has other lanes, or another time

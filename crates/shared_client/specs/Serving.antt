@@ -1,5 +1,5 @@
 -- What a read is answered from: the objects of a resource at a revision.
-use Rattle.std.specs.Prelude.{◌≡◌, ℕ, ◌<◌, ◌≤◌, Bool, true, false, nat_lt, List, Option, Some, None, IfSome}
+use Rattle.std.specs.Prelude.{◌≡◌, ℕ, ◌<◌, ◌≤◌, Bool, true, false, nat_lt, List, IfSome}
 use Rattle.kube_meta.specs.Rows.{RowData}
 use Rattle.kube_meta.specs.declared.resources.Resource.{Resource}
 use Rattle.rev_front.specs.Passes.{Pass, end_from}
@@ -12,11 +12,6 @@ use Rattle.client_api.specs.declared.answers.ListNo.{ListNo}
 use Rattle.client_api.specs.declared.answers.ListNo.TheVariants.{Expired, TooLarge, Absent, Memory}
 use Rattle.client_api.specs.Facts.{HasLoaded}
 use Rattle.client_api.specs.Refusals.{revision_named, IsTooLarge, IsExpired}
-
--- the one revision that will do, where a meaning has one
-abbrev pub revision_alone : Meaning → Option ℕ
-revision_alone (Exact asked) = Some asked
-revision_alone meaning = None
 
 -- the revision that a meaning names, if it names one, was shown
 abbrev pub IsShown : Meaning → ℕ → Type 0

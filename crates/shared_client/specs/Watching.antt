@@ -1,6 +1,5 @@
 -- What a cache tells a watch.
-use Rattle.std.specs.Prelude.{◌≡◌, ◌==◌, ℕ, ◌<◌, ◌≤◌, ◌⊎◌, nat_le, List, [], length, Option, option_map, option_and_then, if◌then◌else◌}
-use Rattle.std.specs.Global.{Vec}
+use Rattle.std.specs.Prelude.{◌≡◌, ℕ, ◌<◌, ◌≤◌, ◌⊎◌, List, [], length}
 use Rattle.kube_meta.specs.Rows.{RowData}
 use Rattle.rev_front.specs.Passes.{Pass, end_from}
 use Rattle.rev_log.specs.Changes.{RevisionData}
@@ -8,20 +7,14 @@ use Rattle.up_api.specs.Sections.{log_of}
 use Rattle.select_all.specs.declared.selection.Meaning.TheVariants.{Any}
 use Rattle.select_all.specs.declared.selection.Selection.{Selection}
 use Rattle.select_all.specs.Floors.{IsEvicted}
-use Rattle.select_all.specs.Streams.{TransitionData, transitions}
+use Rattle.select_all.specs.Streams.{transitions}
 use Rattle.cache_hub.specs.Catching.{CaughtData}
 use Rattle.cache_hub.specs.declared.catching.CatchNo.{CatchNo}
 use Rattle.cache_hub.specs.declared.catching.CatchNo.TheVariants.{Lost, Memory}
-use Rattle.client_api.specs.declared.answers.Took.{Took}
-use Rattle.client_api.specs.declared.answers.Took.TheVariants.{Events, Quiet}
 use Rattle.client_api.specs.declared.answers.ListNo.{ListNo}
 use Rattle.client_api.specs.declared.answers.ListNo.TheVariants.{Expired, TooLarge, Absent}
 use Rattle.client_api.specs.declared.answers.ListNo.TheVariants as no_memory
 use Rattle.client_api.specs.Answers.{BegunData}
-use Rattle.client_api.specs.Facts.{Watched}
-use Rattle.client_api.specs.Refusals.{refusal_above}
-use Rattle.client_api.specs.Starts.{meaning_of}
-use Rattle.watch_rules.specs.declared.starts.Start.{Start}
 use Rattle.shared_client.specs.Serving.{IsServed}
 
 -- What a watch at a position is told that catches up, where this was shown and this is known then: all lines up to a
@@ -54,15 +47,3 @@ IsStartLost base window s at q (Expired asked floor) = (asked ≡ at) × IsEvict
 IsStartLost base window s at q (TooLarge asked current) = ⊥
 IsStartLost base window s at q (Absent other) = ⊥
 IsStartLost base window s at q no_memory.Memory = Unit {0}
-
--- what the lines up to a revision are to a turn, where the log is seen up to `seen`
-abbrev pub took_of : ℕ → ℕ → Vec TransitionData → ℕ → Took
-took_of from upto lines seen = if length lines.items == 0 then Quiet upto (nat_le upto seen) else Events from upto lines
-
--- a watch, if there is one, at this revision
-abbrev pub moved_to : ℕ → Option Watched → Option Watched
-moved_to upto watching = option_map (λ (watched : Watched). record watched { position = upto }) watching
-
--- the refusal of a start that names a revision above this one
-abbrev pub start_refusal : Start → ℕ → Option ListNo
-start_refusal start current = option_and_then (λ meaning. refusal_above meaning current) (meaning_of start)

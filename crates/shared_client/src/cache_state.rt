@@ -12,17 +12,18 @@ ghost use Rattle.cache_hub.specs.Catching.{IsCaught, RefusesCatch};
 ghost use Rattle.cache_hub.specs.declared.catching.CatchNo.TheVariants.{Lost};
 ghost use Rattle.cache_hub.specs.Hubs.{HasCaughtUp};
 ghost use Rattle.cache_hub.specs.OpenLanes.{AreChanged, SetsLane, left_behind, newly_open, open_at};
-ghost use Rattle.shared_client.specs.CacheStates.{GoesOn, IsBrokenOff, IsPumped, IsSection, KeepsCache};
+ghost use Rattle.shared_client.specs.CacheStates.{GoesOn, IsBrokenOff, IsNewHub, IsPumped, IsSection, KeepsCache};
 ghost use Rattle.shared_client.specs.Knowing.{KnowsAllOf};
 ghost use Rattle.shared_client.specs.Serving.{IsServed, IsShown, IsUnserved, UnlessAlone};
 ghost use Rattle.shared_client.specs.Watching.{IsLostAt, IsTold};
 
-use crate::reads::{kept_at, revision_alone};
+use crate::reads::kept_at;
 use crate::resources::OfResource;
+use cache_answers::{both, revision_alone};
 use cache_core::AtNo;
 use cache_hub::{CatchNo, Caught, Hub};
 use client_api::ListNo;
-use kube_meta::Memory;
+use kube_meta::{Memory, Resource};
 use obj_tree::Snapshot;
 use reflect_core::{Pumped, Reflector};
 use select_all::{Meaning, Selection};
@@ -79,8 +80,8 @@ impl<N: LogFacts, One: OfResource> CacheState<N, One> {
         requires window { N.window ≡ settings.now.window }
     {
         let mut pass = pass;
-        let history = up.history(One::resource(), &mut pass)?;
-        let hub = Hub::new(alloc, One::resource(), history, settings, &mut pass)?;
+        let hub = hub_of(alloc, up, &mut pass, One::resource(), settings);
+        let (hub, pass) = both(hub, Ok(pass))?;
         let reflector = Reflector::with_batch(One::resource(), settings.batch);
         Ok(CacheState {
             alloc,
@@ -209,6 +210,7 @@ impl<N: LogFacts, One: OfResource> CacheState<N, One> {
         ensures floor { IfOk result (λ floor. (told.old.floor ≤ floor) × (floor ≤ told.new.floor)) }
         ensures base { IfOk result (λ floor. self.new.hub.cache.base ≡ floor) }
         ensures rebuilds { OnOk result (self.new.hub.rebuilds ≡ raised_once self.old.hub.rebuilds) }
+        ensures reached { OnOk result (told.old.shown ≤ self.new.hub.cache.end) }
         ensures lanes { OnOk result (AreChanged left_behind self.old.hub.lanes.all self.new.hub.lanes.all) }
         ensures kept { OnErr result (self.new.hub ≡ self.old.hub) }
     {
@@ -238,7 +240,7 @@ impl<N: LogFacts, One: OfResource> CacheState<N, One> {
         ensures refused { IfErr result (λ no. no ≡ ListNo.Memory) }
     {
         let (at, state) = self.serve(up, told, Meaning::Any)?;
-        let lane = self.lane(selection, at)?;
+        let (state, lane) = both(Ok(state), self.lane(selection, at))?;
         Ok((at, state, lane))
     }
 
@@ -312,6 +314,7 @@ impl<N: LogFacts, One: OfResource> CacheState<N, One> {
         ensures floor { IfOk result (λ floor. floor ≡ self.new.pass.floor) }
         ensures base { IfOk result (λ floor. self.new.hub.cache.base ≡ floor) }
         ensures rebuilds { OnOk result (self.new.hub.rebuilds ≡ raised_once self.old.hub.rebuilds) }
+        ensures reached { OnOk result (self.old.pass.shown ≤ self.new.hub.cache.end) }
         ensures lanes { OnOk result (AreChanged left_behind self.old.hub.lanes.all self.new.hub.lanes.all) }
         ensures kept { OnErr result (self.new.hub ≡ self.old.hub) }
     {
@@ -380,4 +383,19 @@ impl<N: LogFacts, One: OfResource> CacheState<N, One> {
     {
         self.hub.open_lane(selection, at)
     }
+}
+
+// The cache that upstream's history of a resource makes, without lanes.
+fn hub_of<N: LogFacts, R: Wait + Copy>(
+    alloc: Global,
+    up: &mut StoreDoor<N, R>,
+    pass: &mut Pass<N>,
+    resource: Resource,
+    settings: &Settings,
+) -> Result<Hub<N>, Memory>
+    requires settings { AreInRange settings.now }
+    ensures { IfOk result (λ hub. IsNewHub N.base settings.now.window resource pass.new hub) }
+{
+    let history = up.history(resource, pass)?;
+    Hub::new(alloc, resource, history, settings, pass)
 }

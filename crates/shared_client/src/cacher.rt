@@ -9,6 +9,7 @@ ghost use Rattle.up_api.specs.Settings.{AreInRange};
 use crate::cache_state::CacheState;
 use crate::client::SharedClient;
 use crate::resources::{OfConfigMaps, OfDeployments, OfPods, OfResource};
+use cache_answers::both;
 use kube_meta::Memory;
 use std::alloc::Global;
 use std::sync::{Mutex, Wait};
@@ -39,9 +40,13 @@ impl<N: LogFacts, R: Wait + Copy> Cacher<N, R> {
         requires window { N.window ≡ settings.now.window }
     {
         let mut door = door;
-        let pods = locked(alloc, &mut door, settings)?;
-        let config_maps = locked(alloc, &mut door, settings)?;
-        let deployments = locked(alloc, &mut door, settings)?;
+        let pods = locked(alloc, &mut door, settings);
+        let config_maps = locked(alloc, &mut door, settings);
+        let deployments = locked(alloc, &mut door, settings);
+        let ((pods, config_maps), (deployments, door)) = both(
+            both(pods, config_maps),
+            both(deployments, Ok(door)),
+        )?;
         Ok(Cacher {
             rt,
             alloc,
@@ -73,13 +78,22 @@ impl<N: LogFacts, R: Wait + Copy> Cacher<N, R> {
     {
         let until = told.look();
         let mut door = self.door.again()?;
-        self.pods.lock(&self.rt).pump(&mut door, told, until)?;
-        self.config_maps
-            .lock(&self.rt)
-            .pump(&mut door, told, until)?;
-        self.deployments
-            .lock(&self.rt)
-            .pump(&mut door, told, until)?;
+        self.pump_each(&mut door, told, until)
+    }
+
+    // Brings each cache to a revision that was shown.
+    fn pump_each(
+        &self,
+        door: &mut StoreDoor<N, R>,
+        told: &mut Pass<N>,
+        until: u64,
+    ) -> Result<(), Memory>
+        requires until { until ≤ told.old.shown }
+        ensures extends { Extends told.old told.new }
+    {
+        self.pods.lock(&self.rt).pump(door, told, until)?;
+        self.config_maps.lock(&self.rt).pump(door, told, until)?;
+        self.deployments.lock(&self.rt).pump(door, told, until)?;
         Ok(())
     }
 
@@ -90,9 +104,17 @@ impl<N: LogFacts, R: Wait + Copy> Cacher<N, R> {
         ensures floor { IfOk result (λ floor. (told.old.floor ≤ floor) × (floor ≤ told.new.floor)) }
     {
         let mut door = self.door.again()?;
-        self.pods.lock(&self.rt).rebuild(&mut door, told)?;
-        self.config_maps.lock(&self.rt).rebuild(&mut door, told)?;
-        self.deployments.lock(&self.rt).rebuild(&mut door, told)
+        self.rebuild_each(&mut door, told)
+    }
+
+    // Builds each cache anew, and answers the compaction floor from which the last one was built.
+    fn rebuild_each(&self, door: &mut StoreDoor<N, R>, told: &mut Pass<N>) -> Result<u64, Memory>
+        ensures learns { Learns told.old told.new }
+        ensures floor { IfOk result (λ floor. (told.old.floor ≤ floor) × (floor ≤ told.new.floor)) }
+    {
+        self.pods.lock(&self.rt).rebuild(door, told)?;
+        self.config_maps.lock(&self.rt).rebuild(door, told)?;
+        self.deployments.lock(&self.rt).rebuild(door, told)
     }
 }
 

@@ -12,14 +12,15 @@ ghost use Rattle.client_api.specs.Fresh.{IsFresh};
 ghost use Rattle.shared_client.specs.Serving.{IsRefused};
 
 use crate::cacher::Cacher;
-use crate::reads::{listed, reach};
+use crate::reads::reach;
 use crate::watching::{Watch, begin, stand, turn};
+use cache_answers::{both, found, listed};
 use client_api::{Begun, Client, Got, ListNo, Listed, Took};
 use kube_meta::{Memory, Resource};
 use list_rules::{GetAsk, ListAsk};
 use obj_tree::Snapshot;
 use select_all::Meaning;
-use std::sync::{Arc, Wait};
+use std::sync::Wait;
 use up_api::{LogFacts, Pass};
 use up_store::{OpNo, Operate, StoreDoor, Transaction, TxWriteNo, WriteAsk, WriteNo, Written};
 use watch_rules::WatchAsk;
@@ -43,10 +44,11 @@ impl<'a, N: LogFacts, R: Wait + Copy> SharedClient<'a, N, R> {
         ensures idle { IfOk result (λ client. (client.watch ≡ None) × (client.heard ≡ 0)) }
         ensures pass { IfOk result (λ client. (whole : Whole RevisionData) × (client.told ≡ pass_from whole client.told.seat)) }
     {
+        let (door, told) = both(cacher.door.again(), cacher.door.pass())?;
         Ok(SharedClient {
             cacher,
-            door: cacher.door.again()?,
-            told: cacher.door.pass()?,
+            door,
+            told,
             watch: None,
             heard: 0,
         })
@@ -62,7 +64,7 @@ impl<N: LogFacts, R: Wait + Copy> Client for SharedClient<'_, N, R> {
 
     ghost pass = { λ c. c.told };
 
-    ghost facts = { λ c. record { watching = c.watch; heard = c.heard; window = N.window; alone = None } };
+    ghost facts = { λ c. record { watching = c.watch; heard = c.heard; window = N.window; sole_history = None } };
 
     // others hold the log too
     ghost whole = { λ _. ⊥ };
@@ -89,13 +91,7 @@ impl<N: LogFacts, R: Wait + Copy> Client for SharedClient<'_, N, R> {
             ask.resource,
             ask.meaning,
         )?;
-        match state.get(&ask.key) {
-            Some(shown) => Ok(Got {
-                row: Arc::try_clone(shown)?,
-                at,
-            }),
-            None => Err(ListNo::Absent { at }),
-        }
+        found(&state, &ask.key, at)
     }
 
     fn list(&mut self, ask: &ListAsk) -> Result<Listed, ListNo> {

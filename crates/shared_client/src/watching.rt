@@ -10,13 +10,14 @@ ghost use Rattle.client_api.specs.Facts.{IsOnward};
 ghost use Rattle.client_api.specs.Starts.{IsWatchAnswer, IsWatchStart};
 ghost use Rattle.client_api.specs.Turns.{IsTurn, watch_after};
 ghost use Rattle.select_all.specs.Listings.{listing};
-ghost use Rattle.shared_client.specs.Watching.{BeginsAtEnd, IsStartLost, moved_to, none_of, start_refusal, took_of};
+ghost use Rattle.cache_answers.specs.Turns.{moved_to};
+ghost use Rattle.shared_client.specs.Watching.{BeginsAtEnd, IsStartLost, none_of};
 
 use crate::cache_state::Turn;
 use crate::cacher::Cacher;
-use crate::reads::{bare, opened};
+use cache_answers::{bare, both, opened, took, unreached};
 use cache_hub::{CatchNo, Caught};
-use client_api::{Begun, Line, ListNo, Took, too_large};
+use client_api::{Begun, ListNo, Took};
 use kube_meta::{Memory, Resource};
 use select_all::Selection;
 use std::marker::Model;
@@ -104,20 +105,9 @@ fn begin_from_state<'a, N: LogFacts, R: Wait + Copy>(
 {
     let started = cacher.start_at_end(door, told, wanted);
     let _known = told.shown();
-    let (position, state, (id, out)) = started?;
-    let lane = WatchLane {
-        cacher,
-        resource: wanted.resource,
-        id,
-        out,
-    };
-    let begun = opened(cacher.alloc, wanted, position, &state)?;
-    let watch = Watch {
-        selection: wanted.copy(cacher.alloc)?,
-        position,
-        lane,
-    };
-    Ok((begun, watch))
+    let (position, state, lane) = started?;
+    let begun = opened(cacher.alloc, wanted, position, &state);
+    Ok(both(begun, watch_at(cacher, wanted, position, lane))?)
 }
 
 // At the end of the cache.
@@ -135,18 +125,8 @@ fn begin_from_here<'a, N: LogFacts, R: Wait + Copy>(
 {
     let started = cacher.start_at_end(door, told, wanted);
     let _known = told.shown();
-    let (position, _, (id, out)) = started?;
-    let lane = WatchLane {
-        cacher,
-        resource: wanted.resource,
-        id,
-        out,
-    };
-    let watch = Watch {
-        selection: wanted.copy(cacher.alloc)?,
-        position,
-        lane,
-    };
+    let (position, _, lane) = started?;
+    let watch = watch_at(cacher, wanted, position, lane)?;
     Ok((bare(cacher.alloc, position), watch))
 }
 
@@ -167,18 +147,8 @@ fn begin_from<'a, N: LogFacts, R: Wait + Copy>(
     let started = cacher.start_from(door, told, wanted, position);
     let _known = told.shown();
     match started {
-        Ok((id, out)) => {
-            let lane = WatchLane {
-                cacher,
-                resource: wanted.resource,
-                id,
-                out,
-            };
-            let watch = Watch {
-                selection: wanted.copy(cacher.alloc)?,
-                position,
-                lane,
-            };
+        Ok(lane) => {
+            let watch = watch_at(cacher, wanted, position, lane)?;
             Ok((bare(cacher.alloc, position), watch))
         }
         Err(CatchNo::Lost { at, floor }) => Err(ListNo::Expired { asked: at, floor }),
@@ -186,14 +156,28 @@ fn begin_from<'a, N: LogFacts, R: Wait + Copy>(
     }
 }
 
-// The refusal of a start that names a revision above what a load gave.
-fn unreached(start: Start, loaded: u64) -> Option<ListNo>
-    ensures { result ≡ start_refusal start loaded }
+// A watch that stands at a revision, with its lane, which is closed where there is no memory for the watch.
+fn watch_at<'a, N: LogFacts, R: Wait + Copy>(
+    cacher: &'a Cacher<N, R>,
+    wanted: &Selection,
+    position: u64,
+    lane: (u64, LaneOut<N>),
+) -> Result<Watch<'a, N, R>, Memory>
+    ensures { IfOk result (λ watch. watch ≡ record { selection = wanted.now; position = position }) }
 {
-    match start {
-        Start::FromState(meaning) | Start::FromHere(meaning) => too_large(meaning, loaded),
-        Start::FromRevision(_) => None,
-    }
+    let (id, out) = lane;
+    let lane = WatchLane {
+        cacher,
+        resource: wanted.resource,
+        id,
+        out,
+    };
+    let (selection, lane) = both(wanted.copy(cacher.alloc), Ok(lane))?;
+    Ok(Watch {
+        selection,
+        position,
+        lane,
+    })
 }
 
 /// A turn of a watch. Its lane is asked first, which takes no lock; where that gives nothing, the revision that the log
@@ -293,19 +277,6 @@ fn caught_up<N: LogFacts, R: Wait + Copy>(
         Err(CatchNo::Lost { at, floor }) => Ok(Took::Lost { at, floor }),
         Err(CatchNo::Memory) => Err(Memory),
     }
-}
-
-// What these lines are to a turn, where the log is seen up to a revision.
-fn took(from: u64, upto: u64, lines: Vec<Line>, seen: u64) -> Took
-    ensures { result ≡ took_of from upto lines seen }
-{
-    if lines.is_empty() {
-        return Took::Quiet {
-            upto,
-            reached: upto <= seen,
-        };
-    }
-    Took::Events { from, upto, lines }
 }
 
 /// Leaves the watch where a turn leaves it.

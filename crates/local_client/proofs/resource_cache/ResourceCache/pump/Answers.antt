@@ -15,3 +15,9 @@ returns-clause-reads g c =
     let e = c.in_ok-pump.ensures in
     subst (λ (r : ResourceCacheData). RisesFor (HasCause r.hub.cache.end c.args.told.now c.pump.new.told) c.args.store.now.reads c.pump.new.up.reads) c.self.view_is
     (rises_done c.in_ok-pump.field-0.rebuilds _ _ _ e.rebuilds.0 e.reads (λ one. cause_of c.self.inside.hub.cache.end c.in_ok-pump.field-0.cuts c.args.told.now c.pump.new.told (e.cause one)))
+
+pub returns-clause-follows : goal.returns-clause-follows
+returns-clause-follows g c =
+    let e = c.in_ok-pump.ensures in
+    pumped_as g.N.LogFacts.base c.args.told.now c.pump.new.told c.args.self.now c.self.inside.hub c.pump.new.held c.self.inside.reflector c.pump.new.self c.self.view_is
+    e.learns.extends e.resource e.same.0 e.window e.stands e.known e.base

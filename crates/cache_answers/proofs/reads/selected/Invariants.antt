@@ -1,6 +1,6 @@
 use Rattle.std.proofs.Common.{◌≡◌, ◌++◌, map}
 use Rattle.select_all.specs.Listings.{listing}
-use Rattle.shared_client.proofs.reads.selected.Given as goal
+use Rattle.cache_answers.proofs.reads.selected.Given as goal
 
 -- the objects so far, and then the selected ones of those that are left, are all that are selected
 abbrev pub invariant-loop-shown : goal.invariant-loop-shown

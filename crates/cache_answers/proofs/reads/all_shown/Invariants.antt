@@ -1,5 +1,5 @@
 use Rattle.std.proofs.Common.{◌≡◌, ◌++◌, map}
-use Rattle.shared_client.proofs.reads.all_shown.Given as goal
+use Rattle.cache_answers.proofs.reads.all_shown.Given as goal
 
 -- the objects so far, and then what is left, are the rows
 abbrev pub invariant-loop-row : goal.invariant-loop-row

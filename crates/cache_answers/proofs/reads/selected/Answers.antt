@@ -1,6 +1,6 @@
 use Rattle.std.proofs.Common.{◌≡◌, ◌∷◌, ◌∙◌, sym}
-use Rattle.shared_client.proofs.ReadLemmas.{selected_push, selected_skip}
-use Rattle.shared_client.proofs.reads.selected.Goals as goal
+use Rattle.cache_answers.proofs.ReadLemmas.{selected_push, selected_skip}
+use Rattle.cache_answers.proofs.reads.selected.Goals as goal
 
 pub loop-shown-preserved-in_ok-push : goal.loop-shown-preserved-in_ok-push
 loop-shown-preserved-in_ok-push c =

@@ -1,14 +1,15 @@
 //! What reads answer, from the objects of a resource at a revision.
 
-ghost use Rattle.std.specs.Prelude.{◌≡◌, [], IfOk, map};
+ghost use Rattle.std.specs.Prelude.{◌≡◌, IfOk, map};
 ghost use Rattle.kube_meta.specs.Rows.{AreRising, behind};
 ghost use Rattle.select_all.specs.Listings.{listing};
+ghost use Rattle.select_all.specs.Selecting.{selects};
 ghost use Rattle.client_api.specs.Lists.{page_at};
-ghost use Rattle.local_client.specs.Reads.{revision_alone};
+ghost use Rattle.cache_answers.specs.Reads.{IsFound, revision_alone};
 
-use client_api::{Begun, Listed, page};
+use client_api::{Got, ListNo, Listed, page};
 use encode_once::Shown;
-use kube_meta::{Memory, Row};
+use kube_meta::{Key, Memory, Row};
 use list_rules::ListAsk;
 use obj_tree::{Rows, Snapshot, Tree};
 use select_all::{Meaning, Selection};
@@ -25,6 +26,19 @@ pub fn revision_alone(meaning: Meaning) -> Option<u64>
     }
 }
 
+/// The object at a key, from the objects of its resource at a revision.
+pub fn found(state: &Snapshot, key: &Key, at: u64) -> Result<Got, ListNo>
+    ensures { IsFound state.now key.now at result }
+{
+    match state.get(key) {
+        Some(shown) => Ok(Got {
+            row: Arc::try_clone(shown)?,
+            at,
+        }),
+        None => Err(ListNo::Absent { at }),
+    }
+}
+
 /// The page of the ask, from the objects of its resource at a revision.
 #[tactic(auto, using(crate::proofs::ReadLemmas::listing_behind))]
 pub fn listed(alloc: Global, ask: &ListAsk, rev: u64, state: &Snapshot) -> Result<Listed, Memory>
@@ -34,40 +48,28 @@ pub fn listed(alloc: Global, ask: &ListAsk, rev: u64, state: &Snapshot) -> Resul
     page(alloc, ask, rev, rows)
 }
 
-/// A start with the selected objects of a state.
-pub fn opened(
+// The selected ones of the objects, shared.
+pub(crate) fn selected(
     alloc: Global,
     selection: &Selection,
-    at: u64,
-    state: &Snapshot,
-) -> Result<Begun, Memory>
-    ensures { IfOk result (λ begun. begun ≡ record { at = at; rows = listing selection.now state.now }) }
-{
-    let initial = selected(alloc, selection, state.range(None))?;
-    Ok(Begun { at, initial })
-}
-
-/// A start with no initial objects.
-pub fn bare(alloc: Global, at: u64) -> Begun
-    ensures { result ≡ record { at = at; rows = [] } }
-{
-    Begun {
-        at,
-        initial: Vec::new(alloc),
-    }
-}
-
-// The selected ones of the objects, shared.
-fn selected(alloc: Global, selection: &Selection, rows: Rows<'_>) -> Result<Vec<Arc<Shown>>, Memory>
+    rows: Rows<'_>,
+) -> Result<Vec<Arc<Shown>>, Memory>
     ensures { IfOk result (λ kept. map (λ shown. shown.value) kept.items ≡ listing selection.now rows.entry) }
 {
     let mut kept = Vec::new(alloc);
     for shown in rows {
-        if selection.selects(&shown.row().obj) {
+        if is_selected(selection, shown) {
             kept.push(Arc::try_clone(shown)?)?;
         }
     }
     Ok(kept)
+}
+
+// Whether the selection has the object.
+fn is_selected(selection: &Selection, shown: &Arc<Shown>) -> bool
+    ensures { result ≡ selects selection.now shown.now.value.obj }
+{
+    selection.selects(&shown.row().obj)
 }
 
 /// The objects of rows in the order of their keys.
