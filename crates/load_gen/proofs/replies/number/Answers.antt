@@ -1,0 +1,16 @@
+use Rattle.std.proofs.Common.{◌≡◌, Ok, decimal, sym, ap, subst, ◌∙◌}
+use Rattle.std.specs.Prelude.{IsUtf8}
+use Rattle.std.specs.Result.{result_ok}
+use Rattle.std.proofs.lemmas.Fmt.{parse-decimal, IsAscii-decimal}
+use Rattle.std.proofs.lemmas.Str.{IsUtf8-from_ascii}
+use Rattle.load_gen.proofs.replies.number.Goals as goal
+
+pub returns-in-Ok : goal.returns-in-Ok
+returns-in-Ok c = λ n small e.
+    let same : c.in-Ok.text.now ≡ decimal n = c.in-Ok.ensures.cases.0 ∙ e in
+    let r : c.parse.result ≡ Ok n = parse-decimal 64 n c.in-Ok.text.now c.parse.result small small same c.parse.ensures.value.0 in
+    c.ok.ensures.value ∙ ap result_ok r
+
+pub returns-in-Err : goal.returns-in-Err
+returns-in-Err c = λ n small e.
+    absurd (c.in-Err.ensures.cases.0 (subst IsUtf8 (sym e) (IsUtf8-from_ascii (decimal n) (IsAscii-decimal n small))))

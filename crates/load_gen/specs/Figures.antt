@@ -1,0 +1,9 @@
+-- The five lines of a load.
+use Rattle.std.specs.Prelude.{ℕ, List, [], ◌∷◌, codes, decimal}
+use Rattle.std.specs.List.{concat}
+use Rattle.load_gen.specs.declared.figures.Figures.{Figures}
+
+unfoldable pub lines_of : Figures → List ℕ
+lines_of f =
+    concat (codes "requests " ∷ decimal f.requests ∷ codes "\nok " ∷ decimal f.ok ∷ codes "\nrefused " ∷ decimal f.refused
+    ∷ codes "\nrevision " ∷ decimal f.revision ∷ codes "\nitems " ∷ decimal f.items ∷ codes "\n" ∷ [])

@@ -1,0 +1,31 @@
+-- The head of a reply, in the grammar of responses (RFC 9112, section 4).
+use Rattle.std.specs.Prelude.{ℕ, List, [], ◌∷◌, length, Bool, true, false, Some, codes, decimal}
+use Rattle.http_send.specs.Replies.{phrase}
+use Rattle.httparse.specs.Grammar.{crlf, Field, ResponseHead}
+
+-- a field with a blank before its value
+abbrev pub field : List ℕ → List ℕ → Field
+field name value = record { name = name; raw = 32 ∷ value; end = crlf }
+
+-- the fields that not every reply has
+abbrev pub further : Bool → Bool → List Field
+further true true = field (codes "Retry-After") (codes "1") ∷ field (codes "Connection") (codes "close") ∷ []
+further true false = field (codes "Retry-After") (codes "1") ∷ []
+further false true = field (codes "Connection") (codes "close") ∷ []
+further false false = []
+
+-- a head with these digits of its code, this reason, and these digits of its body's length
+abbrev pub head_with : List ℕ → List ℕ → List ℕ → Bool → Bool → ResponseHead
+head_with code reason size retry close = record {
+  blank = [];
+  minor = 1;
+  digits = code;
+  reason = Some reason;
+  line_end = crlf;
+  fields = field (codes "Content-Type") (codes "application/json") ∷ field (codes "Content-Length") size ∷ further retry close;
+  last = crlf;
+}
+
+-- that of a reply with this code and this body
+abbrev pub head_of : ℕ → Bool → Bool → List ℕ → ResponseHead
+head_of code retry close body = head_with (decimal code) (phrase code) (decimal (length body)) retry close

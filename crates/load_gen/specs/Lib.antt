@@ -1,0 +1,8 @@
+pub mod Draws
+pub mod Requests
+pub mod Heads
+pub mod Replies
+pub mod Figures
+pub mod NewLogs
+pub mod Loads
+pub mod Tallies

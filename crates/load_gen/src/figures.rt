@@ -1,0 +1,63 @@
+//! What a load comes to, and how it is told.
+
+ghost use Rattle.std.specs.Prelude.{◌≡◌, OnOk, OnErr};
+ghost use Rattle.edge_io.specs.Counts.{Rose};
+ghost use Rattle.edge_io.specs.Told.{appended, AppendedSome};
+ghost use Rattle.load_gen.specs.Figures.{lines_of};
+
+use edge_io::{Failed, Sink};
+use itoa::Buffer;
+
+/// The number of requests that are drawn, how many replies before the last have a code below 400 and how many another,
+/// and the revision and the number of objects of the list at the end.
+#[derive(Clone, Copy, Debug, PartialEq, Eq)]
+pub struct Figures {
+    pub requests: u64,
+    pub ok: u64,
+    pub refused: u64,
+    pub revision: u64,
+    pub items: u64,
+}
+
+impl Figures {
+    /// Writes them, one a line, and sends them on.
+    #[tactic(auto, unfolding(crate::specs::Figures::lines_of))]
+    pub(crate) fn write<K: Sink>(&self, sink: &mut K) -> Result<(), Failed>
+        ensures sent { OnOk result (K.written sink.new ≡ appended (K.written sink.old) (lines_of self.now)) }
+        ensures settled { OnOk result (K.settled sink.new) }
+        ensures broken { OnErr result (AppendedSome (K.written sink.old) (K.written sink.new) (lines_of self.now)) }
+        ensures counted { OnErr result (Rose (K.faults sink.old) (K.faults sink.new)) }
+    {
+        self.put(sink)?;
+        sink.flush()
+    }
+
+    // Writes them.
+    #[tactic(auto, unfolding(crate::specs::Figures::lines_of))]
+    fn put<K: Sink>(&self, sink: &mut K) -> Result<(), Failed>
+        ensures sent { OnOk result (K.written sink.new ≡ appended (K.written sink.old) (lines_of self.now)) }
+        ensures broken { OnErr result (AppendedSome (K.written sink.old) (K.written sink.new) (lines_of self.now)) }
+        ensures quiet { OnOk result (K.faults sink.new ≡ K.faults sink.old) }
+        ensures counted { OnErr result (Rose (K.faults sink.old) (K.faults sink.new)) }
+    {
+        let mut requests = Buffer::new();
+        let mut ok = Buffer::new();
+        let mut refused = Buffer::new();
+        let mut revision = Buffer::new();
+        let mut items = Buffer::new();
+        let pieces: [&[u8]; 11] = [
+            b"requests ",
+            requests.format(self.requests).as_bytes(),
+            b"\nok ",
+            ok.format(self.ok).as_bytes(),
+            b"\nrefused ",
+            refused.format(self.refused).as_bytes(),
+            b"\nrevision ",
+            revision.format(self.revision).as_bytes(),
+            b"\nitems ",
+            items.format(self.items).as_bytes(),
+            b"\n",
+        ];
+        sink.write_pieces(&pieces)
+    }
+}
