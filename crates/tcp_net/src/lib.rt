@@ -1,0 +1,11 @@
+//! TCP on this machine's loopback address, as a net that says where it listens, and whose connections notice that their
+//! peers have left.
+#![tactic(auto)]
+
+mod clock;
+mod net;
+mod port;
+
+pub use clock::PeerClock;
+pub use net::LoopbackNet;
+pub use port::LoopbackPort;

@@ -1,0 +1,85 @@
+//! A net that says where it listens.
+
+ghost use Rattle.std.specs.Prelude.{◌≡◌, ◌+◌};
+
+use crate::port::LoopbackPort;
+use edge_io::{Failed, Net, ReadEnd, TcpNet, WriteEnd};
+use std::alloc::Global;
+use std::io::Eprint;
+use std::net::{TcpListener, TcpStream};
+
+/// TCP on this machine's loopback address, which says on standard error at which port it listens, or that it can't.
+/// Nobody is asked who they are, so no other machine is let in.
+#[derive(Drop)]
+pub struct LoopbackNet<R> {
+    dialled: TcpNet<R>,
+    rt: R,
+    alloc: Global,
+    faults: u64,
+    served: u64,
+}
+
+impl<R: Copy> LoopbackNet<R> {
+    /// The net of the runtime `rt`.
+    pub fn new(alloc: Global, rt: R) -> LoopbackNet<R>
+        ensures fresh { result.dialled.faults + result.faults ≡ 0 }
+    {
+        LoopbackNet {
+            dialled: TcpNet::new(alloc, rt),
+            rt,
+            alloc,
+            faults: 0,
+            served: 0,
+        }
+    }
+}
+
+impl<R> Net for LoopbackNet<R>
+where
+    R: std::net::Net<Listener = TcpListener, Stream = TcpStream>
+        + std::time::Clock
+        + Eprint
+        + Copy
+        + Send,
+{
+    type L = LoopbackPort<R>;
+
+    ghost faults = { λ net. ⟦<TcpNet<R> as Net>⟧.faults net.dialled + net.faults };
+
+    ghost served = { λ net. net.served };
+
+    ghost peer = { λ net. ⟦<TcpNet<R> as Net>⟧.peer net.dialled };
+
+    // A line that can't be written is left out.
+    fn listen(&mut self, port: u16) -> Result<LoopbackPort<R>, Failed> {
+        match LoopbackPort::bind(self.alloc, self.rt, port) {
+            Ok(listener) => {
+                let number = listener.number().unwrap_or(port);
+                let _ = eprintln!(self.rt; "watchcache: listening on http://127.0.0.1:{number}");
+                Ok(listener)
+            }
+            Err(_) => {
+                self.faults += 1;
+                let _ = eprintln!(self.rt;
+                    "watchcache: can't listen on 127.0.0.1:{port}; is the port in use?"
+                );
+                Err(Failed)
+            }
+        }
+    }
+
+    fn shut(&mut self, listener: LoopbackPort<R>) {
+        self.served = listener.given();
+        if listener.faults() > 0 {
+            self.faults += 1;
+        }
+    }
+
+    fn dial(&mut self, port: u16) -> Result<(ReadEnd<TcpStream>, WriteEnd<TcpStream>), Failed> {
+        self.dialled.dial(port)
+    }
+
+    fn hang_up(&mut self, source: ReadEnd<TcpStream>, sink: WriteEnd<TcpStream>) {
+        self.dialled.hang_up(source, sink);
+    }
+}
