@@ -1,5 +1,5 @@
-//! A bell that a write rings, and clocks whose rest ends as it rings. It makes a quiet watch hear of a write at once;
-//! no contract speaks of it.
+//! A bell that a write rings, and clocks whose rest ends as it rings. It makes a quiet watch hear of a write at once,
+//! and a busy one of several writes in one turn; no contract speaks of it.
 
 ghost use Rattle.std.specs.Prelude.{◌≡◌};
 
@@ -12,10 +12,17 @@ use std::time::Duration;
 /// How many milliseconds a clock rests where the bell isn't rung.
 const REST_MS: u64 = 20;
 
+/// How many milliseconds a clock rests while writes come fast, whatever rings: they are then told together.
+const GATHER_MS: u64 = 1;
+
+/// Writes come fast where one came since the last rest, and that began less than so many milliseconds ago.
+const BUSY_MS: u64 = 2;
+
 /// Counts the writes of a server's clients, and wakes the clocks that rest.
 #[derive(Drop)]
 pub struct Bell {
     rings: AtomicU64,
+    silence: AtomicU64,
 }
 
 impl Bell {
@@ -23,6 +30,7 @@ impl Bell {
     pub fn new() -> Bell {
         Bell {
             rings: AtomicU64::new(0),
+            silence: AtomicU64::new(0),
         }
     }
 
@@ -42,14 +50,29 @@ impl Bell {
         self.rings
             .park_timeout(rt, count, Duration::from_millis(REST_MS));
     }
+
+    // Waits for a millisecond, at what nobody rings.
+    fn gather<R: Wait>(&self, rt: &R) {
+        self.silence
+            .park_timeout(rt, 0, Duration::from_millis(GATHER_MS));
+    }
 }
 
-/// A connection's clock whose rest ends at the first ring since it was read.
+/// A connection's clock whose rest ends at the first ring since it was read, or after a millisecond where writes come
+/// fast.
 #[derive(Drop)]
 pub struct RungClock<'a, T, R: Wait> {
     clock: T,
     bell: &'a Bell,
     rt: &'a R,
+    read: Moment,
+    rested: Moment,
+}
+
+// What a clock showed, and how often the bell had been rung then.
+#[derive(Clone, Copy, Drop)]
+struct Moment {
+    ms: u64,
     count: u32,
 }
 
@@ -58,13 +81,23 @@ impl<'a, T: Clock, R: Wait> RungClock<'a, T, R> {
     pub fn new(clock: T, bell: &'a Bell, rt: &'a R) -> RungClock<'a, T, R>
         ensures { result.clock ≡ clock }
     {
-        let count = bell.count();
+        let begun = Moment {
+            ms: 0,
+            count: bell.count(),
+        };
         RungClock {
             clock,
             bell,
             rt,
-            count,
+            read: begun,
+            rested: begun,
         }
+    }
+
+    // Whether the bell was rung since the last rest, which began just now.
+    fn is_busy(&self) -> bool {
+        let ms = self.read.ms.saturating_sub(self.rested.ms);
+        self.read.count != self.rested.count && ms < BUSY_MS
     }
 }
 
@@ -75,11 +108,22 @@ impl<'a, T: Clock, R: Wait> Clock for RungClock<'a, T, R> {
 
     // The rings are counted first, so that one that comes behind them ends the next rest.
     fn now(&mut self) -> Reading {
-        self.count = self.bell.count();
-        self.clock.now()
+        let count = self.bell.count();
+        let reading = self.clock.now();
+        self.read = Moment {
+            ms: reading.ms,
+            count,
+        };
+        reading
     }
 
     fn rest(&mut self) {
-        self.bell.wait(self.rt, self.count);
+        let is_busy = self.is_busy();
+        self.rested = self.read;
+        if is_busy {
+            self.bell.gather(self.rt);
+        } else {
+            self.bell.wait(self.rt, self.read.count);
+        }
     }
 }
