@@ -3,19 +3,24 @@ use Rattle.std.specs.Prelude.{◌≡◌, ℕ, ◌<◌, ◌≤◌, ◌⊎◌, Lis
 use Rattle.command_line.specs.Words.{Reads}
 use Rattle.command_line.specs.declared.asked.Asked.{Asked}
 use Rattle.command_line.specs.declared.asked.Asked.TheVariants.{Help, Version, Session, Serve, Load}
+use Rattle.command_line.specs.declared.asked.LoadOptions.{LoadOptions}
 use Rattle.command_line.specs.declared.asked.ServeOptions.{ServeOptions}
 use Rattle.command_line.specs.declared.asked.WordsNo.{WordsNo}
 use Rattle.command_line.specs.declared.asked.WordsNo.TheVariants.{Bad, Memory}
+use Rattle.edge_io.specs.Counts.{Rose}
 use Rattle.edge_io.specs.Told.{prepended, appended, AppendedSome, Noted}
 use Rattle.edge_io.specs.declared.clock.Reading.{Reading}
+use Rattle.load_gen.specs.Figures.{lines_of}
+use Rattle.load_gen.specs.Loads.{IsLoad}
+use Rattle.load_gen.specs.NewLogs.{new_pass, terms}
+use Rattle.load_gen.specs.declared.figures.Figures.{Figures}
 use Rattle.net_front.specs.Ends.{limit_of}
-use Rattle.rev_front.specs.Passes.{Pass, empty_log, pass_from}
+use Rattle.rev_front.specs.Passes.{Pass}
 use Rattle.rev_log.specs.Changes.{RevisionData}
 use Rattle.sess_serve.specs.Ends.{UnlessBroken}
 use Rattle.sess_serve.specs.Session.{IsSession}
 use Rattle.sess_serve.specs.Status.{status_of}
 use Rattle.sess_serve.specs.declared.ends.SessionEnd.{SessionEnd}
-use Rattle.sess_turns.specs.Terms.{Terms}
 use Rattle.up_api.specs.declared.settings.Settings.{Settings}
 use Rattle.watchcache.specs.Texts.{help, version, bad_line, sessions}
 
@@ -30,6 +35,16 @@ pub record Sent : Type 1 where
   pub settled_new : Type 0
   pub write_fault : Type 0
 
+-- of a sink, by what it tells before and after
+abbrev pub sent_through : {K : Type 0} → (K → Option (List ℕ)) → (K → Type 0) → (K → ℕ) → K → K → Sent
+sent_through written settled faults old new = record {
+  written_old = written old;
+  written_new = written new;
+  settled_old = settled old;
+  settled_new = settled new;
+  write_fault = Rose (faults old) (faults new);
+}
+
 -- what is left to be read, and the readings of the clock, where they are told; whether the source's count of faults rose;
 -- and what went through the sink
 pub record Ends : Type 1 where
@@ -39,6 +54,17 @@ pub record Ends : Type 1 where
   pub readings_new : Option (List Reading)
   pub read_fault : Type 0
   pub sent : Sent
+
+-- of a source and a clock, by what they tell before and after
+abbrev pub ends_of : {S T : Type 0} → (S → Option (List ℕ)) → (S → ℕ) → S → S → (T → Option (List Reading)) → T → T → Sent → Ends
+ends_of left faults source_old source_new readings clock_old clock_new sent = record {
+  left_old = left source_old;
+  left_new = left source_new;
+  readings_old = readings clock_old;
+  readings_new = readings clock_new;
+  read_fault = Rose (faults source_old) (faults source_new);
+  sent = sent;
+}
 
 -- some listener that gave so many connections is over, so that no more will come
 abbrev pub IsOver : {L : Type 0} → (L → ℕ) → (L → Type 0) → ℕ → Type 0
@@ -53,9 +79,23 @@ pub record NetUse : Type 1 where
   pub served_new : ℕ
   pub over : Type 0
 
+-- of a net, by what it and its listeners tell before and after
+abbrev pub use_of : {N L : Type 0} → (N → ℕ) → (N → ℕ) → (L → ℕ) → (L → Type 0) → N → N → NetUse
+use_of faults served given over old new = record {
+  faults_old = faults old;
+  faults_new = faults new;
+  served_old = served old;
+  served_new = served new;
+  over = IsOver given over (served new);
+}
+
+-- nothing was read
+abbrev pub IsUnread : Ends → Type 0
+IsUnread ends = ends.left_new ≡ ends.left_old
+
 -- nothing was read, and no time
 abbrev pub IsIdle : Ends → Type 0
-IsIdle ends = (ends.left_new ≡ ends.left_old) × (ends.readings_new ≡ ends.readings_old)
+IsIdle ends = IsUnread ends × (ends.readings_new ≡ ends.readings_old)
 
 -- the text was written and sent on
 abbrev pub IsSentOn : List ℕ → Sent → Type 0
@@ -69,20 +109,15 @@ IsBrokenOff text sent = AppendedSome sent.written_old sent.written_new text × s
 abbrev pub IsTold : List ℕ → ℕ → Sent → ℕ → Type 0
 IsTold text done sent status = ((status ≡ done) × IsSentOn text sent) ⊎ ((status ≡ 4) × IsBrokenOff text sent)
 
+-- nothing was written, and this is the status
+abbrev pub IsSilent : ℕ → Sent → ℕ → Type 0
+IsSilent wanted sent status = (sent.written_new ≡ sent.written_old) × (status ≡ wanted)
+
 -- there was no memory: nothing was read or written, and the status is 8
 abbrev pub IsUnserved : Ends → ℕ → Type 0
-IsUnserved ends status = IsIdle ends × (ends.sent.written_new ≡ ends.sent.written_old) × (status ≡ 8)
+IsUnserved ends status = IsIdle ends × IsSilent 8 ends.sent status
 
 -- ---- one session
-
--- what a client of a new log knows that has this seat: the log begins at revision 1 and is empty
-abbrev pub new_pass : ℕ → Pass RevisionData
-new_pass seat = pass_from (empty_log 1) seat
-
--- a log with no base rows, which is no mirror's and which nobody else holds; watches that are served from so many changes
--- back as the settings say, and the states of so many revisions
-abbrev pub terms : Settings → Terms
-terms settings = record { base = []; mirror = false; window = settings.window; alone = Some settings.history; settings = settings }
 
 -- one session in these settings, of a client that holds a new log alone; nothing is held back where it wasn't broken off
 pub record IsSessionRun (settings : Settings) (ends : Ends) (status : ℕ) : Type 0 where
@@ -105,12 +140,19 @@ pub record IsSessionRun (settings : Settings) (ends : Ends) (status : ℕ) : Typ
 abbrev pub RunsSession : Settings → Ends → ℕ → Type 0
 RunsSession settings ends status = IsSessionRun settings ends status ⊎ IsUnserved ends status
 
--- ---- a server
+-- ---- a load
 
--- nothing was read or written, and this is the status
-abbrev pub IsSilent : Ends → ℕ → ℕ → Type 0
-IsSilent ends wanted status =
-    (ends.left_new ≡ ends.left_old) × (ends.sent.written_new ≡ ends.sent.written_old) × (status ≡ wanted)
+-- the figures of a session of these requests were told
+pub record IsLoadTold (options : LoadOptions) (sent : Sent) (status : ℕ) : Type 0 where
+  pub figures : Figures
+  pub is_load : IsLoad options.from options.requests figures
+  pub told : IsTold (lines_of figures) 0 sent status
+
+-- a load: its figures were told, or there was no memory for it
+abbrev pub TellsLoad : LoadOptions → Sent → ℕ → Type 0
+TellsLoad options sent status = IsLoadTold options sent status ⊎ IsSilent 8 sent status
+
+-- ---- a server
 
 -- the net's count of faults rose
 abbrev pub HasFailed : NetUse → Type 0
@@ -123,16 +165,15 @@ TellsSessions net sent status =
     ⊎ (HasFailed net × (status ≡ 9) × (IsSentOn (sessions net.served_new) sent ⊎ IsBrokenOff (sessions net.served_new) sent))
 
 -- a server ended: no more connections will come, the net failed, or as many were accepted as were asked for
-pub record IsServed (options : ServeOptions) (ends : Ends) (net : NetUse) (status : ℕ) : Type 0 where
+pub record IsServed (options : ServeOptions) (net : NetUse) (sent : Sent) (status : ℕ) : Type 0 where
   pub ended : net.over ⊎ HasFailed net ⊎ (limit_of options.connections ≤ net.served_new)
-  pub unread : ends.left_new ≡ ends.left_old
-  pub told : TellsSessions net ends.sent status
+  pub told : TellsSessions net sent status
 
 -- a server: it ended; or it had no port, for the net failed; or no memory
-abbrev pub RunsServer : ServeOptions → Ends → NetUse → ℕ → Type 0
-RunsServer options ends net status =
-    IsServed options ends net status
-    ⊎ ((HasFailed net × IsSilent ends 9 status) ⊎ ((net.faults_new ≡ net.faults_old) × IsSilent ends 8 status))
+abbrev pub RunsServer : ServeOptions → NetUse → Sent → ℕ → Type 0
+RunsServer options net sent status =
+    IsServed options net sent status
+    ⊎ ((HasFailed net × IsSilent 9 sent status) ⊎ ((net.faults_new ≡ net.faults_old) × IsSilent 8 sent status))
 
 -- ---- the program
 
@@ -140,14 +181,13 @@ RunsServer options ends net status =
 abbrev pub IsUnused : NetUse → Type 0
 IsUnused net = (net.faults_new ≡ net.faults_old) × (net.served_new ≡ net.served_old)
 
--- what is done for what the words ask for, or where they ask for nothing; a load is read, but isn't served, and so is a bad
--- line too
+-- what is done for what the words ask for, or where they ask for nothing
 abbrev pub Does : Result Asked WordsNo → Ends → NetUse → ℕ → Type 0
 Does (Ok Help) ends net status = IsUnused net × IsIdle ends × IsTold help 0 ends.sent status
 Does (Ok Version) ends net status = IsUnused net × IsIdle ends × IsTold version 0 ends.sent status
 Does (Ok (Session settings)) ends net status = IsUnused net × RunsSession settings ends status
-Does (Ok (Serve options)) ends net status = RunsServer options ends net status
-Does (Ok (Load options)) ends net status = IsUnused net × IsIdle ends × IsTold bad_line 2 ends.sent status
+Does (Ok (Serve options)) ends net status = IsUnread ends × RunsServer options net ends.sent status
+Does (Ok (Load options)) ends net status = IsUnused net × IsIdle ends × TellsLoad options ends.sent status
 Does (Err Bad) ends net status = IsUnused net × IsIdle ends × IsTold bad_line 2 ends.sent status
 Does (Err Memory) ends net status = IsUnused net × IsUnserved ends status
 

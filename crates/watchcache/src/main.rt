@@ -1,24 +1,23 @@
 //! The watch cache of a Kubernetes API server.
 //!
 //! `watchcache session` reads the requests of one connection on standard input, and writes the replies to standard
-//! output. `watchcache serve` does so for the connections to a port. `watchcache --help` says which options they have.
+//! output. `watchcache serve` does so for the connections to a port, and `watchcache load` with requests that it draws.
+//! `watchcache --help` says which options they have.
 #![tactic(auto)]
 
-mod announced;
 mod commands;
+mod loads;
 mod server;
 mod session;
 mod statuses;
 mod texts;
 
 ghost use Rattle.std.specs.Prelude.{◌≡◌, ◌<◌, ◌^◌, map, string_bytes};
-ghost use Rattle.edge_io.specs.Counts.{Rose};
-ghost use Rattle.watchcache.specs.Run.{IsOver, IsRun};
+ghost use Rattle.watchcache.specs.Run.{IsRun, ends_of, sent_through, use_of};
 
-use announced::AnnouncedNet;
 use command_line::read_words;
 use commands::perform;
-use edge_io::{Clock, Net, ReadEnd, Sink, Source, StepClock, SystemClock, TcpNet, WriteEnd};
+use edge_io::{Clock, Net, ReadEnd, Sink, Source, StepClock, SystemClock, WriteEnd};
 use statuses::OUT_OF_MEMORY;
 use std::alloc::{AllocError, Global};
 use std::env::{self, Env};
@@ -26,15 +25,17 @@ use std::io::ErrorKind;
 use std::process::ExitCode;
 use std::sync::Wait;
 use std::thread::Threads;
+use tcp_net::LoopbackNet;
 
 /// Does all that the program does. `words` are those of the command line behind the program's name. Answers the exit
 /// status.
 ///
 /// `session` with its options is one session over `source` and `sink`, with a client that answers from caches of a
 /// log of its own, whose first revision is 1. `serve` serves each connection to a port by such a session, over one
-/// log, and tells on `sink` how many there were; the status is 9 where `net` failed. `--help` and `--version`, at any
-/// place, are told on `sink`: status 0. All else is a bad command line: status 2, `load` too, which is read but not
-/// served. The status is 4 where `sink` failed, and 8 where memory ran out.
+/// log, and tells on `sink` how many there were; the status is 9 where `net` failed. `load` serves a session of drawn
+/// requests in memory, and tells on `sink` what came of it. `--help` and `--version`, at any place, are told on
+/// `sink`: status 0. All else is a bad command line: status 2. The status is 4 where `sink` failed, and 8 where
+/// memory ran out.
 pub fn run<R, S, K, T, N>(
     rt: R,
     alloc: Global,
@@ -51,26 +52,10 @@ where
     T: Clock + Send,
     N: Net,
     requires { N.faults net.old < 2 ^ 62 }
-    ensures { IsRun (map string_bytes words.now) (record {
-      left_old = S.left source.old;
-      left_new = S.left source.new;
-      readings_old = T.readings clock.old;
-      readings_new = T.readings clock.new;
-      read_fault = Rose (S.faults source.old) (S.faults source.new);
-      sent = record {
-        written_old = K.written sink.old;
-        written_new = K.written sink.new;
-        settled_old = K.settled sink.old;
-        settled_new = K.settled sink.new;
-        write_fault = Rose (K.faults sink.old) (K.faults sink.new);
-      };
-    }) (record {
-      faults_old = N.faults net.old;
-      faults_new = N.faults net.new;
-      served_old = N.served net.old;
-      served_new = N.served net.new;
-      over = IsOver N.L.given N.L.over (N.served net.new);
-    }) result }
+    ensures { IsRun (map string_bytes words.now)
+        (ends_of S.left S.faults source.old source.new T.readings clock.old clock.new
+        (sent_through K.written K.settled K.faults sink.old sink.new))
+        (use_of N.faults N.served N.L.given N.L.over net.old net.new) result }
 {
     let asked = read_words(alloc, words);
     perform(rt, alloc, asked, source, sink, clock, net)
@@ -84,7 +69,7 @@ fn main(rt: HostRuntime) -> ExitCode {
     };
     let mut source = ReadEnd::new(rt.reader());
     let mut sink = WriteEnd::new(alloc, rt.stdout());
-    let mut net = AnnouncedNet::new(TcpNet::new(alloc, rt), rt);
+    let mut net = LoopbackNet::new(alloc, rt);
     let status = if is_server(&words) {
         let mut clock = SystemClock::new(rt);
         run(

@@ -2,14 +2,13 @@
 
 ghost use Rattle.std.specs.Prelude.{◌≡◌, ◌<◌, ◌≤◌, ◌^◌, ◌↔◌, [], false, IsTrue, IfOk};
 ghost use Rattle.command_line.specs.Words.{AreServed};
-ghost use Rattle.edge_io.specs.Counts.{Rose};
 ghost use Rattle.up_api.specs.Settings.{AreInRange};
-ghost use Rattle.watchcache.specs.Run.{IsOver, IsTold, RunsServer, TellsSessions};
+ghost use Rattle.watchcache.specs.Run.{IsTold, RunsServer, TellsSessions, sent_through, use_of};
 ghost use Rattle.watchcache.specs.Texts.{sessions};
 
 use crate::statuses::{DONE, NET_FAULT, OUT_OF_MEMORY, WRITE_FAULT};
 use command_line::ServeOptions;
-use edge_io::{Clock, Listener, Net, Sink, Source};
+use edge_io::{Clock, Listener, Net, Sink};
 use itoa::Buffer;
 use kube_meta::Memory;
 use net_front::{Served, serve_all};
@@ -27,59 +26,36 @@ use up_store::{Store, StoreDoor};
 const FIRST: u64 = 1;
 
 /// Serves the connections to a port, over caches of one new log, and tells how many there were. Answers the status.
-pub fn serve<R, S, K, T, N>(
+pub fn serve<R, K, T, N>(
     rt: R,
     alloc: Global,
     options: ServeOptions,
-    source: &mut S,
     sink: &mut K,
     clock: &mut T,
     net: &mut N,
 ) -> u8
 where
     R: Threads + Wait + Copy + Send + Sync,
-    S: Source,
     K: Sink,
     T: Clock + Send,
     N: Net,
     requires range { AreServed options }
     requires few_faults { N.faults net.old < 2 ^ 62 }
-    ensures { RunsServer options (record {
-      left_old = S.left source.old;
-      left_new = S.left source.new;
-      readings_old = T.readings clock.old;
-      readings_new = T.readings clock.new;
-      read_fault = Rose (S.faults source.old) (S.faults source.new);
-      sent = record {
-        written_old = K.written sink.old;
-        written_new = K.written sink.new;
-        settled_old = K.settled sink.old;
-        settled_new = K.settled sink.new;
-        write_fault = Rose (K.faults sink.old) (K.faults sink.new);
-      };
-    }) (record {
-      faults_old = N.faults net.old;
-      faults_new = N.faults net.new;
-      served_old = N.served net.old;
-      served_new = N.served net.new;
-      over = IsOver N.L.given N.L.over (N.served net.new);
-    }) result }
+    ensures { RunsServer options (use_of N.faults N.served N.L.given N.L.over net.old net.new)
+        (sent_through K.written K.settled K.faults sink.old sink.new) result }
 {
     match blank(alloc, FIRST) {
-        Ok(made) => serve_log::<Brand, R, S, K, T, N>(
-            rt, alloc, made, options, source, sink, clock, net,
-        ),
+        Ok(made) => serve_log::<Brand, R, K, T, N>(rt, alloc, made, options, sink, clock, net),
         Err(_) => OUT_OF_MEMORY,
     }
 }
 
 // The same, over the log whose table was just made.
-fn serve_log<L, R, S, K, T, N>(
+fn serve_log<L, R, K, T, N>(
     rt: R,
     alloc: Global,
     made: Blank<Revision>,
     options: ServeOptions,
-    source: &mut S,
     sink: &mut K,
     clock: &mut T,
     net: &mut N,
@@ -87,7 +63,6 @@ fn serve_log<L, R, S, K, T, N>(
 where
     L: LogFacts + Send + Sync,
     R: Threads + Wait + Copy + Send + Sync,
-    S: Source,
     K: Sink,
     T: Clock + Send,
     N: Net,
@@ -97,30 +72,15 @@ where
     requires window { L.window ≡ options.settings.window }
     requires range { AreServed options }
     requires few_faults { N.faults net.old < 2 ^ 62 }
-    ensures { RunsServer options (record {
-      left_old = S.left source.old;
-      left_new = S.left source.new;
-      readings_old = T.readings clock.old;
-      readings_new = T.readings clock.new;
-      read_fault = Rose (S.faults source.old) (S.faults source.new);
-      sent = record {
-        written_old = K.written sink.old;
-        written_new = K.written sink.new;
-        settled_old = K.settled sink.old;
-        settled_new = K.settled sink.new;
-        write_fault = Rose (K.faults sink.old) (K.faults sink.new);
-      };
-    }) (record {
-      faults_old = N.faults net.old;
-      faults_new = N.faults net.new;
-      served_old = N.served net.old;
-      served_new = N.served net.new;
-      over = IsOver N.L.given N.L.over (N.served net.new);
-    }) result }
+    ensures { RunsServer options (use_of N.faults N.served N.L.given N.L.over net.old net.new)
+        (sent_through K.written K.settled K.faults sink.old sink.new) result }
 {
-    let _ = source;
     match cacher_of::<L, R>(rt, alloc, made, &options.settings) {
-        Ok(cacher) => serve_port(rt, alloc, &cacher, options, source, sink, clock, net),
+        Ok(cacher) => {
+            let status = serve_port(rt, alloc, &cacher, options, sink, clock, net);
+            drop(cacher);
+            status
+        }
         Err(_) => OUT_OF_MEMORY,
     }
 }
@@ -146,12 +106,11 @@ where
 }
 
 // Listens, serves and tells how many sessions there were.
-fn serve_port<L, R, S, K, T, N>(
+fn serve_port<L, R, K, T, N>(
     rt: R,
     alloc: Global,
     cacher: &Cacher<L, R>,
     options: ServeOptions,
-    source: &mut S,
     sink: &mut K,
     clock: &mut T,
     net: &mut N,
@@ -159,34 +118,14 @@ fn serve_port<L, R, S, K, T, N>(
 where
     L: LogFacts + Send + Sync,
     R: Threads + Wait + Copy + Send + Sync,
-    S: Source,
     K: Sink,
     T: Clock + Send,
     N: Net,
     requires range { AreServed options }
     requires few_faults { N.faults net.old < 2 ^ 62 }
-    ensures { RunsServer options (record {
-      left_old = S.left source.old;
-      left_new = S.left source.new;
-      readings_old = T.readings clock.old;
-      readings_new = T.readings clock.new;
-      read_fault = Rose (S.faults source.old) (S.faults source.new);
-      sent = record {
-        written_old = K.written sink.old;
-        written_new = K.written sink.new;
-        settled_old = K.settled sink.old;
-        settled_new = K.settled sink.new;
-        write_fault = Rose (K.faults sink.old) (K.faults sink.new);
-      };
-    }) (record {
-      faults_old = N.faults net.old;
-      faults_new = N.faults net.new;
-      served_old = N.served net.old;
-      served_new = N.served net.new;
-      over = IsOver N.L.given N.L.over (N.served net.new);
-    }) result }
+    ensures { RunsServer options (use_of N.faults N.served N.L.given N.L.over net.old net.new)
+        (sent_through K.written K.settled K.faults sink.old sink.new) result }
 {
-    let _ = source;
     let Ok(listener) = net.listen(options.port) else {
         return NET_FAULT;
     };
@@ -213,19 +152,8 @@ fn finish<K: Sink, N: Net>(served: Served<N::L>, sink: &mut K, net: &mut N) -> u
     requires few_faults { N.faults net.old < 2 ^ 62 }
     ensures served { N.served net.new ≡ N.L.given served.listener }
     ensures failed { 0 < N.L.faults served.listener → N.faults net.old < N.faults net.new }
-    ensures told { TellsSessions (record {
-      faults_old = N.faults net.old;
-      faults_new = N.faults net.new;
-      served_old = N.served net.old;
-      served_new = N.served net.new;
-      over = IsOver N.L.given N.L.over (N.served net.new);
-    }) (record {
-      written_old = K.written sink.old;
-      written_new = K.written sink.new;
-      settled_old = K.settled sink.old;
-      settled_new = K.settled sink.new;
-      write_fault = Rose (K.faults sink.old) (K.faults sink.new);
-    }) result }
+    ensures told { TellsSessions (use_of N.faults N.served N.L.given N.L.over net.old net.new)
+        (sent_through K.written K.settled K.faults sink.old sink.new) result }
 {
     let (accepted, faulted) = (served.accepted, served.faulted);
     net.shut(served.listener);
@@ -235,13 +163,7 @@ fn finish<K: Sink, N: Net>(served: Served<N::L>, sink: &mut K, net: &mut N) -> u
 
 // Tells how many sessions a server served.
 fn write_sessions<K: Sink>(accepted: u64, sink: &mut K) -> u8
-    ensures { IsTold (sessions accepted) 0 (record {
-      written_old = K.written sink.old;
-      written_new = K.written sink.new;
-      settled_old = K.settled sink.old;
-      settled_new = K.settled sink.new;
-      write_fault = Rose (K.faults sink.old) (K.faults sink.new);
-    }) result }
+    ensures { IsTold (sessions accepted) 0 (sent_through K.written K.settled K.faults sink.old sink.new) result }
 {
     let mut digits = Buffer::new();
     let pieces: [&[u8]; 3] = [b"sessions ", digits.format(accepted).as_bytes(), b"\n"];

@@ -1,9 +1,8 @@
 //! One session.
 
 ghost use Rattle.std.specs.Prelude.{◌≡◌, [], false};
-ghost use Rattle.edge_io.specs.Counts.{Rose};
 ghost use Rattle.up_api.specs.Settings.{AreInRange};
-ghost use Rattle.watchcache.specs.Run.{RunsSession};
+ghost use Rattle.watchcache.specs.Run.{RunsSession, ends_of, sent_through};
 
 use crate::statuses::OUT_OF_MEMORY;
 use edge_io::{Clock, Sink, Source};
@@ -27,20 +26,9 @@ pub fn run_session<S: Source, K: Sink, T: Clock>(
     clock: &mut T,
 ) -> u8
     requires settings { AreInRange settings.now }
-    ensures run { RunsSession settings.now (record {
-      left_old = S.left source.old;
-      left_new = S.left source.new;
-      readings_old = T.readings clock.old;
-      readings_new = T.readings clock.new;
-      read_fault = Rose (S.faults source.old) (S.faults source.new);
-      sent = record {
-        written_old = K.written sink.old;
-        written_new = K.written sink.new;
-        settled_old = K.settled sink.old;
-        settled_new = K.settled sink.new;
-        write_fault = Rose (K.faults sink.old) (K.faults sink.new);
-      };
-    }) result }
+    ensures run { RunsSession settings.now
+        (ends_of S.left S.faults source.old source.new T.readings clock.old clock.new
+        (sent_through K.written K.settled K.faults sink.old sink.new)) result }
 {
     match blank(alloc, FIRST) {
         Ok(made) => serve_new::<Brand, S, K, T>(alloc, made, settings, source, sink, clock),
@@ -62,24 +50,15 @@ fn serve_new<N: LogFacts, S: Source, K: Sink, T: Clock>(
     requires base { N.base ≡ [] }
     requires own { N.mirror ≡ false }
     requires settings { AreInRange settings.now }
-    ensures run { RunsSession settings.now (record {
-      left_old = S.left source.old;
-      left_new = S.left source.new;
-      readings_old = T.readings clock.old;
-      readings_new = T.readings clock.new;
-      read_fault = Rose (S.faults source.old) (S.faults source.new);
-      sent = record {
-        written_old = K.written sink.old;
-        written_new = K.written sink.new;
-        settled_old = K.settled sink.old;
-        settled_new = K.settled sink.new;
-        write_fault = Rose (K.faults sink.old) (K.faults sink.new);
-      };
-    }) result }
+    ensures run { RunsSession settings.now
+        (ends_of S.left S.faults source.old source.new T.readings clock.old clock.new
+        (sent_through K.written K.settled K.faults sink.old sink.new)) result }
 {
     match LocalClient::<N>::new(alloc, made, settings) {
         Ok(mut client) => {
-            serve_session(alloc, &mut client, source, sink, clock, settings).status()
+            let end = serve_session(alloc, &mut client, source, sink, clock, settings);
+            drop(client);
+            end.status()
         }
         Err(_) => OUT_OF_MEMORY,
     }

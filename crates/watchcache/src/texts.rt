@@ -1,7 +1,6 @@
 //! The texts that the program writes for its words, and writing them.
 
-ghost use Rattle.edge_io.specs.Counts.{Rose};
-ghost use Rattle.watchcache.specs.Run.{IsTold};
+ghost use Rattle.watchcache.specs.Run.{IsTold, sent_through};
 ghost use Rattle.watchcache.specs.Texts.{help, version, bad_line};
 
 use crate::statuses::{BAD_WORDS, DONE, WRITE_FAULT};
@@ -14,6 +13,7 @@ watchcache: the watch cache of a Kubernetes API server
 usage:
   watchcache session [OPTION]..   serve one connection: requests on standard input, replies on standard output
   watchcache serve [OPTION]..     serve connections to a port of 127.0.0.1, until it is told to end
+  watchcache load [OPTION]..      serve a session of drawn requests in memory, and write five lines of what came of it
   watchcache --help               write this text
   watchcache --version            write the version
 
@@ -32,8 +32,12 @@ and of serve:
   --workers N       connections that are served side by side: 1 to 64, default 4
   --connections N   connections that are accepted before it ends: 0 to 4611686018427387904, default 0, which is all
 
+those of load:
+  --from N          what the requests are drawn from: 0 to 4611686018427387904, default 1
+  --requests N      requests before the last list: 0 to 100000, default 1000
+
 exit status:
-  0   all input was answered, a request asked for the end, or a watch ended; a text was written
+  0   all input was answered, a request asked for the end, or a watch ended; a load or a text was written
   2   the command line is bad
   3   reading failed
   4   writing failed
@@ -50,52 +54,28 @@ const BAD_LINE: &[u8] = b"watchcache: bad command line\n";
 
 /// Writes how the program is used.
 pub fn write_help<K: Sink>(sink: &mut K) -> u8
-    ensures { IsTold help 0 (record {
-      written_old = K.written sink.old;
-      written_new = K.written sink.new;
-      settled_old = K.settled sink.old;
-      settled_new = K.settled sink.new;
-      write_fault = Rose (K.faults sink.old) (K.faults sink.new);
-    }) result }
+    ensures { IsTold help 0 (sent_through K.written K.settled K.faults sink.old sink.new) result }
 {
     write(sink, HELP, DONE)
 }
 
 /// Writes the version.
 pub fn write_version<K: Sink>(sink: &mut K) -> u8
-    ensures { IsTold version 0 (record {
-      written_old = K.written sink.old;
-      written_new = K.written sink.new;
-      settled_old = K.settled sink.old;
-      settled_new = K.settled sink.new;
-      write_fault = Rose (K.faults sink.old) (K.faults sink.new);
-    }) result }
+    ensures { IsTold version 0 (sent_through K.written K.settled K.faults sink.old sink.new) result }
 {
     write(sink, VERSION, DONE)
 }
 
 /// Says that the command line is bad.
 pub fn write_bad_line<K: Sink>(sink: &mut K) -> u8
-    ensures { IsTold bad_line 2 (record {
-      written_old = K.written sink.old;
-      written_new = K.written sink.new;
-      settled_old = K.settled sink.old;
-      settled_new = K.settled sink.new;
-      write_fault = Rose (K.faults sink.old) (K.faults sink.new);
-    }) result }
+    ensures { IsTold bad_line 2 (sent_through K.written K.settled K.faults sink.old sink.new) result }
 {
     write(sink, BAD_LINE, BAD_WORDS)
 }
 
 // Writes a text and sends it on. Answers `done`, or the status of a failed write.
 fn write<K: Sink>(sink: &mut K, text: &[u8], done: u8) -> u8
-    ensures { IsTold text.now done (record {
-      written_old = K.written sink.old;
-      written_new = K.written sink.new;
-      settled_old = K.settled sink.old;
-      settled_new = K.settled sink.new;
-      write_fault = Rose (K.faults sink.old) (K.faults sink.new);
-    }) result }
+    ensures { IsTold text.now done (sent_through K.written K.settled K.faults sink.old sink.new) result }
 {
     if sink.write_all(text).is_err() {
         return WRITE_FAULT;

@@ -1,4 +1,4 @@
-use Rattle.std.proofs.Common.{◌≡◌, ◌<◌, arith, inl, refl}
+use Rattle.std.proofs.Common.{◌≡◌, ◌<◌, arith, inl}
 use Rattle.watchcache.proofs.ServerLemmas.{tells_since, why_ended}
 use Rattle.watchcache.proofs.server.serve_port.Goals as goal
 
@@ -10,6 +10,5 @@ returns-in-Ok-serve_all g c =
     inl (record {
       ended = why_ended g.N.L.Listener.given g.N.L.Listener.over g.N.L.Listener.faults c.in-Ok-serve_all.served.listener _ _ _ _
           c.in-Ok-serve_all.ensures.accepted c.finish.ensures.served fails c.in-Ok-serve_all.ensures.ended;
-      unread = refl;
       told = tells_since _ _ _ _ _ _ quiet c.finish.ensures.told;
     })

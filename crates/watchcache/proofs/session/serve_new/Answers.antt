@@ -1,11 +1,11 @@
 use Rattle.std.proofs.Common.{Some, inl, refl, rules}
 use Rattle.local_client.specs.CachedLogs.{window_of}
-use Rattle.watchcache.proofs.RunLemmas.{of_new_log}
+use Rattle.load_gen.proofs.NewLogLemmas.{of_new_log}
 use Rattle.watchcache.proofs.session.serve_new.Goals as goal
 
 pub returns-in-Ok : goal.returns-in-Ok
 returns-in-Ok g c =
-    let s = c.serve_session.ensures.session in
+    let s = c.serve_session-end.ensures.session in
     let client = c.in-Ok.client in
     record {
       run = inl (record {
@@ -13,13 +13,13 @@ returns-in-Ok g c =
         written = s.1;
         readings = s.2;
         seat = client.log.pass.seat;
-        last = c.serve_session.new.client.log.pass;
-        how = c.serve_session.result;
+        last = c.serve_session-end.new.client.log.pass;
+        how = c.serve_session-end.result;
         source = s.3;
         sink = s.4;
         clock = s.5;
-        session = of_new_log _ _ _ (record { watching = client.watch; heard = client.heard; window = window_of client.log; alone = Some client.log.store.history }) client.log c.args.settings.now _ _ _ c.requires.first c.requires.base c.requires.own refl refl c.in-Ok.ensures.log s.6;
-        settled = c.serve_session.ensures.settled;
+        session = of_new_log _ _ _ (record { watching = client.watch; heard = client.heard; window = window_of client.log; sole_history = Some client.log.store.history }) client.log c.args.settings.now _ _ _ c.requires.first c.requires.base c.requires.own refl refl c.in-Ok.ensures.log s.6;
+        settled = c.serve_session-end.ensures.settled;
         status_is = search rules;
       });
     }
