@@ -1,20 +1,39 @@
 //! Whole sessions as data: each file that the command line names has cases, and each case is what a client sends, how
 //! the server is set, and what the client gets back, byte for byte, with the end of the session.
 //!
-//! Each case is served in pieces of 1 and of 65,536 bytes. A case that comes out otherwise is printed with both
-//! texts; the last line counts. How cases are written stands in `data/README.txt`.
+//! Each case is served with each kind of client, in pieces of 1 and of 65,536 bytes. Where something else comes back,
+//! the case, the client and the first place that differs are printed; a line for each kind counts. How cases are
+//! written stands in `data/README.txt`. After them 2,000 sessions that are drawn are served with each kind, and
+//! compared.
 #![tactic(auto)]
 
+mod alike;
+mod answer;
 mod case;
+mod clock;
+mod difference;
+mod drawing;
+mod ends;
+mod faults;
+mod kind;
+mod load;
 mod options;
+mod request;
 mod serving;
+mod sockets;
+mod storm;
+mod trying;
 mod wanted;
 
+use alike::{Amiss, look};
 use case::Case;
-use serving::{Outcome, first_fault_free, in_pieces};
+use kind::Kind;
 use std::alloc::{AllocError, Global};
+use std::env::Env;
 use std::rt::Runtime;
+use std::sync::Wait;
 use std::{env, fs, io};
+use trying::comes_out;
 
 /// How many cases were served, and how many came out otherwise.
 #[derive(Clone, Copy)]
@@ -32,39 +51,57 @@ impl Tally {
     }
 }
 
+/// How many drawn sessions are compared.
+const DRAWN: u64 = 2_000;
+
 fn main(rt: HostRuntime) -> io::Result<()> {
+    for kind in Kind::ALL {
+        run_files(rt, rt.alloc(), kind)?;
+    }
+    compare_drawn(rt, rt.alloc())
+}
+
+/// Runs the cases of all files with clients of one kind.
+fn run_files<R: Runtime + Env + Wait + Copy + Drop>(
+    rt: R,
+    alloc: Global,
+    kind: Kind,
+) -> io::Result<()> {
     let mut tally = Tally {
         cases: 0,
         mismatches: 0,
     };
     for file in env::args(&rt)?.skip(1) {
-        run_file(&rt, rt.alloc(), file.as_str(), &mut tally)?;
+        run_file(rt, alloc, kind, file.as_str(), &mut tally)?;
     }
     println!(rt;
-        "{} sessions, {} come out otherwise",
-        tally.cases, tally.mismatches
+        "{}: {} cases, {} come out otherwise",
+        kind.word(),
+        tally.cases,
+        tally.mismatches
     )
 }
 
 /// Runs the cases of one file.
-fn run_file<R: Runtime + AllocGlobal>(
-    rt: &R,
+fn run_file<R: Runtime + Wait + Copy + Drop>(
+    rt: R,
     alloc: Global,
+    kind: Kind,
     file: &str,
     tally: &mut Tally,
 ) -> io::Result<()> {
-    let text = fs::read_to_string(rt, file)?;
+    let text = fs::read_to_string(&rt, file)?;
     let mut case = None;
     for line in text.as_str().lines() {
         if let Some(name) = line.strip_prefix("case ") {
-            finish(rt, alloc, case, tally)?;
+            finish(rt, alloc, kind, case, tally)?;
             case = Some(Case::new(alloc, name)?);
         } else if !take_line(&mut case, line)? {
             println!(rt; "{file}: no line of a case: {line}")?;
             tally.count(false);
         }
     }
-    finish(rt, alloc, case, tally)
+    finish(rt, alloc, kind, case, tally)
 }
 
 /// Whether a line is one of the case, or says nothing.
@@ -79,63 +116,46 @@ fn take_line(case: &mut Option<Case>, line: &str) -> Result<bool, AllocError> {
 }
 
 /// Serves a case that was read whole, and counts it.
-fn finish<R: Runtime + AllocGlobal>(
-    rt: &R,
+fn finish<R: Runtime + Wait + Copy + Drop>(
+    rt: R,
     alloc: Global,
+    kind: Kind,
     case: Option<Case>,
     tally: &mut Tally,
 ) -> io::Result<()> {
     let Some(case) = case else {
         return Ok(());
     };
-    let met = comes_out(rt, alloc, &case, 1)?
-        && comes_out(rt, alloc, &case, 65_536)?
-        && ends_fail(rt, alloc, &case)?;
-    tally.count(met);
-    Ok(())
+    let Some(answer) = case.answer_of(kind) else {
+        return Ok(());
+    };
+    let report = comes_out(rt, alloc, kind, &case, answer)?;
+    tally.count(report.is_empty());
+    print!(rt; "{}", report.as_str())
 }
 
-/// Whether the case comes out as it is wanted, in pieces of so many bytes; if not, both texts are printed.
-fn comes_out<R: Runtime + AllocGlobal>(
-    rt: &R,
-    alloc: Global,
-    case: &Case,
-    step: usize,
-) -> io::Result<bool> {
-    let outcome = in_pieces(alloc, case, step)?;
-    let end = outcome.end_text(alloc)?;
-    if end.as_str() == case.end.as_str() && outcome.bytes() == case.wanted.as_slice() {
-        return Ok(true);
+/// Serves the drawn sessions with each kind, and compares.
+fn compare_drawn<R: Runtime + Wait + Copy + Drop>(rt: R, alloc: Global) -> io::Result<()> {
+    let mut others = 0u64;
+    for seed in 0..DRAWN {
+        if let Some(amiss) = look(rt, alloc, seed)? {
+            others = others.saturating_add(1);
+            tell(rt, seed, amiss)?;
+        }
     }
-    println!(rt; "{} (in pieces of {step})", case.name.as_str())?;
-    println!(rt;
-        "    wanted: {} {}",
-        case.end.as_str(),
-        text(alloc, case.wanted.as_slice())?.as_str()
-    )?;
-    println!(rt;
-        "    is:     {} {}",
-        end.as_str(),
-        text(alloc, outcome.bytes())?.as_str()
-    )?;
-    Ok(false)
+    println!(rt; "{DRAWN} drawn sessions, {others} come out otherwise")
 }
 
-/// Bytes to be shown.
-fn text(alloc: Global, bytes: &[u8]) -> Result<String, AllocError> {
-    String::from_utf8_lossy(alloc, bytes)
-}
-
-/// Whether the ends that the case names may fail at each of their calls in turn.
-fn ends_fail<R: Runtime + AllocGlobal>(rt: &R, alloc: Global, case: &Case) -> io::Result<bool> {
-    let mut met = true;
-    if case.source_fails && first_fault_free(alloc, case, false)?.is_none() {
-        println!(rt; "{}: a source that fails at a call", case.name.as_str())?;
-        met = false;
+/// Prints what is amiss with a drawn session.
+fn tell<R: Runtime>(rt: R, seed: u64, amiss: Amiss) -> io::Result<()> {
+    match amiss {
+        Amiss::NotMeant => println!(rt; "drawn session {seed}: not as it is meant"),
+        Amiss::Ends(kind) => println!(rt; "drawn session {seed}, {}: another end", kind.word()),
+        Amiss::Differs(kind, at) => {
+            println!(rt;
+                "drawn session {seed}, {}: differs from byte {at} on",
+                kind.word()
+            )
+        }
     }
-    if case.sink_fails && first_fault_free(alloc, case, true)?.is_none() {
-        println!(rt; "{}: a sink that fails at a call", case.name.as_str())?;
-        met = false;
-    }
-    Ok(met)
 }

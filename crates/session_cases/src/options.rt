@@ -1,12 +1,18 @@
 //! How a case's server is set, by the words of the command line.
 
+ghost use Rattle.std.specs.Prelude.{◌≤◌, ◌^◌};
 ghost use Rattle.up_api.specs.Settings.{AreInRange};
 
+use crate::clock::CaseClock;
 use up_api::Settings;
+
+/// The greatest revision.
+const MOST: u64 = 1 << 62;
 
 /// The numbers of the options, as they were given.
 #[derive(Clone, Copy)]
 pub struct Options {
+    first: u64,
     window: u64,
     window_max: u64,
     fresh_ms: u64,
@@ -16,12 +22,14 @@ pub struct Options {
     bookmark_ms: u64,
     timeout_s: u64,
     requests: u64,
+    stop: u64,
 }
 
 impl Options {
     /// Those of a server that isn't told otherwise.
     pub fn usual() -> Options {
         Options {
+            first: 1,
             window: 100,
             window_max: 0,
             fresh_ms: 75_000,
@@ -31,6 +39,7 @@ impl Options {
             bookmark_ms: 60_000,
             timeout_s: 1_800,
             requests: 1_000_000,
+            stop: 0,
         }
     }
 
@@ -48,6 +57,7 @@ impl Options {
             return false;
         };
         match name {
+            "--first" => self.first = number,
             "--window" => self.window = number,
             "--window-max" => self.window_max = number,
             "--fresh-ms" => self.fresh_ms = number,
@@ -57,9 +67,33 @@ impl Options {
             "--bookmark-ms" => self.bookmark_ms = number,
             "--timeout-s" => self.timeout_s = number,
             "--requests" => self.requests = number,
+            "--stop" => self.stop = number,
             _ => return false,
         }
         true
+    }
+
+    /// Those of a server that keeps few changes, whose watches have a bookmark at each turn.
+    pub fn narrow(window: u64) -> Options {
+        Options {
+            window,
+            bookmark_ms: 1_000,
+            batch: 2,
+            ..Options::usual()
+        }
+    }
+
+    /// The clock.
+    pub fn clock(&self) -> CaseClock {
+        CaseClock::new(self.stop)
+    }
+
+    /// The first revision of the log.
+    pub fn first_revision(&self) -> u64
+        ensures low { 1 ≤ result }
+        ensures high { result ≤ 2 ^ 62 }
+    {
+        self.first.clamp(1, MOST)
     }
 
     /// The settings, each held within its range.

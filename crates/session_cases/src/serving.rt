@@ -1,23 +1,39 @@
-//! One case, served from memory to memory.
+//! One session, served from memory to memory.
 
-ghost use Rattle.std.specs.Prelude.{◌<◌};
+ghost use Rattle.std.specs.Prelude.{◌≡◌, ◌≤◌, ◌^◌, [], false, None};
+ghost use Rattle.up_api.specs.Settings.{AreInRange};
 
-use crate::case::Case;
-use edge_io::{MemSink, MemSource, StepClock};
+use crate::clock::CaseClock;
+use crate::kind::Kind;
+use crate::options::Options;
+use client_api::Client;
+use edge_io::{MemSink, MemSource};
+use kube_meta::Memory;
+use local_client::LocalClient;
 use plain_client::PlainClient;
+use rev_front::{Blank, blank};
+use rev_log::Revision;
 use sess_serve::{SessionEnd, serve_session};
-use std::alloc::{AllocError, Global};
+use shared_client::Cacher;
+use std::alloc::Global;
+use std::marker::Brand;
+use std::sync::Wait;
+use up_api::{LogFacts, Settings};
+use up_store::{Store, StoreDoor};
 
-/// What came of a session: its end, and what was written.
-pub struct Outcome {
-    end: SessionEnd,
-    sink: MemSink,
+/// Where a session is read from, where it is written to, and by which clock it goes.
+#[derive(Drop)]
+pub struct Ends {
+    pub source: MemSource,
+    pub sink: MemSink,
+    pub clock: CaseClock,
 }
 
-impl Drop for Outcome {
-    fn drop(self) {
-        let Outcome { end: _, sink: _ } = self;
-    }
+/// What came of a session: its end, and what was written.
+#[derive(Drop)]
+pub struct Outcome {
+    pub end: SessionEnd,
+    sink: MemSink,
 }
 
 impl Outcome {
@@ -25,71 +41,131 @@ impl Outcome {
     pub fn bytes(&self) -> &[u8] {
         self.sink.bytes()
     }
-
-    /// The end, as text.
-    pub fn end_text(&self, alloc: Global) -> Result<String, AllocError> {
-        format!(in alloc; "{:?}", self.end)
-    }
 }
 
-/// Serves a case over these ends.
-fn serve(alloc: Global, case: &Case, mut source: MemSource, mut sink: MemSink) -> Outcome {
-    let settings = case.options.settings();
-    let mut client = PlainClient::new(alloc, 1, settings.history, settings.window as u64);
-    let mut clock = StepClock::new();
-    let end = serve_session(
-        alloc,
-        &mut client,
-        &mut source,
-        &mut sink,
-        &mut clock,
-        &settings,
-    );
-    Outcome { end, sink }
-}
-
-/// Serves a case in pieces of so many bytes.
-pub fn in_pieces(alloc: Global, case: &Case, step: usize) -> Result<Outcome, AllocError> {
-    let input = case.input.as_slice().to_vec(alloc)?;
-    let step = step.max(1);
-    let source = MemSource::new(input, step, Vec::new(alloc));
-    Ok(serve(alloc, case, source, MemSink::new(step, Vec::new(alloc))))
-}
-
-/// Serves a case where one end fails at one call.
-fn failing(alloc: Global, case: &Case, at: u64, at_sink: bool) -> Result<Outcome, AllocError> {
-    let input = case.input.as_slice().to_vec(alloc)?;
-    let (none, one) = (Vec::new(alloc), vec![in alloc; at]?);
-    let (at_source, at_sink) = if at_sink { (none, one) } else { (one, none) };
-    let source = MemSource::new(input, 7, at_source);
-    Ok(serve(alloc, case, source, MemSink::new(7, at_sink)))
-}
-
-/// Whether a session that an end broke off tells so, and has written a beginning of what was wanted.
-fn is_broken_off(case: &Case, outcome: &Outcome, at_sink: bool) -> bool {
-    let end = if at_sink {
-        SessionEnd::WriteFault
-    } else {
-        SessionEnd::ReadFault
-    };
-    outcome.end == end && case.wanted.as_slice().starts_with(outcome.bytes())
-}
-
-/// The most calls of an end.
-const MOST_CALLS: u64 = 100_000;
-
-/// The first call that the end doesn't make, where at each earlier one its fault ends the session as it should.
-pub fn first_fault_free(
+/// Serves a session with a client of this kind, of a new log.
+pub fn serve<R: Wait + Copy + Drop>(
+    rt: R,
     alloc: Global,
-    case: &Case,
-    at_sink: bool,
-) -> Result<Option<u64>, AllocError> {
-    for at in 0..MOST_CALLS {
-        let outcome = failing(alloc, case, at, at_sink)?;
-        if !is_broken_off(case, &outcome, at_sink) {
-            let is_whole = at > 0 && outcome.bytes() == case.wanted.as_slice();
-            return Ok(if is_whole { Some(at) } else { None });
-        }
-    }
-    Ok(None)
+    kind: Kind,
+    options: &Options,
+    mut ends: Ends,
+) -> Result<Outcome, Memory> {
+    let settings = options.settings();
+    let first = options.first_revision();
+    let end = match kind {
+        Kind::Plain => serve_plain(alloc, first, &settings, &mut ends),
+        Kind::Local => serve_local::<Brand>(alloc, blank(alloc, first)?, &settings, &mut ends)?,
+        Kind::Shared => serve_shared::<Brand, R>(
+            rt,
+            alloc,
+            blank(alloc, first)?,
+            &settings,
+            &mut ends,
+        )?,
+    };
+    Ok(Outcome {
+        end,
+        sink: ends.sink,
+    })
+}
+
+// Serves it with a plain client.
+fn serve_plain(alloc: Global, first: u64, settings: &Settings, ends: &mut Ends) -> SessionEnd
+    requires first { first ≤ 2 ^ 62 }
+    requires settings { AreInRange settings.now }
+{
+    let (history, window) = (settings.history, settings.window as u64);
+    let mut client = PlainClient::new(alloc, first, history, window);
+    serve_with(alloc, &mut client, settings, ends)
+}
+
+// Serves it with a local client.
+fn serve_local<N: LogFacts>(
+    alloc: Global,
+    made: Blank<Revision>,
+    settings: &Settings,
+    ends: &mut Ends,
+) -> Result<SessionEnd, Memory>
+    requires name { made ≡ N.log }
+    requires base { N.base ≡ [] }
+    requires own { N.mirror ≡ false }
+    requires settings { AreInRange settings.now }
+{
+    let mut client: LocalClient<N> = LocalClient::new(alloc, made, settings)?;
+    let end = serve_with(alloc, &mut client, settings, ends);
+    drop(client);
+    Ok(end)
+}
+
+// Serves it with a client that shares the caches of a server.
+fn serve_shared<N: LogFacts, R: Wait + Copy + Drop>(
+    rt: R,
+    alloc: Global,
+    made: Blank<Revision>,
+    settings: &Settings,
+    ends: &mut Ends,
+) -> Result<SessionEnd, Memory>
+    requires name { made ≡ N.log }
+    requires base { N.base ≡ [] }
+    requires own { N.mirror ≡ false }
+    requires window { N.window ≡ settings.now.window }
+    requires settings { AreInRange settings.now }
+{
+    let store: Store<N> = Store::new(alloc, made, settings.history)?;
+    let cacher = Cacher::new(rt, alloc, StoreDoor::new(rt, store)?, settings)?;
+    let end = serve_one_of(alloc, &cacher, settings, ends);
+    drop(cacher);
+    end
+}
+
+// Serves it with one client of these caches.
+fn serve_one_of<N: LogFacts, R: Wait + Copy + Drop>(
+    alloc: Global,
+    cacher: &Cacher<N, R>,
+    settings: &Settings,
+    ends: &mut Ends,
+) -> Result<SessionEnd, Memory>
+    requires settings { AreInRange settings.now }
+{
+    let mut client = cacher.client()?;
+    let end = serve_with(alloc, &mut client, settings, ends);
+    drop(client);
+    Ok(end)
+}
+
+// Serves it with this client.
+fn serve_with<C: Client>(
+    alloc: Global,
+    client: &mut C,
+    settings: &Settings,
+    ends: &mut Ends,
+) -> SessionEnd
+    requires idle { (C.facts client.old).watching ≡ None }
+    requires settings { AreInRange settings.now }
+{
+    let Ends {
+        source,
+        sink,
+        clock,
+    } = ends;
+    serve_session(alloc, client, source, sink, clock, settings)
+}
+
+/// Serves a session in pieces of so many bytes.
+pub fn in_pieces<R: Wait + Copy + Drop>(
+    rt: R,
+    alloc: Global,
+    kind: Kind,
+    options: &Options,
+    input: &[u8],
+    step: usize,
+) -> Result<Outcome, Memory> {
+    let step = step.max(1);
+    let ends = Ends {
+        source: MemSource::new(input.to_vec(alloc)?, step, Vec::new(alloc)),
+        sink: MemSink::new(step, Vec::new(alloc)),
+        clock: options.clock(),
+    };
+    serve(rt, alloc, kind, options, ends)
 }

@@ -2,23 +2,30 @@
 
 use std::alloc::{AllocError, Global};
 
+/// The phrases of the status codes.
+const PHRASES: [(&str, &str); 12] = [
+    ("200", "OK"),
+    ("201", "Created"),
+    ("400", "Bad Request"),
+    ("404", "Not Found"),
+    ("405", "Method Not Allowed"),
+    ("409", "Conflict"),
+    ("410", "Gone"),
+    ("411", "Length Required"),
+    ("413", "Payload Too Large"),
+    ("422", "Unprocessable Entity"),
+    ("500", "Internal Server Error"),
+    ("504", "Gateway Timeout"),
+];
+
 /// The phrase of a status code.
 fn phrase(code: &str) -> &'static str {
-    match code {
-        "200" => "OK",
-        "201" => "Created",
-        "400" => "Bad Request",
-        "404" => "Not Found",
-        "405" => "Method Not Allowed",
-        "409" => "Conflict",
-        "410" => "Gone",
-        "411" => "Length Required",
-        "413" => "Payload Too Large",
-        "422" => "Unprocessable Entity",
-        "500" => "Internal Server Error",
-        "504" => "Gateway Timeout",
-        _ => "(no phrase)",
+    for (known, phrase) in PHRASES {
+        if known == code {
+            return phrase;
+        }
     }
+    "(no phrase)"
 }
 
 /// Puts a reply: a code, a blank and its body, which a line feed ends.
@@ -43,6 +50,12 @@ pub fn put_reply(
     }
     text.extend_from_slice(b"\r\n")?;
     text.extend_from_slice(body.as_bytes())?;
+    text.extend_from_slice(b"\n")
+}
+
+/// Puts a text, which a line feed ends.
+pub fn put_text(text: &mut Vec<u8>, line: &str) -> Result<(), AllocError> {
+    text.extend_from_slice(line.as_bytes())?;
     text.extend_from_slice(b"\n")
 }
 
