@@ -1,0 +1,109 @@
+//! Scripts of many clients of one log, which share its caches: each file that the command line names is one script, and
+//! each of its rows is a step and the answer that is wanted.
+//!
+//! Each row whose answer is another one is printed with its file, its line and both answers; the last line counts rows
+//! and mismatches. Which steps there are stands in `data/README.txt`.
+#![tactic(auto)]
+
+ghost use Rattle.std.specs.Prelude.{◌≡◌, [], false};
+ghost use Rattle.up_api.specs.Settings.{AreInRange};
+
+mod asks;
+mod dice;
+mod play;
+mod pods;
+mod rows;
+mod seat;
+mod start;
+mod steps;
+mod storm;
+mod texts;
+mod told;
+
+use kube_meta::Memory;
+use play::{Cast, Stage, play};
+use rev_front::{Blank, blank};
+use rev_log::Revision;
+use rows::{Script, Tally};
+use shared_client::Cacher;
+use start::Start;
+use std::alloc::Global;
+use std::marker::Brand;
+use std::rt::Runtime;
+use std::sync::Wait;
+use std::thread::Threads;
+use std::{env, fs, io};
+use up_api::{LogFacts, Settings};
+use up_store::{Store, StoreDoor};
+
+/// What a script needs of the runtime.
+pub trait Host: Runtime + Wait + Threads + std::time::Clock + Copy + Send + Sync + Drop {}
+
+impl<R: Runtime + Wait + Threads + std::time::Clock + Copy + Send + Sync + Drop> Host for R {}
+
+fn main(rt: HostRuntime) -> io::Result<()> {
+    let mut tally = Tally::new();
+    for file in env::args(&rt)?.skip(1) {
+        run_file(rt, rt.alloc(), file.as_str(), &mut tally)?;
+    }
+    println!(rt; "{} rows, {} mismatches", tally.rows, tally.mismatches)
+}
+
+/// Runs a script on a new log. Its first line says how all is set.
+fn run_file<R: Host>(rt: R, alloc: Global, file: &str, tally: &mut Tally) -> io::Result<()> {
+    let text = fs::read_to_string(&rt, file)?;
+    let (first, rows) = text
+        .as_str()
+        .split_once('\n')
+        .unwrap_or((text.as_str(), ""));
+    let settings = Start::read(first).settings();
+    let made = blank(alloc, 1)?;
+    run_script::<Brand, R>(rt, alloc, made, &settings, Script { file, rows }, tally)
+}
+
+/// Runs the rows of a script, on a store, a second door to it, and caches of it.
+fn run_script<N: LogFacts + Send + Sync, R: Host>(
+    rt: R,
+    alloc: Global,
+    made: Blank<Revision>,
+    settings: &Settings,
+    script: Script<'_>,
+    tally: &mut Tally,
+) -> io::Result<()>
+    requires name { made ≡ N.log }
+    requires base { N.base ≡ [] }
+    requires own { N.mirror ≡ false }
+    requires window { N.window ≡ settings.now.window }
+    requires settings { AreInRange settings.now }
+{
+    let (cacher, door) = open::<N, R>(rt, alloc, made, settings)?;
+    let stage = Stage {
+        rt,
+        alloc,
+        cacher: &cacher,
+        door: &door,
+        noted: door.reads(),
+    };
+    let mut cast = Cast::new(alloc);
+    play(&stage, &mut cast, script, tally)
+}
+
+/// The caches of a new store, and a second door to it.
+fn open<N: LogFacts, R: Host>(
+    rt: R,
+    alloc: Global,
+    made: Blank<Revision>,
+    settings: &Settings,
+) -> Result<(Cacher<N, R>, StoreDoor<N, R>), Memory>
+    requires name { made ≡ N.log }
+    requires base { N.base ≡ [] }
+    requires own { N.mirror ≡ false }
+    requires window { N.window ≡ settings.now.window }
+    requires settings { AreInRange settings.now }
+{
+    let store: Store<N> = Store::new(alloc, made, settings.history)?;
+    let door = StoreDoor::new(rt, store)?;
+    let second = door.again()?;
+    let cacher = Cacher::new(rt, alloc, door, settings)?;
+    Ok((cacher, second))
+}

@@ -1,0 +1,162 @@
+//! A script as it is played: its store and caches, its clients, and its rows.
+
+use crate::Host;
+use crate::rows::{Row, Script, Tally, number};
+use crate::seat::Seat;
+use crate::steps::{answer, halves};
+use crate::storm::{Storm, weather};
+use client_api::Client;
+use kube_meta::Memory;
+use shared_client::{Cacher, SharedClient};
+use std::alloc::Global;
+use std::io;
+use up_api::LogFacts;
+use up_store::StoreDoor;
+
+/// What all clients of a script share: the caches, and a door to the store, whose reads are counted from `noted` on.
+#[derive(Drop)]
+pub struct Stage<'a, N: LogFacts, R: Host> {
+    pub rt: R,
+    pub alloc: Global,
+    pub cacher: &'a Cacher<N, R>,
+    pub door: &'a StoreDoor<N, R>,
+    pub noted: u64,
+}
+
+/// The clients of a script, by the names that its steps give them.
+#[derive(Drop)]
+pub struct Cast<C: Client> {
+    names: Vec<String>,
+    seats: Vec<Seat<C>>,
+}
+
+impl<C: Client> Cast<C> {
+    /// Nobody is named yet.
+    pub fn new(alloc: Global) -> Cast<C> {
+        Cast {
+            names: Vec::new(alloc),
+            seats: Vec::new(alloc),
+        }
+    }
+
+    // The place of a name.
+    fn place(&self, name: &str) -> Option<usize> {
+        self.names.iter().position(|known| known.as_str() == name)
+    }
+}
+
+/// Plays the rows of a script, and counts them.
+pub fn play<'a, N: LogFacts + Send + Sync, R: Host>(
+    stage: &Stage<'a, N, R>,
+    cast: &mut Cast<SharedClient<'a, N, R>>,
+    script: Script<'_>,
+    tally: &mut Tally,
+) -> io::Result<()> {
+    let mut line_number = 1u64;
+    for line in script.rows.lines() {
+        line_number = line_number.saturating_add(1);
+        if let Some(row) = Row::of_line(line) {
+            let met = play_row(stage, cast, row, (script.file, line_number))?;
+            tally.count(met);
+        }
+    }
+    Ok(())
+}
+
+// Whether a row has the answer that it wants, each time; if not, both are printed once.
+fn play_row<'a, N: LogFacts + Send + Sync, R: Host>(
+    stage: &Stage<'a, N, R>,
+    cast: &mut Cast<SharedClient<'a, N, R>>,
+    row: Row<'_>,
+    place: (&str, u64),
+) -> io::Result<bool> {
+    for time in 0..row.times {
+        let step = numbered(stage.alloc, row.step, time.saturating_add(1))?;
+        let answer = answer_to(stage, cast, step.as_str())?;
+        if answer.as_str() != row.wanted {
+            let (name, number) = place;
+            println!(stage.rt; "{name}:{number}: {}", step.as_str())?;
+            println!(stage.rt; "    wanted: {}", row.wanted)?;
+            println!(stage.rt; "    answer: {}", answer.as_str())?;
+            return Ok(false);
+        }
+    }
+    Ok(true)
+}
+
+// The step with the number of the time in place of each `*`.
+fn numbered(alloc: Global, step: &str, time: u64) -> Result<String, Memory> {
+    let time = format!(in alloc; "{time}")?;
+    let mut text = String::new(alloc);
+    let mut is_first = true;
+    for part in step.split('*') {
+        if !is_first {
+            text.push_str(time.as_str())?;
+        }
+        is_first = false;
+        text.push_str(part)?;
+    }
+    Ok(text)
+}
+
+// The answer to a step: of the store and the caches, or of the client that it names.
+fn answer_to<'a, N: LogFacts + Send + Sync, R: Host>(
+    stage: &Stage<'a, N, R>,
+    cast: &mut Cast<SharedClient<'a, N, R>>,
+    step: &str,
+) -> Result<String, Memory> {
+    let (word, rest) = halves(step);
+    match word {
+        "reads" => reads(stage),
+        "pump" => pump(stage),
+        "storm" => storm(stage, rest),
+        _ => {
+            let place = place_of(stage, cast, word)?;
+            match cast.seats.get_mut(place) {
+                Some(seat) => answer(stage.alloc, seat, rest),
+                None => Ok(format!(in stage.alloc; "no such client")?),
+            }
+        }
+    }
+}
+
+// The place of the client with this name. One that isn't there yet is made.
+fn place_of<'a, N: LogFacts, R: Host>(
+    stage: &Stage<'a, N, R>,
+    cast: &mut Cast<SharedClient<'a, N, R>>,
+    name: &str,
+) -> Result<usize, Memory> {
+    if let Some(place) = cast.place(name) {
+        return Ok(place);
+    }
+    let place = cast.names.len();
+    cast.names.push(String::from_str(stage.alloc, name)?)?;
+    cast.seats.push(Seat::new(stage.cacher.client()?))?;
+    Ok(place)
+}
+
+// How often the store's states and histories were read since the caches stand.
+fn reads<N: LogFacts, R: Host>(stage: &Stage<'_, N, R>) -> Result<String, Memory> {
+    let count = stage.door.reads().saturating_sub(stage.noted);
+    Ok(format!(in stage.alloc; "{count}")?)
+}
+
+// Brings each cache to the end of the log.
+fn pump<N: LogFacts, R: Host>(stage: &Stage<'_, N, R>) -> Result<String, Memory> {
+    let mut told = stage.cacher.pass()?;
+    stage.cacher.pump_all(&mut told)?;
+    Ok(format!(in stage.alloc; "ok")?)
+}
+
+// A storm: the seed of its dice, and how many writes each writer asks for.
+fn storm<N: LogFacts + Send + Sync, R: Host>(
+    stage: &Stage<'_, N, R>,
+    words: &str,
+) -> Result<String, Memory> {
+    let (seed, writes) = halves(words);
+    let storm = Storm {
+        seed: number(seed),
+        writes: number(writes),
+    };
+    weather(stage.rt, stage.alloc, stage.cacher, storm)
+}

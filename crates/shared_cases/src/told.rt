@@ -1,0 +1,150 @@
+//! A watcher that keeps the state that its stream tells.
+
+use crate::asks::{list_ask, watch_ask};
+use crate::seat::Seat;
+use client_api::{Client, Line, ListNo, Listed, Took};
+use encode_once::Shown;
+use kube_meta::{Key, Memory};
+use select_all::{Kind, Meaning, Selection};
+use std::alloc::Global;
+use std::collections::BTreeMap;
+use std::sync::Arc;
+use watch_rules::Start;
+
+/// How many lines a turn takes, about.
+const LINES: usize = 10;
+
+/// What a stream told so far: the revision of each selected object, by its key, and the revision up to which all is
+/// told.
+#[derive(Drop)]
+pub struct Told {
+    alloc: Global,
+    selection: Selection,
+    rows: BTreeMap<Key, u64>,
+    at: u64,
+    /// How many things were wrong: a line out of order or of an object that can't be, turns that don't join, a list
+    /// that has other objects.
+    pub wrongs: u64,
+    /// How many lines came.
+    pub lines: u64,
+}
+
+impl Told {
+    /// Nothing is told of the selection yet.
+    pub fn new(alloc: Global, selection: Selection) -> Told {
+        Told {
+            alloc,
+            selection,
+            rows: BTreeMap::new(alloc),
+            at: 0,
+            wrongs: 0,
+            lines: 0,
+        }
+    }
+
+    /// Begins a watch with the state that stands, in place of all that was told.
+    pub fn begin<C: Client>(&mut self, seat: &mut Seat<C>) -> Result<(), Memory> {
+        let start = Start::FromState(Meaning::MostRecent);
+        let ask = watch_ask(self.selection.copy(self.alloc)?, start);
+        let begun = seat.watch(&ask).map_err(|_| Memory)?;
+        self.rows = BTreeMap::new(self.alloc);
+        for shown in &begun.initial {
+            self.put(shown)?;
+        }
+        self.expect(self.at <= begun.at);
+        self.at = begun.at;
+        Ok(())
+    }
+
+    /// Takes in one turn of the watch, which begins anew where it is lost. Answers whether there was nothing to tell.
+    pub fn turn<C: Client>(&mut self, seat: &mut Seat<C>) -> Result<bool, Memory> {
+        match seat.take(LINES)? {
+            Some(Took::Events { from, upto, lines }) => {
+                self.expect(from == self.at);
+                self.take_lines(upto, lines.as_slice())?;
+                Ok(false)
+            }
+            Some(Took::Quiet { upto, .. }) => {
+                self.expect(self.at <= upto);
+                self.at = upto;
+                Ok(true)
+            }
+            Some(Took::Lost { at, floor }) => {
+                self.expect(at == self.at && at < floor);
+                self.begin(seat)?;
+                Ok(false)
+            }
+            None => {
+                self.expect(false);
+                Ok(true)
+            }
+        }
+    }
+
+    // Takes in the lines up to a revision: it isn't below the last one's.
+    fn take_lines(&mut self, upto: u64, lines: &[Line]) -> Result<(), Memory> {
+        for line in lines {
+            self.take_line(line)?;
+        }
+        self.expect(self.at <= upto);
+        self.at = upto;
+        Ok(())
+    }
+
+    // Takes in a line: revisions rise, what is added wasn't there, and what is changed or deleted was.
+    fn take_line(&mut self, line: &Line) -> Result<(), Memory> {
+        let row = line.shown.row();
+        let was_there = self.rows.contains_key(&row.obj.key);
+        let is_added = line.kind == Kind::Added;
+        self.expect(row.rev > self.at && was_there != is_added);
+        self.at = row.rev;
+        self.lines = self.lines.saturating_add(1);
+        if line.kind == Kind::Deleted {
+            self.rows.remove(&row.obj.key);
+            return Ok(());
+        }
+        self.put(&line.shown)
+    }
+
+    fn put(&mut self, shown: &Arc<Shown>) -> Result<(), Memory> {
+        let row = shown.row();
+        self.rows
+            .insert(row.obj.key.clone()?, row.rev)
+            .map_err(|_| Memory)?;
+        Ok(())
+    }
+
+    /// Compares what was told with a list at the revision up to which it was. Answers whether that is still listed.
+    pub fn compare<C: Client>(&mut self, seat: &mut Seat<C>) -> Result<bool, Memory> {
+        let selection = self.selection.copy(self.alloc)?;
+        let ask = list_ask(self.alloc, selection, Meaning::Exact(self.at))?;
+        match seat.list(&ask) {
+            Ok(listed) => {
+                let is_right = self.is_state(&listed);
+                self.expect(is_right);
+                Ok(true)
+            }
+            Err(ListNo::Memory) => Err(Memory),
+            Err(_) => Ok(false),
+        }
+    }
+
+    // Whether a list has just the objects that were told, at the revision up to which they were.
+    fn is_state(&self, listed: &Listed) -> bool {
+        listed.rev == self.at
+            && listed.items.len() == self.rows.len()
+            && listed.items.iter().all(|shown| self.has(shown))
+    }
+
+    fn has(&self, shown: &Arc<Shown>) -> bool {
+        let row = shown.row();
+        self.rows.get(&row.obj.key) == Some(&row.rev)
+    }
+
+    /// Counts what isn't as it should be.
+    pub fn expect(&mut self, is_right: bool) {
+        if !is_right {
+            self.wrongs = self.wrongs.saturating_add(1);
+        }
+    }
+}
