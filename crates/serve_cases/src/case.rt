@@ -3,12 +3,24 @@
 use crate::ends::Sign;
 use std::alloc::{AllocError, Global};
 
-/// A connection: what it waits for, what it sends, when its clock is late, and what is wanted to come back.
+/// More bytes than a connection has.
+const UNCUT: u64 = 1 << 62;
+
+/// A connection: what it waits for, what it sends, when it ends and what cuts it, when its clock is late or asks it to
+/// stop, and what is wanted to come back.
 #[derive(Drop)]
 pub struct Plan {
     pub waits: Vec<Sign>,
     pub bytes: Vec<u8>,
+    pub lasts: Vec<Sign>,
+    /// How many bytes it reads and writes before it is cut.
+    pub reads: u64,
+    pub writes: u64,
+    /// After how many bytes it stops reading what it is written, and until when.
+    pub holds_at: u64,
+    pub holds: Vec<Sign>,
     pub late: Vec<u8>,
+    pub stop: Vec<u8>,
     pub wanted: Vec<u8>,
 }
 
@@ -66,7 +78,13 @@ fn new_plan(alloc: Global) -> Plan {
     Plan {
         waits: Vec::new(alloc),
         bytes: Vec::new(alloc),
+        lasts: Vec::new(alloc),
+        reads: UNCUT,
+        writes: UNCUT,
+        holds_at: UNCUT,
+        holds: Vec::new(alloc),
         late: Vec::new(alloc),
+        stop: Vec::new(alloc),
         wanted: Vec::new(alloc),
     }
 }
@@ -75,9 +93,29 @@ impl Plan {
     fn take_line(&mut self, alloc: Global, word: &str, text: &str) -> Result<bool, AllocError> {
         match word {
             "waits" => self.waits.push(read_sign(alloc, text)?)?,
+            "lasts" => self.lasts.push(read_sign(alloc, text)?)?,
             "late" => self.late.extend_from_slice(text.as_bytes())?,
+            "stop" => self.stop.extend_from_slice(text.as_bytes())?,
             "bytes" => put_plain(&mut self.bytes, text)?,
             "wants" => put_plain(&mut self.wanted, text)?,
+            _ => return self.take_cut(alloc, word, text),
+        }
+        Ok(true)
+    }
+
+    // Takes in a line that says where the connection is cut, or stops reading.
+    fn take_cut(&mut self, alloc: Global, word: &str, text: &str) -> Result<bool, AllocError> {
+        let (number, sign) = text.split_once(' ').unwrap_or((text, ""));
+        let Ok(bytes) = number.parse::<u64>() else {
+            return Ok(false);
+        };
+        match word {
+            "reads" => self.reads = bytes,
+            "writes" => self.writes = bytes,
+            "holds" => {
+                self.holds_at = bytes;
+                self.holds.push(read_sign(alloc, sign)?)?;
+            }
             _ => return Ok(false),
         }
         Ok(true)

@@ -1,7 +1,7 @@
 //! The ends of connections in memory, each of which others may see: a source may wait until another connection was
 //! written some text, and a clock shows a late time once its own was.
 
-ghost use Rattle.std.specs.Prelude.{◌≡◌, None, ⊤};
+ghost use Rattle.std.specs.Prelude.{◌≡◌, ◌≤◌, None, ⊤};
 
 use edge_io::{Clock, Failed, Listener, Reading, Sink, Source};
 use std::alloc::{AllocError, Global};
@@ -64,6 +64,24 @@ impl<R: Wait + Drop> Board<R> {
     }
 }
 
+impl<R: Wait + Drop + std::time::Clock> Board<R> {
+    // Waits for all signs, and answers whether they came in time.
+    fn all_come(&self, signs: &[Sign]) -> bool {
+        signs.iter().all(|sign| self.comes(sign))
+    }
+
+    // Waits for one.
+    fn comes(&self, sign: &Sign) -> bool {
+        for _ in 0..LOOKS {
+            if self.has(sign.number, sign.text.as_slice()) {
+                return true;
+            }
+            thread::sleep(&self.rt, Duration::from_millis(1));
+        }
+        false
+    }
+}
+
 // Whether a text contains another one.
 fn contains(text: &[u8], part: &[u8]) -> bool {
     for at in 0..text.len() {
@@ -91,80 +109,91 @@ impl Sign {
     }
 }
 
-/// Bytes that come once all signs are there. Where one doesn't come in time none do.
-#[derive(Drop)]
-pub struct CaseSource<R: Wait + Copy + Drop> {
-    board: Arc<Board<R>>,
-    signs: Vec<Sign>,
-    bytes: Vec<u8>,
-    at: usize,
+/// Copies of these signs.
+pub fn copies(alloc: Global, signs: &[Sign]) -> Result<Vec<Sign>, AllocError> {
+    let mut all = Vec::new(alloc);
+    for sign in signs {
+        all.push(sign.copy(alloc)?)?;
+    }
+    Ok(all)
 }
 
-impl<R: Wait + Copy + Drop + std::time::Clock> CaseSource<R> {
-    /// The source of these bytes.
-    pub fn new(board: Arc<Board<R>>, signs: Vec<Sign>, bytes: Vec<u8>) -> CaseSource<R> {
-        CaseSource {
-            board,
-            signs,
-            bytes,
-            at: 0,
-        }
-    }
-
-    // Waits for the signs.
-    fn have_come(&self) -> bool {
-        self.signs.iter().all(|sign| self.has_come(sign))
-    }
-
-    // Waits for one.
-    fn has_come(&self, sign: &Sign) -> bool {
-        for _ in 0..LOOKS {
-            if self.board.has(sign.number, sign.text.as_slice()) {
-                return true;
-            }
-            thread::sleep(&self.board.rt, Duration::from_millis(1));
-        }
-        false
-    }
+/// Bytes that come once all signs of `waits` are there, and end once those of `lasts` are. Where one of the first
+/// doesn't come in time no byte does. After so many bytes it fails, if there are more.
+#[derive(Drop)]
+pub struct CaseSource<R: Wait + Copy + Drop> {
+    pub board: Arc<Board<R>>,
+    pub waits: Vec<Sign>,
+    pub lasts: Vec<Sign>,
+    pub bytes: Vec<u8>,
+    pub at: usize,
+    pub breaks: u64,
+    pub faults: u64,
 }
 
 impl<R: Wait + Copy + Drop + std::time::Clock> Source for CaseSource<R> {
     ghost left = { λ _. None };
 
-    ghost faults = { λ _. 0 };
+    ghost faults = { λ source. source.faults };
 
     fn read(&mut self, buf: &mut [u8]) -> Result<usize, Failed> {
-        if self.at == 0 && !self.have_come() {
+        if self.at == 0 && !self.board.all_come(self.waits.as_slice()) {
             self.at = self.bytes.len();
         }
+        if self.at as u64 >= self.breaks {
+            self.faults = self.faults.saturating_add(1);
+            return Err(Failed);
+        }
+        if self.at >= self.bytes.len() {
+            self.board.all_come(self.lasts.as_slice());
+        }
         let left = self.bytes.get(self.at..).unwrap_or(&[]);
-        let n = left.len().min(buf.len());
+        let n = left
+            .len()
+            .min(buf.len())
+            .min(room(self.breaks, self.at as u64));
         buf[..n].copy_from_slice(&left[..n]);
         self.at = self.at.saturating_add(n);
         Ok(n)
     }
 }
 
-/// What a connection is written stands on the board.
-#[derive(Drop)]
-pub struct CaseSink<R: Wait + Drop> {
-    board: Arc<Board<R>>,
-    number: usize,
-    faults: u64,
+// How many bytes lie between two places, as far as a length tells it.
+fn room(end: u64, at: u64) -> usize {
+    end.saturating_sub(at).min(1 << 30) as usize
 }
 
-impl<R: Wait + Drop> CaseSink<R> {
-    /// The sink of a connection.
-    pub fn new(board: Arc<Board<R>>, number: usize) -> CaseSink<R> {
-        CaseSink {
-            board,
-            number,
-            faults: 0,
+/// What a connection is written stands on the board. After so many bytes it fails, and after so many it takes no more
+/// until all signs are there.
+#[derive(Drop)]
+pub struct CaseSink<R: Wait + Drop> {
+    pub board: Arc<Board<R>>,
+    pub number: usize,
+    pub taken: u64,
+    pub breaks: u64,
+    pub holds_at: u64,
+    pub holds: Vec<Sign>,
+    pub faults: u64,
+}
+
+impl<R: Wait + Drop + std::time::Clock> CaseSink<R> {
+    // How many of so many bytes are taken; where a sign doesn't come in time none are.
+    fn taken_of(&self, count: usize) -> usize
+        ensures { result ≤ count }
+    {
+        let count = count.min(room(self.breaks, self.taken));
+        if self.taken < self.holds_at {
+            return count.min(room(self.holds_at, self.taken));
+        }
+        if self.board.all_come(self.holds.as_slice()) {
+            count
+        } else {
+            0
         }
     }
 }
 
-impl<R: Wait + Drop> Sink for CaseSink<R> {
+impl<R: Wait + Drop + std::time::Clock> Sink for CaseSink<R> {
     ghost written = { λ _. None };
 
     ghost faults = { λ sink. sink.faults };
@@ -172,13 +201,14 @@ impl<R: Wait + Drop> Sink for CaseSink<R> {
     ghost settled = { λ _. ⊤ };
 
     fn write(&mut self, bytes: &[u8]) -> Result<usize, Failed> {
-        match self.board.write(self.number, bytes) {
-            Ok(()) => Ok(bytes.len()),
-            Err(failed) => {
-                self.faults = self.faults.saturating_add(1);
-                Err(failed)
-            }
+        let n = self.taken_of(bytes.len());
+        let written = self.board.write(self.number, &bytes[..n]);
+        if n < bytes.len().min(1) || written.is_err() {
+            self.faults = self.faults.saturating_add(1);
+            return Err(Failed);
         }
+        self.taken = self.taken.saturating_add(n as u64);
+        Ok(n)
     }
 
     fn flush(&mut self) -> Result<(), Failed> {
@@ -186,24 +216,33 @@ impl<R: Wait + Drop> Sink for CaseSink<R> {
     }
 }
 
-/// A clock that stands at 0 until its connection was written a text, or was looked at too often; then it is late.
+/// A clock that stands at 0 until its connection was written a text, or was looked at too often; then it is late. Once
+/// another text was written it asks to stop.
 #[derive(Drop)]
 pub struct CaseClock<R: Wait + Drop> {
     board: Arc<Board<R>>,
-    late: Sign,
+    number: usize,
+    late: Vec<u8>,
+    stop: Vec<u8>,
     turns: u64,
     last: u64,
 }
 
 impl<R: Wait + Drop> CaseClock<R> {
-    /// The clock that is late by this sign.
-    pub fn new(board: Arc<Board<R>>, late: Sign) -> CaseClock<R> {
+    /// The clock of a connection, which is late by one text and asks to stop by another; an empty one never comes.
+    pub fn new(board: Arc<Board<R>>, number: usize, late: Vec<u8>, stop: Vec<u8>) -> CaseClock<R> {
         CaseClock {
             board,
+            number,
             late,
+            stop,
             turns: 0,
             last: 0,
         }
+    }
+
+    fn has(&self, text: &Vec<u8>) -> bool {
+        !text.is_empty() && self.board.has(self.number, text.as_slice())
     }
 }
 
@@ -214,12 +253,12 @@ impl<R: Wait + Drop + std::time::Clock> Clock for CaseClock<R> {
 
     fn now(&mut self) -> Reading {
         self.turns = self.turns.saturating_add(1);
-        if self.turns > TURNS || self.board.has(self.late.number, self.late.text.as_slice()) {
+        if self.turns > TURNS || self.has(&self.late) {
             self.last = self.last.max(LATE_MS);
         }
         Reading {
             ms: self.last,
-            stop: false,
+            stop: self.has(&self.stop),
         }
     }
 

@@ -3,7 +3,7 @@
 ghost use Rattle.std.specs.Prelude.{◌≡◌, [], false};
 
 use crate::case::{Case, Plan};
-use crate::ends::{Board, CaseClock, CaseEnds, CaseListener, CaseSink, CaseSource, Sign};
+use crate::ends::{Board, CaseClock, CaseEnds, CaseListener, CaseSink, CaseSource, copies};
 use kube_meta::Memory;
 use net_front::{Served, serve_all};
 use rev_front::{Blank, blank};
@@ -95,29 +95,34 @@ fn ends_of<R: Host>(
     plan: &Plan,
     number: usize,
 ) -> Result<CaseEnds<R>, Memory> {
-    let mut signs = Vec::new(alloc);
-    for sign in &plan.waits {
-        signs.push(sign.copy(alloc)?)?;
-    }
-    let bytes = Vec::from_slice(alloc, plan.bytes.as_slice())?;
-    let late = Sign {
-        number,
-        text: Vec::from_slice(alloc, plan.late.as_slice())?,
+    let source = CaseSource {
+        board: board.clone()?,
+        waits: copies(alloc, plan.waits.as_slice())?,
+        lasts: copies(alloc, plan.lasts.as_slice())?,
+        bytes: Vec::from_slice(alloc, plan.bytes.as_slice())?,
+        at: 0,
+        breaks: plan.reads,
+        faults: 0,
     };
-    Ok((
-        CaseSource::new(board.clone()?, signs, bytes),
-        CaseSink::new(board.clone()?, number),
-        CaseClock::new(board.clone()?, late),
-    ))
+    let sink = CaseSink {
+        board: board.clone()?,
+        number,
+        taken: 0,
+        breaks: plan.writes,
+        holds_at: plan.holds_at,
+        holds: copies(alloc, plan.holds.as_slice())?,
+        faults: 0,
+    };
+    let late = Vec::from_slice(alloc, plan.late.as_slice())?;
+    let stop = Vec::from_slice(alloc, plan.stop.as_slice())?;
+    let clock = CaseClock::new(board.clone()?, number, late, stop);
+    Ok((source, sink, clock))
 }
 
 // The clock by which the pump rests.
 fn pump_clock<R: Host>(alloc: Global, board: &Arc<Board<R>>) -> Result<CaseClock<R>, Memory> {
-    let never = Sign {
-        number: 0,
-        text: Vec::from_slice(alloc, b"never")?,
-    };
-    Ok(CaseClock::new(board.clone()?, never))
+    let board = board.clone()?;
+    Ok(CaseClock::new(board, 0, Vec::new(alloc), Vec::new(alloc)))
 }
 
 // How the server ended: how many connections it accepted, and whether accepting failed.
