@@ -51,12 +51,12 @@ no_name_in_tail x l name i none j lt = none (suc j) (omega arith)
 first_differs : (x : List ℕ × List ℕ) (l : Pairs) (name : List ℕ) (i : ℕ) → NoNameBefore (x ∷ l) name (suc i) → bytes_eq name x.0 ≡ false
 first_differs x l name i none = other_text name x.0 (λ same. none 0 (omega arith) (sym same))
 
-value_absent : (l : Pairs) (name : List ℕ) → NoNameBefore l name (length l) → value_at l name ≡ None
+pub value_absent : (l : Pairs) (name : List ℕ) → NoNameBefore l name (length l) → value_at l name ≡ None
 value_absent [] name none = refl
 value_absent (x ∷ l) name none =
     rw (first_differs x l name (length l) none) (value_absent l name (no_name_in_tail x l name (length l) none))
 
-value_present : (l : Pairs) (name : List ℕ) (i : ℕ) → i < length l → name_at l i ≡ name → NoNameBefore l name i → value_at l name ≡ Some (get_or l i ([], [])).1
+pub value_present : (l : Pairs) (name : List ℕ) (i : ℕ) → i < length l → name_at l i ≡ name → NoNameBefore l name i → value_at l name ≡ Some (get_or l i ([], [])).1
 value_present [] name i inside has none = absurd (omega arith)
 value_present (x ∷ l) name zero inside has none = rw ((bytes_eq-Decides name x.0).1 (sym has)) refl
 value_present (x ∷ l) name (suc i) inside has none =
