@@ -16,9 +16,9 @@ use std::{env, io};
 const HEAD: &str =
     "GET /api/v1/namespaces/default/pods?limit=500&resourceVersion=0 HTTP/1.1\r\nHost: 127.0.0.1:8001\r\nUser-Agent: kubectl/v1.31.0\r\nAccept: application/json\r\nAccept-Encoding: gzip\r\n\r\n";
 
-const HEADS: u32 = 20_000;
+const HEADS: u32 = 2_000;
 
-const RUNS: usize = 9;
+const RUNS: usize = 200;
 
 fn main(rt: HostRuntime) -> io::Result<()> {
     let timed = env::args(&rt)?.count() > 1;

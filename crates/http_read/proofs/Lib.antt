@@ -6,3 +6,5 @@ pub mod BodyLemmas
 pub mod LawLemmas
 pub mod EndingLemmas
 pub mod IdleLemmas
+pub mod PlainLemmas
+pub mod PlaceLemmas

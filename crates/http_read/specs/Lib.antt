@@ -1,5 +1,6 @@
 pub mod Pieces
 pub mod Queries
+pub mod Places
 pub mod Heads
 pub mod Requests
 pub mod Steps

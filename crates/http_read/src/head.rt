@@ -16,6 +16,7 @@ use crate::fields::{asks_websocket, connection_has, value_of};
 use crate::kept::Kept;
 use crate::params::Params;
 use crate::pieces::cut;
+use crate::plain::{read_text, text};
 use crate::refusal::ReqNo;
 use crate::request::{Req, Upgrade};
 use crate::segments::Segments;
@@ -80,13 +81,6 @@ pub(crate) fn read_head<S: Source>(
     }
 }
 
-// A value as text.
-fn text(alloc: Global, value: &[u8]) -> Result<Text, Memory>
-    ensures { IfOk result (λ text. text ≡ utf8_lossy value.now) }
-{
-    Ok(Text::from_string(String::from_utf8_lossy(alloc, value)?))
-}
-
 // The value of the first field of this name, as text.
 fn text_of(
     alloc: Global,
@@ -98,7 +92,7 @@ fn text_of(
     ensures { IfOk result (λ text. text ≡ head.text_of (head.value_of name.now (map (header_bytes bytes.now) fields.now))) }
 {
     match value_of(bytes, fields, name) {
-        Some(value) => Ok(Some(text(alloc, value)?)),
+        Some(value) => Ok(Some(read_text(alloc, value)?)),
         None => Ok(None),
     }
 }

@@ -9,6 +9,8 @@ mod kept;
 mod laws;
 mod params;
 mod pieces;
+mod places;
+mod plain;
 mod reader;
 mod refusal;
 mod request;

@@ -1,37 +1,38 @@
 //! The parameters of a query.
 
-ghost use Rattle.std.specs.Prelude.{◌≡◌, IfOk, codes, length};
+ghost use Rattle.std.specs.Prelude.{◌≡◌, IfOk, codes, length, map, All};
 ghost use Rattle.std.specs.Option.{option_map};
 ghost use Rattle.std.specs.Str.{bytes_eq};
-ghost use Rattle.std.specs.Str.Lossy.{utf8_lossy};
-ghost use Rattle.form_urlencoded.specs.Form as form;
+ghost use Rattle.http_read.specs.Places.{pair_at, IsPlaceIn};
 ghost use Rattle.http_read.specs.Queries.{pair_text, query_pairs, first_value, unless_empty, is_truth};
 
-use form_urlencoded::{decode, raw_pairs};
-use kube_meta::{Memory, Text};
+use crate::places::Place;
+use crate::plain::push_piece;
+use form_urlencoded::raw_pairs;
+use kube_meta::Memory;
 use std::alloc::Global;
 use std::marker::Model;
+
+// As many pairs as most queries have at most.
+const USUAL: usize = 4;
 
 /// The parameters of a query, in order. Contracts see the list of pairs.
 #[derive(Debug, Drop)]
 pub struct Params {
-    pairs: Vec<(Text, Text)>,
+    // the names and the values, decoded, one behind the other
+    text: Vec<u8>,
+    places: Vec<Place>,
 }
 
 impl Model for Params {
-    ghost use Rattle.std.specs.Prelude.{ℕ, List};
+    ghost use Rattle.std.specs.Prelude.{ℕ, List, All, map};
+    ghost use Rattle.http_read.specs.Places.{pair_at, IsPlaceIn};
 
     ghost Value = { List (List ℕ × List ℕ) };
 
-    ghost view = { λ params. params.pairs.items };
-}
+    ghost view = { λ params. map (pair_at params.text.items) params.places.items };
 
-// The text of a name or a value.
-fn decoded(alloc: Global, raw: &[u8]) -> Result<Text, Memory>
-    ensures { IfOk result (λ text. text ≡ utf8_lossy (form.decode raw.now)) }
-{
-    let text = decode(alloc, raw)?.into_owned(alloc)?;
-    Ok(Text::from_string(text))
+    ghost invariant = { λ params. All (IsPlaceIn params.text.items) params.places.items };
 }
 
 impl Params {
@@ -47,24 +48,28 @@ impl Params {
     pub(crate) fn of_bytes(alloc: Global, query: &[u8]) -> Result<Params, Memory>
         ensures { IfOk result (λ params. params ≡ query_pairs query.now) }
     {
-        let mut pairs = Vec::new(alloc);
+        let mut text = Vec::with_capacity(alloc, query.len())?;
+        let mut places = Vec::with_capacity(alloc, USUAL.min(query.len()))?;
         let mut raw = raw_pairs(query);
         while let Some((name, value)) = raw.next() {
-            pairs.push((decoded(alloc, name)?, decoded(alloc, value)?))?;
+            let at = text.len();
+            push_piece(alloc, &mut text, name)?;
+            let middle = text.len();
+            push_piece(alloc, &mut text, value)?;
+            places.push(Place {
+                name: at,
+                value: middle,
+                end: text.len(),
+            })?;
         }
-        Ok(Params { pairs })
+        Ok(Params { text, places })
     }
 
     // The first value of a name.
     fn first(&self, name: &str) -> Option<&str>
         ensures { option_map (λ value. value.now) result ≡ first_value name.now self.now }
     {
-        for (known, value) in &self.pairs {
-            if known.as_str() == name {
-                return Some(value.as_str());
-            }
-        }
-        None
+        value_of(self.text.as_slice(), self.places.as_slice(), name)
     }
 
     /// The first value of a name, and `None` where that is empty.
@@ -87,4 +92,17 @@ impl Params {
             None => None,
         }
     }
+}
+
+// The first value of a name, among the pairs that stand in a text.
+fn value_of<'t>(text: &'t [u8], places: &[Place], name: &str) -> Option<&'t str>
+    requires { All (IsPlaceIn text.now) places.now }
+    ensures { option_map (λ value. value.now) result ≡ first_value name.now (map (pair_at text.now) places.now) }
+{
+    for place in places {
+        if place.name_in(text) == name.as_bytes() {
+            return Some(place.value_in(text));
+        }
+    }
+    None
 }

@@ -6,7 +6,10 @@ ghost use Rattle.httparse.specs.Grammar.{trim_ows, is_ows, skip_ows};
 ghost use Rattle.http_read.specs.Pieces.{last_blanks_off};
 ghost use Rattle.form_urlencoded.specs.Form as form;
 
+use memchr::memchr;
+
 /// The pieces of a text before and after the first separator, if there is one.
+#[inline(always)]
 pub(crate) fn cut(text: &[u8], separator: u8) -> Option<(&[u8], &[u8])>
     ensures before { IfSome result (λ pieces. pieces.0.now ≡ before_first (λ b. b == separator) text.now) }
     ensures after { IfSome result (λ pieces. pieces.1.now ≡ after_first (λ b. b == separator) text.now) }
@@ -16,7 +19,7 @@ pub(crate) fn cut(text: &[u8], separator: u8) -> Option<(&[u8], &[u8])>
     ensures nothing { IfNone result (after_first (λ b. b == separator) text.now ≡ []) }
     ensures alone { IfNone result (form.split separator text.now ≡ text.now ∷ []) }
 {
-    match text.iter().position(|&b| b == separator) {
+    match memchr(separator, text) {
         Some(at) => Some((&text[..at], &text[at + 1..])),
         None => None,
     }

@@ -69,14 +69,19 @@ fn zeros(alloc: Global, n: usize) -> Result<Vec<u8>, Memory>
 pub struct Reader {
     kept: Kept,
     refusal: Option<ReqNo>,
+    // where the fields of the last head were, kept so that they needn't be cleared for each head
+    spans: Vec<HeaderSpan>,
 }
 
 impl Model for Reader {
+    ghost use Rattle.std.specs.Prelude.{◌≡◌, length};
     ghost use Rattle.http_read.specs.Readers.{ReaderState};
 
     ghost Value = { ReaderState };
 
     ghost view = { λ reader. record { kept = reader.kept; refusal = reader.refusal } };
+
+    ghost invariant = { λ reader. length reader.spans.items ≡ 64 };
 }
 
 // Reads the body of a request whose head was found in the bytes that are kept. Memory is asked for before a byte is
@@ -151,7 +156,12 @@ fn request_in(
 }
 
 // Reads the next request, behind the bytes that are kept.
-fn read_next<S: Source>(kept: &mut Kept, source: &mut S) -> Result<Option<Req>, ReqNo>
+fn read_next<S: Source>(
+    kept: &mut Kept,
+    source: &mut S,
+    spans: &mut [HeaderSpan],
+) -> Result<Option<Req>, ReqNo>
+    requires { length spans.old ≡ 64 }
     ensures reads { (taken : List ℕ) × (S.left source.old ≡ prepended taken (S.left source.new))
         × ReadsNext (kept.old ++ taken) result kept.new (S.left source.new) (S.faults source.old) (S.faults source.new)
         × ((IsUnfinished kept.old → ⊥) → taken ≡ []) }
@@ -159,9 +169,8 @@ fn read_next<S: Source>(kept: &mut Kept, source: &mut S) -> Result<Option<Req>, 
     ensures quiet { UnlessFault result (S.faults source.new ≡ S.faults source.old) }
     ensures never_falls { S.faults source.old ≤ S.faults source.new }
 {
-    let mut spans = [EMPTY_HEADER_SPAN; MOST_FIELDS];
-    match read_head(kept, source, &mut spans) {
-        Ok(Some(found)) => read_found(kept, source, &spans, found),
+    match read_head(kept, source, spans) {
+        Ok(Some(found)) => read_found(kept, source, spans, found),
         Ok(None) => Ok(None),
         Err(why) => Err(why),
     }
@@ -183,9 +192,12 @@ impl Reader {
     pub fn new(alloc: Global) -> Result<Reader, Memory>
         ensures { IfOk result (λ reader. reader ≡ record { kept = []; refusal = None }) }
     {
+        let mut spans = Vec::new(alloc);
+        spans.resize(MOST_FIELDS, EMPTY_HEADER_SPAN)?;
         Ok(Reader {
             kept: Kept::new(alloc)?,
             refusal: None,
+            spans,
         })
     }
 
@@ -207,7 +219,7 @@ impl Reader {
         if let Some(why) = self.refusal {
             return Err(why);
         }
-        let answer = read_next(&mut self.kept, source);
+        let answer = read_next(&mut self.kept, source, self.spans.as_mut_slice());
         self.refusal = refusal_of(&answer);
         answer
     }

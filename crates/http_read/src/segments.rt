@@ -2,13 +2,17 @@
 
 ghost use Rattle.std.specs.Prelude.{◌≡◌, IfOk, map};
 ghost use Rattle.form_urlencoded.specs.Form as form;
-ghost use Rattle.http_read.specs.Queries.{segment_text, segments_of, slash};
+ghost use Rattle.http_read.specs.Queries as queries;
+ghost use Rattle.http_read.specs.Queries.{segments_of, slash};
 
 use crate::pieces::cut;
+use crate::plain::segment_text;
 use kube_meta::{Memory, Text};
-use percent_encoding::percent_decode;
 use std::alloc::Global;
 use std::marker::Model;
+
+// As many segments as most paths have at most: a group's, a version's, a namespace's, an object's and those between.
+const USUAL: usize = 8;
 
 /// The segments of a path, decoded, in order. Contracts see their list.
 #[derive(Debug, Drop)]
@@ -22,16 +26,6 @@ impl Model for Segments {
     ghost Value = { List (List ℕ) };
 
     ghost view = { λ s. s.segments.items };
-}
-
-// The text of a segment.
-fn decoded(alloc: Global, raw: &[u8]) -> Result<Text, Memory>
-    ensures { IfOk result (λ text. text ≡ segment_text raw.now) }
-{
-    let text = percent_decode(raw)
-        .decode_utf8_lossy(alloc)?
-        .into_owned(alloc)?;
-    Ok(Text::from_string(text))
 }
 
 impl Segments {
@@ -57,14 +51,14 @@ impl Segments {
 
 // The segments between the slashes of a text.
 fn split(alloc: Global, text: &[u8]) -> Result<Segments, Memory>
-    ensures { IfOk result (λ segments. segments ≡ map segment_text (form.split slash text.now)) }
+    ensures { IfOk result (λ segments. segments ≡ map queries.segment_text (form.split slash text.now)) }
 {
-    let mut segments = Vec::new(alloc);
+    let mut segments = Vec::with_capacity(alloc, USUAL)?;
     let mut rest = text;
     while let Some((segment, others)) = cut(rest, b'/') {
-        segments.push(decoded(alloc, segment)?)?;
+        segments.push(segment_text(alloc, segment)?)?;
         rest = others;
     }
-    segments.push(decoded(alloc, rest)?)?;
+    segments.push(segment_text(alloc, rest)?)?;
     Ok(Segments { segments })
 }

@@ -1,4 +1,4 @@
-use Rattle.std.proofs.Common.{ℕ, ◌≡◌, ◌+◌, ◌<◌, ◌==◌, length, take, drop, sym, ap, ◌∙◌, ◌∷◌, arith, rules, take_all, length-drop}
+use Rattle.std.proofs.Common.{ℕ, Bool, true, false, refl, ◌≡◌, ◌+◌, ◌<◌, ◌==◌, length, take, drop, sym, ap, ◌∙◌, ◌∷◌, arith, take_all, length-drop}
 use Rattle.std.proofs.lemmas.List.Sums.{position_or_len_is}
 use Rattle.std.proofs.lemmas.List.{take_rest, drop_all}
 use Rattle.std.specs.List.{position_or_len}
@@ -6,13 +6,18 @@ use Rattle.form_urlencoded.specs.Form.{split}
 use Rattle.http_read.proofs.PieceLemmas.{splits}
 use Rattle.http_read.proofs.pieces.cut.Goals as goal
 
+fails : (b : Bool) → (b ≡ true → ⊥) → b ≡ false
+fails true wrong = absurd (wrong refl)
+fails false wrong = refl
+
 pub returns-in-Some : goal.returns-in-Some
 returns-in-Some c =
     let text = c.args.text.now in
     let s = c.args.separator in
     let at = c.in-Some.at in
-    let within : at < length text = search rules in
-    let found : position_or_len (λ (b : ℕ). b == s) text ≡ at = position_or_len_is (λ (b : ℕ). b == s) text at 0 (search rules) (search rules) (search rules) in
+    let within : at < length text = c.in-Some.ensures.0.high in
+    let found : position_or_len (λ (b : ℕ). b == s) text ≡ at =
+    position_or_len_is (λ (b : ℕ). b == s) text at 0 (omega (arith, within)) (λ k below. fails _ (c.in-Some.ensures.0.before k (omega arith) below)) (λ h. c.in-Some.ensures.1) in
     record {
       before = ap (λ n. take n text) (sym found);
       after = take_rest text _ ∙ ap (λ n. drop (n + 1) text) (sym found);
@@ -29,7 +34,8 @@ pub returns-in-None : goal.returns-in-None
 returns-in-None c =
     let text = c.args.text.now in
     let s = c.args.separator in
-    let none : position_or_len (λ (b : ℕ). b == s) text ≡ length text = position_or_len_is (λ (b : ℕ). b == s) text (length text) 0 (omega arith) (search rules) (search rules) in
+    let none : position_or_len (λ (b : ℕ). b == s) text ≡ length text = position_or_len_is (λ (b : ℕ). b == s) text (length text) 0 (omega arith)
+    (λ k below. fails _ (c.in-None.ensures k (omega arith) below)) (λ h. absurd (omega (arith, h))) in
     record {
       before = tt;
       after = tt;
