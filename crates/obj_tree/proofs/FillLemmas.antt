@@ -1,5 +1,6 @@
 -- Pages that are filled one after the other.
 use Rattle.std.proofs.Common.{◌≡◌, ◌<◌, ◌≤◌, List, [], ◌∷◌, ◌++◌, length, refl, sym, ap, ◌∙◌, arith}
+use Rattle.std.specs.Prelude.{Result, Ok, Err, IfOk}
 use Rattle.std.proofs.lemmas.List.{append-nil}
 use Rattle.kube_meta.specs.Rows.{RowData}
 use Rattle.obj_tree.specs.Pages.{joined, AreSized, AreFull, AreFilled, ArePagesOf}
@@ -50,3 +51,8 @@ with_last pages last rows filled some few all = record {
   sized = last_sized pages last filled some few;
   full = last_full pages last filled some;
 }
+
+-- what follows from what holds of an answer
+pub ok_follows : {A E : Type 0} (r : Result A E) (P Q : A → Type 0) → ((x : A) → P x → Q x) → IfOk r P → IfOk r Q
+ok_follows (Ok x) P Q follows holds = follows x holds
+ok_follows (Err e) P Q follows holds = tt

@@ -4,3 +4,4 @@ pub mod SearchLemmas
 pub mod EditLemmas
 pub mod MapEdits
 pub mod FillLemmas
+pub mod HeadLemmas

@@ -4,9 +4,10 @@ use Rattle.std.specs.Prelude.{nat_lt, not, true, false, Result, Ok, Err, OnErr}
 use Rattle.std.specs.List.{insert, remove}
 use Rattle.std.proofs.Math.Seq.{drop-cons}
 use Rattle.std.proofs.lemmas.Bool.{cases_Bool, true≢false}
-use Rattle.std.proofs.lemmas.List.{append-nil, take-append-drop, get_or-map}
+use Rattle.std.proofs.lemmas.Bool.Decides.{nat_tests}
+use Rattle.std.proofs.lemmas.List.{append-nil, take-append-drop, get_or-map, length-take, length-drop}
 use Rattle.kube_meta.specs.Rows.{RowData, AreRising}
-use Rattle.obj_tree.specs.Pages.{joined, AreSized, FullWith, AreFull, page_at, replaced, divided}
+use Rattle.obj_tree.specs.Pages.{joined, AreSized, FullWith, AreFull, page_at, replaced, row_put, row_gone, divided}
 use Rattle.obj_tree.proofs.MapLemmas.{Rising, rising, are_rising, rising_parts}
 
 -- ---- edits of a list, seen through a function
@@ -17,10 +18,15 @@ module _ {X Y : Type 0} (f : X → Y) where
   set_cut (y ∷ xs) zero x inside = refl
   set_cut (y ∷ xs) (suc i) x inside = ap (λ rest. f y ∷ rest) (set_cut xs i x (omega arith))
 
-  two_cut : (xs : List X) (i : ℕ) (x y : X) → i < length xs → map f (set (insert xs (suc i) y) i x) ≡ take i (map f xs) ++ (f x ∷ f y ∷ drop (suc i) (map f xs))
-  two_cut [] i x y inside = absurd (omega arith)
-  two_cut (z ∷ xs) zero x y inside = refl
-  two_cut (z ∷ xs) (suc i) x y inside = ap (λ rest. f z ∷ rest) (two_cut xs i x y (omega arith))
+  both_cut : (xs : List X) (i : ℕ) (z x y : X) → i < length xs → map f (set (set (insert xs (suc i) z) i x) (suc i) y) ≡ take i (map f xs) ++ (f x ∷ f y ∷ drop (suc i) (map f xs))
+  both_cut [] i z x y inside = absurd (omega arith)
+  both_cut (w ∷ xs) zero z x y inside = refl
+  both_cut (w ∷ xs) (suc i) z x y inside = ap (λ rest. f w ∷ rest) (both_cut xs i z x y (omega arith))
+
+  back_cut : (xs : List X) (i : ℕ) (z x y : X) → i < length xs → y ≡ get_or (insert xs (suc i) z) i y → f x ≡ f y → map f (remove (set (insert xs (suc i) z) i x) (suc i)) ≡ map f xs
+  back_cut [] i z x y inside is same = absurd (omega arith)
+  back_cut (w ∷ xs) zero z x y inside is same = ap (λ v. v ∷ map f xs) (same ∙ ap f is)
+  back_cut (w ∷ xs) (suc i) z x y inside is same = ap (λ rest. f w ∷ rest) (back_cut xs i z x y (omega arith) is same)
 
   remove_cut : (xs : List X) (i : ℕ) → i < length xs → map f (remove xs i) ≡ take i (map f xs) ++ drop (suc i) (map f xs)
   remove_cut [] i inside = absurd (omega arith)
@@ -48,9 +54,15 @@ module _ {X Y : Type 0} (f : X → Y) where
   set_page xs i x y inside is =
       rw add-one (set_cut xs i x inside ∙ ap (λ v. take i (map f xs) ++ (v ∷ drop (suc i) (map f xs))) is)
 
-  pub set_two : (xs : List X) (i : ℕ) (x z : X) (y w : Y) → i < length xs → f x ≡ y → f z ≡ w → map f (set (insert xs (i + 1) z) i x) ≡ take i (map f xs) ++ ((y ∷ w ∷ []) ++ drop (i + 1) (map f xs))
-  set_two xs i x z y w inside is second =
-      rw add-one (two_cut xs i x z inside ∙ ap (λ v. take i (map f xs) ++ (v ∷ f z ∷ drop (suc i) (map f xs))) is ∙ ap (λ v. take i (map f xs) ++ (y ∷ v ∷ drop (suc i) (map f xs))) second)
+  pub set_both : (xs : List X) (i : ℕ) (z x b : X) (y w : Y) → i < length xs → f x ≡ y → f b ≡ w → map f (set (set (insert xs (i + 1) z) i x) (i + 1) b) ≡ take i (map f xs) ++ ((y ∷ w ∷ []) ++ drop (i + 1) (map f xs))
+  set_both xs i z x b y w inside is second =
+      rw add-one (both_cut xs i z x b inside ∙ ap (λ v. take i (map f xs) ++ (v ∷ f b ∷ drop (suc i) (map f xs))) is ∙ ap (λ v. take i (map f xs) ++ (y ∷ v ∷ drop (suc i) (map f xs))) second)
+
+  -- what was put in, taken out again
+  pub set_back : (xs : List X) (i : ℕ) (z x y : X) → i < length xs → y ≡ get_or (insert xs (i + 1) z) i y → f x ≡ f y → map f (remove (set (insert xs (i + 1) z) i x) (i + 1)) ≡ map f xs
+  set_back xs i z x y inside is same =
+      let on : suc i ≡ i + 1 = omega arith in
+      subst (λ (n : ℕ). map f (remove (set (insert xs n z) i x) n) ≡ map f xs) on (back_cut xs i z x y inside (subst (λ (n : ℕ). y ≡ get_or (insert xs n z) i y) (sym on) is) same)
 
   pub set_joined : (xs : List X) (i : ℕ) (x : X) (y : Y) → i + 1 < length xs → f x ≡ y → map f (set (remove xs (i + 1)) i x) ≡ take i (map f xs) ++ ((y ∷ []) ++ drop (i + 2) (map f xs))
   set_joined xs i x y inside is =
@@ -218,7 +230,37 @@ rising_at pages at is inside =
 pub indexed : {X : Type 0} (f : X → List RowData) (xs : List X) (at : ℕ) (x : X) → at < length xs → x ≡ get_or xs at x → page_at (map f xs) at ≡ f x
 indexed f xs at x inside is = get_or-map f xs at x [] inside ∙ ap f (sym is)
 
-pub map_drop : {X : Type 0} (f : X → List RowData) (xs : List X) (n : ℕ) → map f (drop n xs) ≡ drop n (map f xs)
+pub read_before : {X : Type 0} (f : X → List RowData) (xs : List X) (i : ℕ) (z x : X) → i < length xs → x ≡ get_or (insert xs (i + 1) z) i x → page_at (map f xs) i ≡ f x
+read_before f xs i z x inside is =
+    let on : suc i ≡ i + 1 = omega arith in
+    by xs i inside (subst (λ (n : ℕ). x ≡ get_or (insert xs n z) i x) (sym on) is)
+  where
+    by : (xs : List _) (i : ℕ) → i < length xs → x ≡ get_or (insert xs (suc i) z) i x → page_at (map f xs) i ≡ f x
+    by [] i inside is = absurd (omega arith)
+    by (y ∷ xs) zero inside is = sym (ap f is)
+    by (y ∷ xs) (suc i) inside is = by xs i (omega arith) is
+
+-- a row that was put in, taken out again
+pub taken_out : (rows : List RowData) (at : ℕ) (row : RowData) → at ≤ length rows → row_gone (row_put rows at at row) at ≡ rows
+taken_out rows at row within =
+    let on : suc at ≡ at + 1 = omega arith in
+    subst (λ (n : ℕ). take at (row_put rows at at row) ++ drop n (row_put rows at at row) ≡ rows) on (by rows at within)
+  where
+    by : (rows : List RowData) (at : ℕ) → at ≤ length rows → take at (row_put rows at at row) ++ drop (suc at) (row_put rows at at row) ≡ rows
+    by rows zero within = refl
+    by [] (suc at) within = absurd (omega arith)
+    by (x ∷ rows) (suc at) within = ap (λ (r : List RowData). x ∷ r) (by rows at (omega arith))
+
+-- a page that has no room for a row holds 64, and the row takes no other's place
+pub no_room : (page : List RowData) (from to : ℕ) (row : RowData) → from ≤ to → to ≤ length page → length page ≤ 64 → false ≡ not (nat_lt 64 (length (row_put page from to row))) → (64 ≤ length page) × (from ≡ to)
+no_room page from to row order within small long =
+    let many : 64 < length (row_put page from to row) = grind (arith, nat_tests) in
+    let first = length-take from page in
+    let rest = length-drop to page in
+    let all = length-append (take from page) (row ∷ drop to page) in
+    (omega (arith, many, first, rest, all), omega (arith, many, first, rest, all))
+
+pub map_drop : {X Y : Type 0} (f : X → Y) (xs : List X) (n : ℕ) → map f (drop n xs) ≡ drop n (map f xs)
 map_drop f xs zero = refl
 map_drop f [] (suc n) = refl
 map_drop f (x ∷ xs) (suc n) = map_drop f xs n

@@ -1,4 +1,5 @@
 pub mod Maps
 pub mod Pages
 pub mod Places
+pub mod Heads
 pub mod Laws

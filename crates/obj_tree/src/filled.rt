@@ -1,6 +1,6 @@
 //! Pages that are filled at once.
 
-ghost use Rattle.std.specs.Prelude.{◌≡◌, ◌≤◌, ◌<◌, ◌++◌, ◌∷◌, [], length, IfOk, OnOk};
+ghost use Rattle.std.specs.Prelude.{◌≡◌, ◌≤◌, ◌<◌, ◌++◌, ◌∷◌, [], length, map, IfOk, OnOk};
 ghost use Rattle.obj_tree.specs.Pages.{values_of, joined, AreFilled, ArePagesOf};
 
 use crate::page::Page;
@@ -12,64 +12,87 @@ use std::sync::Arc;
 // The rows of a page that is filled at once: room is left for as many puts as removals.
 const FILL: usize = 48;
 
-/// Pages of 48 rows, and a last one of those that are left.
+/// Pages of 48 rows, and a last one of those that are left. The rows are cut before a page is made of any,
+/// so that the looks at the pages' first keys don't wait for one another.
 pub(crate) fn filled(alloc: Global, rows: Vec<Arc<Shown>>) -> Result<Vec<Arc<Page>>, Memory>
     ensures { IfOk result (λ pages. ArePagesOf (values_of pages.items) (values_of rows.items)) }
 {
-    let mut pages = Vec::new(alloc);
-    let last = fill(alloc, &mut pages, rows)?;
+    let mut parts = Vec::new(alloc);
+    let last = cut(alloc, &mut parts, rows)?;
     if last.len() == 0 {
-        return Ok(pages);
+        return paged(alloc, parts);
     }
-    add(alloc, &mut pages, last)?;
+    add(&mut parts, last)?;
+    paged(alloc, parts)
+}
+
+// A page of each part.
+fn paged(alloc: Global, parts: Vec<Vec<Arc<Shown>>>) -> Result<Vec<Arc<Page>>, Memory>
+    ensures { IfOk result (λ pages. values_of pages.items ≡ map (λ part. values_of part.items) parts.items) }
+{
+    let mut pages = Vec::with_capacity(alloc, parts.len())?;
+    for page in with_heads(alloc, parts)? {
+        pages.push(Arc::new(alloc, page)?)?;
+    }
     Ok(pages)
 }
 
-// Puts the rows into full pages, and answers those of the last one.
-fn fill(
+// The parts with the heads of their first keys. Nothing else is done here, so that many looks are under way at
+// a time.
+fn with_heads(alloc: Global, parts: Vec<Vec<Arc<Shown>>>) -> Result<Vec<Page>, Memory>
+    ensures { IfOk result (λ pages. pages.items ≡ map (λ part. values_of part.items) parts.items) }
+{
+    let mut pages = Vec::with_capacity(alloc, parts.len())?;
+    for part in parts {
+        pages.push(Page::of(part))?;
+    }
+    Ok(pages)
+}
+
+// Cuts the rows into parts as long as full pages, and answers those of the last one.
+fn cut(
     alloc: Global,
-    pages: &mut Vec<Arc<Page>>,
+    parts: &mut Vec<Vec<Arc<Shown>>>,
     rows: Vec<Arc<Shown>>,
 ) -> Result<Vec<Arc<Shown>>, Memory>
-    requires { AreFilled (values_of pages.old.items) }
-    ensures filled { OnOk result (AreFilled (values_of pages.new.items)) }
+    requires { AreFilled (map (λ part. values_of part.items) parts.old.items) }
+    ensures filled { OnOk result (AreFilled (map (λ part. values_of part.items) parts.new.items)) }
     ensures few { IfOk result (λ last. length last.items ≤ 48) }
-    ensures rows { IfOk result (λ last. joined (values_of pages.new.items) ++ values_of last.items ≡ joined (values_of pages.old.items) ++ values_of rows.items) }
+    ensures rows { IfOk result (λ last. joined (map (λ part. values_of part.items) parts.new.items) ++ values_of last.items ≡ joined (map (λ part. values_of part.items) parts.old.items) ++ values_of rows.items) }
 {
     let mut last = Vec::with_capacity(alloc, FILL)?;
     for shown in rows {
-        last = page_with_room(alloc, pages, last)?;
+        last = part_with_room(alloc, parts, last)?;
         last.push(shown)?;
     }
     Ok(last)
 }
 
-// The page to go on with: the last one, or where that is full a new one, and the last one goes behind the
+// The part to go on with: the last one, or where that is full a new one, and the last one goes behind the
 // others.
-fn page_with_room(
+fn part_with_room(
     alloc: Global,
-    pages: &mut Vec<Arc<Page>>,
+    parts: &mut Vec<Vec<Arc<Shown>>>,
     last: Vec<Arc<Shown>>,
 ) -> Result<Vec<Arc<Shown>>, Memory>
-    requires filled { AreFilled (values_of pages.old.items) }
+    requires filled { AreFilled (map (λ part. values_of part.items) parts.old.items) }
     requires few { length last.items ≤ 48 }
-    ensures filled { OnOk result (AreFilled (values_of pages.new.items)) }
+    ensures filled { OnOk result (AreFilled (map (λ part. values_of part.items) parts.new.items)) }
     ensures room { IfOk result (λ next. length next.items < 48) }
-    ensures rows { IfOk result (λ next. joined (values_of pages.new.items) ++ values_of next.items ≡ joined (values_of pages.old.items) ++ values_of last.items) }
+    ensures rows { IfOk result (λ next. joined (map (λ part. values_of part.items) parts.new.items) ++ values_of next.items ≡ joined (map (λ part. values_of part.items) parts.old.items) ++ values_of last.items) }
 {
     if last.len() < FILL {
         return Ok(last);
     }
     let next = Vec::with_capacity(alloc, FILL)?;
-    add(alloc, pages, last)?;
+    add(parts, last)?;
     Ok(next)
 }
 
-// Puts a page of these rows behind the others.
-fn add(alloc: Global, pages: &mut Vec<Arc<Page>>, rows: Vec<Arc<Shown>>) -> Result<(), Memory>
-    ensures { OnOk result (values_of pages.new.items ≡ values_of pages.old.items ++ (values_of rows.items ∷ [])) }
+// Puts a part behind the others.
+fn add(parts: &mut Vec<Vec<Arc<Shown>>>, rows: Vec<Arc<Shown>>) -> Result<(), Memory>
+    ensures { OnOk result (map (λ part. values_of part.items) parts.new.items ≡ map (λ part. values_of part.items) parts.old.items ++ (values_of rows.items ∷ [])) }
 {
-    let page = Arc::new(alloc, Page::of(rows))?;
-    pages.push(page)?;
+    parts.push(rows)?;
     Ok(())
 }

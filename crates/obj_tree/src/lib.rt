@@ -3,6 +3,7 @@
 #![tactic(auto)]
 
 mod filled;
+mod head;
 mod laws;
 mod page;
 mod pages;

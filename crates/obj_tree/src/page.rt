@@ -2,28 +2,36 @@
 
 ghost use Rattle.std.specs.Prelude.{◌≡◌, ◌++◌, ◌∷◌, [], ◌≤◌, ◌<◌, ◌+◌, length, take, drop, IfOk, OnOk, OnErr};
 ghost use Rattle.kube_meta.specs.Rows.{key_of as row_key};
+ghost use Rattle.obj_tree.specs.Heads.{IsHead};
 ghost use Rattle.obj_tree.specs.Pages.{values_of, begins_by, row_put, row_gone};
 
+use crate::head::{Head, Sought, head_of};
 use encode_once::Shown;
 use kube_meta::{Key, Memory};
 use std::alloc::Global;
+use std::cmp::Ordering;
 use std::marker::Model;
 use std::sync::Arc;
 
 /// Some rows that stand next to each other. Seen in contracts as their list.
 #[derive(Drop)]
 pub(crate) struct Page {
+    // The head of the first row's key.
+    head: Head,
     rows: Vec<Arc<Shown>>,
 }
 
 impl Model for Page {
     ghost use Rattle.std.specs.Prelude.{List};
     ghost use Rattle.kube_meta.specs.Rows.{RowData};
+    ghost use Rattle.obj_tree.specs.Heads.{IsHead};
     ghost use Rattle.obj_tree.specs.Pages.{values_of};
 
     ghost Value = { List RowData };
 
     ghost view = { λ p. values_of p.rows.items };
+
+    ghost invariant = { λ p. IsHead p.head (values_of p.rows.items) };
 }
 
 impl Page {
@@ -41,13 +49,14 @@ impl Page {
         self.rows.len()
     }
 
-    // Whether the first row isn't above a key.
-    pub(crate) fn begins_by(&self, key: &Key) -> bool
-        ensures { result ≡ begins_by key.now self.now }
+    // Whether the first row isn't above a key. The row itself is looked at only where the heads are equal.
+    pub(crate) fn begins_by(&self, sought: &Sought<'_>) -> bool
+        ensures { result ≡ begins_by sought.now.key.now self.now }
     {
-        match self.rows.first() {
-            Some(shown) => !key.cmp(key_of(shown)).is_lt(),
-            None => true,
+        match self.head.cmp(&sought.head) {
+            Ordering::Less => true,
+            Ordering::Equal => is_first_by(&self.rows, sought.key),
+            Ordering::Greater => self.rows.as_slice().is_empty(),
         }
     }
 
@@ -57,7 +66,7 @@ impl Page {
     {
         let mut rows = Vec::new(alloc);
         rows.push(shown)?;
-        Ok(Page { rows })
+        Ok(Page::of(rows))
     }
 
     // Puts a row at a place, before those that stand there.
@@ -67,6 +76,9 @@ impl Page {
         ensures err { OnErr result (self.new ≡ self.old) }
     {
         self.rows.insert(place, shown)?;
+        if place == 0 {
+            self.head = head_of_first(&self.rows);
+        }
         Ok(())
     }
 
@@ -76,6 +88,9 @@ impl Page {
         ensures { self.new ≡ row_put self.old place (place + 1) shown.value }
     {
         self.rows[place] = shown;
+        if place == 0 {
+            self.head = head_of_first(&self.rows);
+        }
     }
 
     // Removes the row at a place.
@@ -84,13 +99,19 @@ impl Page {
         ensures { self.new ≡ row_gone self.old place }
     {
         self.rows.remove(place);
+        if place == 0 {
+            self.head = head_of_first(&self.rows);
+        }
     }
 
     // A page of these rows.
     pub(crate) fn of(rows: Vec<Arc<Shown>>) -> Page
         ensures { result ≡ values_of rows.items }
     {
-        Page { rows }
+        Page {
+            head: head_of_first(&rows),
+            rows,
+        }
     }
 
     // A copy with a row in place of those from a place up to another.
@@ -111,7 +132,7 @@ impl Page {
         share(&mut rows, front)?;
         rows.push(shown)?;
         share(&mut rows, back)?;
-        Ok(Page { rows })
+        Ok(Page::of(rows))
     }
 
     // A copy without the row at a place.
@@ -131,13 +152,42 @@ impl Page {
         joined(alloc, &self.rows, &next.rows)
     }
 
-    // The rows up to a place, and those from it on.
-    pub(crate) fn split(&self, alloc: Global, place: usize) -> Result<(Page, Page), Memory>
-        requires { place ≤ length self.now }
-        ensures { IfOk result (λ halves. (halves.0 ≡ take place self.now) × (halves.1 ≡ drop place self.now)) }
+    // Puts a row at a place, and moves the rows from the 33rd on into a page of their own.
+    pub(crate) fn divide(
+        &mut self,
+        alloc: Global,
+        place: usize,
+        shown: Arc<Shown>,
+    ) -> Result<Arc<Page>, Memory>
+        requires place { place ≤ length self.old }
+        requires long { 32 ≤ length self.old }
+        ensures ok { OnOk result (self.new ≡ take 32 (row_put self.old place place shown.value)) }
+        ensures back { IfOk result (λ back. back.value ≡ drop 32 (row_put self.old place place shown.value)) }
+        ensures err { OnErr result (self.new ≡ self.old) }
     {
-        let (front, back) = self.rows.split_at(place);
-        Ok((copied(alloc, front)?, copied(alloc, back)?))
+        self.insert(place, shown)?;
+        match self.cut_back(alloc) {
+            Ok(back) => Ok(back),
+            Err(refused) => {
+                self.remove(place);
+                Err(refused)
+            }
+        }
+    }
+
+    // Moves the rows from the 33rd on into a page of their own.
+    pub(crate) fn cut_back(&mut self, alloc: Global) -> Result<Arc<Page>, Memory>
+        requires { 32 ≤ length self.old }
+        ensures ok { OnOk result (self.new ≡ take 32 self.old) }
+        ensures back { IfOk result (λ back. back.value ≡ drop 32 self.old) }
+        ensures err { OnErr result (self.new ≡ self.old) }
+    {
+        let mut back = Arc::new(alloc, Page::of(Vec::new(alloc)))?;
+        let Some(room) = Arc::get_mut(&mut back) else {
+            return Err(Memory);
+        };
+        *room = Page::of(self.rows.split_off(32)?);
+        Ok(back)
     }
 }
 
@@ -148,21 +198,33 @@ pub(crate) fn key_of(shown: &Shown) -> &Key
     &shown.row().obj.key
 }
 
+// Whether the first of rows isn't above a key.
+fn is_first_by(rows: &[Arc<Shown>], key: &Key) -> bool
+    ensures { result ≡ begins_by key.now (values_of rows.now) }
+{
+    match rows.first() {
+        Some(shown) => !key.cmp(key_of(shown)).is_lt(),
+        None => true,
+    }
+}
+
+// The head of the first row's key.
+fn head_of_first(rows: &[Arc<Shown>]) -> Head
+    ensures { IsHead result (values_of rows.now) }
+{
+    match rows.first() {
+        Some(shown) => head_of(key_of(shown)),
+        None => [0; 32],
+    }
+}
+
 fn joined(alloc: Global, front: &[Arc<Shown>], back: &[Arc<Shown>]) -> Result<Page, Memory>
     ensures { IfOk result (λ page. page ≡ values_of front.now ++ values_of back.now) }
 {
     let mut rows = Vec::new(alloc);
     share(&mut rows, front)?;
     share(&mut rows, back)?;
-    Ok(Page { rows })
-}
-
-fn copied(alloc: Global, from: &[Arc<Shown>]) -> Result<Page, Memory>
-    ensures { IfOk result (λ page. page ≡ values_of from.now) }
-{
-    let mut rows = Vec::new(alloc);
-    share(&mut rows, from)?;
-    Ok(Page { rows })
+    Ok(Page::of(rows))
 }
 
 // Puts shared rows behind others.

@@ -1,6 +1,6 @@
 //! Pages in the order of their keys.
 
-ghost use Rattle.std.specs.Prelude.{◌≡◌, ◌↔◌, ◌+◌, ◌≤◌, ◌<◌, ◌++◌, ◌∷◌, [], None, not, nat_lt, length, slice_index_or, IfOk, OnOk, OnErr, MatchOption, IsTrue, option_map};
+ghost use Rattle.std.specs.Prelude.{◌≡◌, ◌↔◌, ◌+◌, ◌≤◌, ◌<◌, ◌++◌, ◌∷◌, [], None, not, nat_lt, length, take, drop, slice_index_or, IfOk, OnOk, OnErr, MatchOption, IsTrue, option_map};
 ghost use Rattle.kube_meta.specs.Rows.{RowData, key_of as row_key, row_with};
 ghost use Rattle.obj_tree.specs.Maps.{with_row, without};
 ghost use Rattle.obj_tree.specs.Pages.{values_of, joined, page_at, replaced, row_put, divided, row_gone, AreSized, AreFull, IsPaged, ArePagesOf, FitsBefore, FitsAfter};
@@ -103,6 +103,7 @@ fn put_owned(
     requires order { from ≤ to }
     requires near { to ≤ from + 1 }
     requires place { to ≤ length (page_at (values_of pages.old.value.items) at) }
+    requires sized { AreSized (values_of pages.old.value.items) }
     ensures ok { OnOk result (values_of pages.new.value.items ≡ replaced (values_of pages.old.value.items) at (at + 1) (divided (row_put (page_at (values_of pages.old.value.items) at) from to shown.value))) }
     ensures err { OnErr result (values_of pages.new.value.items ≡ values_of pages.old.value.items) }
 {
@@ -142,6 +143,7 @@ fn put_row(
     requires order { from ≤ to }
     requires near { to ≤ from + 1 }
     requires place { to ≤ length (page_at (values_of pages.old.items) at) }
+    requires sized { AreSized (values_of pages.old.items) }
     ensures ok { OnOk result (values_of pages.new.items ≡ replaced (values_of pages.old.items) at (at + 1) (divided (row_put (page_at (values_of pages.old.items) at) from to shown.value))) }
     ensures err { OnErr result (values_of pages.new.items ≡ values_of pages.old.items) }
 {
@@ -149,9 +151,7 @@ fn put_row(
         put_in(alloc, &mut pages[at], from, to, shown)?;
         return Ok(());
     }
-    let page = pages[at].with(alloc, from, to, shown)?;
-    let (first, second) = page.split(alloc, 32)?;
-    put_two(alloc, pages, at, first, second)
+    put_full(alloc, pages, at, from, shown)
 }
 
 // Whether a page holds at most 64 rows with one in place of those from one place up to another.
@@ -311,23 +311,57 @@ fn put_page(alloc: Global, pages: &mut Vec<Arc<Page>>, at: usize, page: Page) ->
     Ok(())
 }
 
-// Two pages in place of one.
-fn put_two(
+// Puts a row into a full page, which becomes two.
+fn put_full(
     alloc: Global,
     pages: &mut Vec<Arc<Page>>,
     at: usize,
-    first: Page,
-    second: Page,
+    place: usize,
+    shown: Arc<Shown>,
 ) -> Result<(), Memory>
-    requires { at < length pages.old.items }
-    ensures ok { OnOk result (values_of pages.new.items ≡ replaced (values_of pages.old.items) at (at + 1) (first ∷ second ∷ [])) }
+    requires inside { at < length pages.old.items }
+    requires place { place ≤ length (page_at (values_of pages.old.items) at) }
+    requires long { 32 ≤ length (page_at (values_of pages.old.items) at) }
+    ensures ok { OnOk result (values_of pages.new.items ≡ replaced (values_of pages.old.items) at (at + 1) (take 32 (row_put (page_at (values_of pages.old.items) at) place place shown.value) ∷ drop 32 (row_put (page_at (values_of pages.old.items) at) place place shown.value) ∷ [])) }
     ensures err { OnErr result (values_of pages.new.items ≡ values_of pages.old.items) }
 {
-    let first = Arc::new(alloc, first)?;
-    let second = Arc::new(alloc, second)?;
-    pages.insert(at + 1, second)?;
-    pages[at] = first;
-    Ok(())
+    let next = Arc::new(alloc, Page::of(Vec::new(alloc)))?;
+    pages.insert(at + 1, next)?;
+    match divide_in(alloc, &mut pages[at], place, shown) {
+        Ok(back) => {
+            pages[at + 1] = back;
+            Ok(())
+        }
+        Err(refused) => {
+            pages.remove(at + 1);
+            Err(refused)
+        }
+    }
+}
+
+// Puts a row into a page and answers a page of the rows from the 33rd on: where nobody shares the page there,
+// and else in a copy.
+fn divide_in(
+    alloc: Global,
+    page: &mut Arc<Page>,
+    place: usize,
+    shown: Arc<Shown>,
+) -> Result<Arc<Page>, Memory>
+    requires place { place ≤ length page.old.value }
+    requires long { 32 ≤ length page.old.value }
+    ensures ok { OnOk result (page.new.value ≡ take 32 (row_put page.old.value place place shown.value)) }
+    ensures back { IfOk result (λ back. back.value ≡ drop 32 (row_put page.old.value place place shown.value)) }
+    ensures err { OnErr result (page.new.value ≡ page.old.value) }
+{
+    match Arc::get_mut(page) {
+        Some(own) => own.divide(alloc, place, shown),
+        None => {
+            let mut copy = page.with(alloc, place, place, shown)?;
+            let back = copy.cut_back(alloc)?;
+            *page = Arc::new(alloc, copy)?;
+            Ok(back)
+        }
+    }
 }
 
 // One page in place of two.

@@ -1,14 +1,21 @@
 //! Places among pages, by binary search.
 
-ghost use Rattle.std.specs.Prelude.{◌≡◌, [], MatchOption, IfOk, IfErr, option_map, option_copied};
-ghost use Rattle.kube_meta.specs.Rows.{AreRising, row_with};
+ghost use Rattle.std.specs.Prelude.{◌≡◌, ◌≤◌, ◌<◌, [], true, suc, length, take, drop, MatchOption, IfOk, IfErr, option_map, option_copied};
+ghost use Rattle.std.specs.List.{list_all};
+ghost use Rattle.kube_meta.specs.Rows.{AreRising, row_with, is_behind};
+ghost use Rattle.obj_tree.specs.Maps.{is_below};
 ghost use Rattle.obj_tree.specs.Pages.{values_of, joined, IsPaged, IsPageFor, IsRowAt, IsGapAt};
 ghost use Rattle.obj_tree.specs.Places.{IsPlace};
 
+use crate::head::{Sought, head_of};
 use crate::page::{Page, key_of};
 use encode_once::Shown;
 use kube_meta::Key;
+use std::cmp::Ordering;
 use std::sync::Arc;
+
+// Of how many rows one is looked at first.
+const STEP: usize = 8;
 
 /// Where a key stands among pages: in which one, and where its row is in it, or would go.
 #[derive(Clone, Copy)]
@@ -40,7 +47,8 @@ pub(crate) fn find(pages: &[Arc<Page>], key: &Key) -> Option<Place>
     Some(Place { page, row })
 }
 
-// The page in which a key stands or would stand, by binary search; `None` where there is no page.
+// The page in which a key stands or would stand, by long steps and then shorter ones; `None` where there is
+// no page.
 fn page_for(pages: &[Arc<Page>], key: &Key) -> Option<usize>
     requires { IsPaged (values_of pages.now) }
     ensures { MatchOption result (values_of pages.now ≡ []) (IsPageFor (values_of pages.now) key.now) }
@@ -48,15 +56,60 @@ fn page_for(pages: &[Arc<Page>], key: &Key) -> Option<usize>
     if pages.is_empty() {
         return None;
     }
-    let begun = pages.partition_point(|page| page.begins_by(key));
-    Some(begun.saturating_sub(1))
+    let sought = Sought {
+        key,
+        head: head_of(key),
+    };
+    let at = last_begun(pages, &sought, 0, 512);
+    let at = last_begun(pages, &sought, at, 64);
+    let at = last_begun(pages, &sought, at, 8);
+    Some(last_begun(pages, &sought, at, 1))
 }
 
-// Where the row with a key is, or where it would go, by binary search.
+// Goes on by steps while the page there doesn't begin above a key.
+fn last_begun(pages: &[Arc<Page>], sought: &Sought<'_>, from: usize, step: usize) -> usize
+    requires paged { IsPaged (values_of pages.now) }
+    requires inside { from < length pages.now }
+    requires before { list_all (is_below sought.now.key.now) (joined (take from (values_of pages.now))) ≡ true }
+    requires some { 0 < step }
+    ensures inside { result < length pages.now }
+    ensures before { list_all (is_below sought.now.key.now) (joined (take result (values_of pages.now))) ≡ true }
+    ensures after { step ≡ 1 → list_all (is_behind sought.now.key.now) (joined (drop (suc result) (values_of pages.now))) ≡ true }
+{
+    let mut at = from;
+    while step < pages.len() - at && pages[at + step].begins_by(sought) {
+        at += step;
+    }
+    at
+}
+
+// Where the row with a key is, or where it would go. Rows are looked at in steps and then one by one: such
+// looks don't wait for one another, as those of a binary search do.
 fn place_in(rows: &[Arc<Shown>], key: &Key) -> Result<usize, usize>
     requires { AreRising (values_of rows.now) }
     ensures found { IfOk result (IsRowAt (values_of rows.now) key.now) }
     ensures absent { IfErr result (IsGapAt (values_of rows.now) key.now) }
 {
-    rows.binary_search_by(|shown| key_of(shown).cmp(key))
+    let mut at = passed(rows, key);
+    while at < rows.len() {
+        match key_of(&rows[at]).cmp(key) {
+            Ordering::Less => at += 1,
+            Ordering::Equal => return Ok(at),
+            Ordering::Greater => return Err(at),
+        }
+    }
+    Err(at)
+}
+
+// A place before which all rows are below a key: one of each eighth row's, and the last such.
+fn passed(rows: &[Arc<Shown>], key: &Key) -> usize
+    requires { AreRising (values_of rows.now) }
+    ensures inside { result ≤ length rows.now }
+    ensures below { list_all (is_below key.now) (take result (values_of rows.now)) ≡ true }
+{
+    let mut at = 0;
+    while rows.len() - at >= STEP && key_of(&rows[at + (STEP - 1)]).cmp(key).is_lt() {
+        at += STEP;
+    }
+    at
 }
