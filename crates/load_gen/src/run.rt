@@ -96,7 +96,7 @@ fn serve_new<N: LogFacts>(
     let mut client: LocalClient<N> = LocalClient::new(alloc, made, &settings)?;
     let played = play(alloc, &mut client, session, &settings);
     let listed = list_all(alloc, &mut client);
-    drop(client);
+    client.close();
     figures(alloc, requests, played, listed)
 }
 

@@ -54,6 +54,11 @@ impl<N: LogFacts> LocalClient<N> {
             heard: 0,
         })
     }
+
+    /// Lets the client go, and with it the log and its caches.
+    pub fn close(self) {
+        drop(self);
+    }
 }
 
 impl<N: LogFacts> Client for LocalClient<N> {

@@ -57,6 +57,11 @@ impl<N: LogFacts, R: Wait + Copy> Cacher<N, R> {
         })
     }
 
+    /// Lets the caches go, and with them the door to the log.
+    pub fn close(self) {
+        drop(self);
+    }
+
     /// A client of the log, with no watch.
     pub fn client(&self) -> Result<SharedClient<'_, N, R>, Memory>
         ensures idle { IfOk result (λ client. (client.watch ≡ None) × (client.heard ≡ 0)) }

@@ -117,7 +117,7 @@ impl<N: LogFacts, R: Wait + Copy> Cacher<N, R> {
     }
 
     /// Closes a lane of a resource's cache, if it is open.
-    pub(crate) fn close(&self, resource: Resource, id: u64) {
+    pub(crate) fn close_lane(&self, resource: Resource, id: u64) {
         match resource {
             Resource::Pods => self.pods.lock(&self.rt).close(id),
             Resource::ConfigMaps => self.config_maps.lock(&self.rt).close(id),

@@ -46,7 +46,7 @@ impl<N: LogFacts, R: Wait + Copy> Drop for WatchLane<'_, N, R> {
             id,
             out: _,
         } = self;
-        cacher.close(resource, id);
+        cacher.close_lane(resource, id);
     }
 }
 

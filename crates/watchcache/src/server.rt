@@ -78,7 +78,7 @@ where
     match cacher_of::<L, R>(rt, alloc, made, &options.settings) {
         Ok(cacher) => {
             let status = serve_port(rt, alloc, &cacher, options, sink, clock, net);
-            drop(cacher);
+            cacher.close();
             status
         }
         Err(_) => OUT_OF_MEMORY,

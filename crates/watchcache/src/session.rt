@@ -57,7 +57,7 @@ fn serve_new<N: LogFacts, S: Source, K: Sink, T: Clock>(
     match LocalClient::<N>::new(alloc, made, settings) {
         Ok(mut client) => {
             let end = serve_session(alloc, &mut client, source, sink, clock, settings);
-            drop(client);
+            client.close();
             end.status()
         }
         Err(_) => OUT_OF_MEMORY,
