@@ -12,11 +12,9 @@ use std::time::Duration;
 /// How many milliseconds a clock rests where the bell isn't rung.
 const REST_MS: u64 = 20;
 
-/// How many milliseconds a clock rests while writes come fast, whatever rings: they are then told together.
+/// How many milliseconds a clock rests behind a ring that it heard, whatever rings: writes that come fast are told
+/// together.
 const GATHER_MS: u64 = 1;
-
-/// Writes come fast where one came since the last rest, and that began less than so many milliseconds ago.
-const BUSY_MS: u64 = 2;
 
 /// Counts the writes of a server's clients, and wakes the clocks that rest.
 #[derive(Drop)]
@@ -58,22 +56,15 @@ impl Bell {
     }
 }
 
-/// A connection's clock whose rest ends at the first ring since it was read, or after a millisecond where writes come
-/// fast.
+/// A connection's clock whose rest ends at the first ring since it was read, or after a millisecond where it was rung
+/// since the rest before.
 #[derive(Drop)]
 pub struct RungClock<'a, T, R: Wait> {
     clock: T,
     bell: &'a Bell,
     rt: &'a R,
-    read: Moment,
-    rested: Moment,
-}
-
-// What a clock showed, and how often the bell had been rung then.
-#[derive(Clone, Copy, Drop)]
-struct Moment {
-    ms: u64,
-    count: u32,
+    read: u32,
+    rested: u32,
 }
 
 impl<'a, T: Clock, R: Wait> RungClock<'a, T, R> {
@@ -81,23 +72,14 @@ impl<'a, T: Clock, R: Wait> RungClock<'a, T, R> {
     pub fn new(clock: T, bell: &'a Bell, rt: &'a R) -> RungClock<'a, T, R>
         ensures { result.clock ≡ clock }
     {
-        let begun = Moment {
-            ms: 0,
-            count: bell.count(),
-        };
+        let count = bell.count();
         RungClock {
             clock,
             bell,
             rt,
-            read: begun,
-            rested: begun,
+            read: count,
+            rested: count,
         }
-    }
-
-    // Whether the bell was rung since the last rest, which began just now.
-    fn is_busy(&self) -> bool {
-        let ms = self.read.ms.saturating_sub(self.rested.ms);
-        self.read.count != self.rested.count && ms < BUSY_MS
     }
 }
 
@@ -108,22 +90,17 @@ impl<'a, T: Clock, R: Wait> Clock for RungClock<'a, T, R> {
 
     // The rings are counted first, so that one that comes behind them ends the next rest.
     fn now(&mut self) -> Reading {
-        let count = self.bell.count();
-        let reading = self.clock.now();
-        self.read = Moment {
-            ms: reading.ms,
-            count,
-        };
-        reading
+        self.read = self.bell.count();
+        self.clock.now()
     }
 
     fn rest(&mut self) {
-        let is_busy = self.is_busy();
+        let heard = self.read != self.rested;
         self.rested = self.read;
-        if is_busy {
+        if heard {
             self.bell.gather(self.rt);
         } else {
-            self.bell.wait(self.rt, self.read.count);
+            self.bell.wait(self.rt, self.read);
         }
     }
 }
