@@ -1,13 +1,14 @@
 //! Field selectors.
 
 use crate::samples::{Answer, fields, key, resource, truth, words};
+use case_rows::split;
 use field_select::FieldSel;
 use kube_meta::Resource;
 use std::alloc::Global;
 
 /// Rows: `read RESOURCE T`, and of pods `empty T`, `match T | KEY | VALUES`, `same T | T`, `wanted PLACE T`.
 pub fn answer(alloc: Global, input: &str) -> Answer {
-    let (what, text) = input.split_once(' ').unwrap_or((input, ""));
+    let (what, text) = split(input);
     match what {
         "read" => read(alloc, text),
         "empty" => empty(alloc, text),
@@ -19,7 +20,7 @@ pub fn answer(alloc: Global, input: &str) -> Answer {
 }
 
 fn read(alloc: Global, input: &str) -> Answer {
-    let (name, text) = input.split_once(' ').unwrap_or((input, ""));
+    let (name, text) = split(input);
     let Some(resource) = resource(name) else {
         return Ok(None);
     };
@@ -66,7 +67,7 @@ fn same(alloc: Global, input: &str) -> Answer {
 }
 
 fn wanted(alloc: Global, input: &str) -> Answer {
-    let (place, text) = input.split_once(' ').unwrap_or((input, ""));
+    let (place, text) = split(input);
     let Ok(place) = place.parse::<usize>() else {
         return Ok(None);
     };

@@ -2,13 +2,14 @@
 
 use crate::plain_labels;
 use crate::samples::{Answer, labels, truth, words};
+use case_rows::split;
 use label_select::{LabelSel, Tokens};
 use std::alloc::Global;
 
 /// Rows: `read T`, `empty T`, `match T | LABELS`, `same T | T`, `tokens T`, and `alike LENGTH`, all short texts of a
 /// length beside a plain reader.
 pub fn answer(alloc: Global, input: &str) -> Answer {
-    let (what, text) = input.split_once(' ').unwrap_or((input, ""));
+    let (what, text) = split(input);
     let (text, other) = text.split_once(" | ").unwrap_or((text, ""));
     match what {
         "read" => read(alloc, text),

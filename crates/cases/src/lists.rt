@@ -1,6 +1,7 @@
 //! The options of lists and gets, and continue tokens.
 
 use crate::samples::{Answer, key, resource};
+use case_rows::split;
 use http_read::Params;
 use kube_meta::{Resource, Text};
 use list_rules::{AskNo, GetAsk, ListAsk, meaning, read_token, token};
@@ -10,7 +11,7 @@ use std::alloc::{AllocError, Global};
 /// Rows: `list QUERY` of the pods of `default`; `get QUERY` of one of them; `token REVISION KEY` of these pods; `read
 /// RESOURCE TOKEN` of the resource in `default`.
 pub fn answer(alloc: Global, input: &str) -> Answer {
-    let (what, text) = input.split_once(' ').unwrap_or((input, ""));
+    let (what, text) = split(input);
     match what {
         "list" => list(alloc, text),
         "get" => get(alloc, text),
@@ -67,7 +68,7 @@ fn get(alloc: Global, query: &str) -> Answer {
 }
 
 fn write(alloc: Global, input: &str) -> Answer {
-    let (revision, name) = input.split_once(' ').unwrap_or((input, ""));
+    let (revision, name) = split(input);
     let Ok(revision) = revision.parse::<u64>() else {
         return Ok(None);
     };
@@ -81,7 +82,7 @@ fn write(alloc: Global, input: &str) -> Answer {
 }
 
 fn read(alloc: Global, input: &str) -> Answer {
-    let (name, text) = input.split_once(' ').unwrap_or((input, ""));
+    let (name, text) = split(input);
     let Some(resource) = resource(name) else {
         return Ok(None);
     };

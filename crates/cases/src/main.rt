@@ -18,44 +18,27 @@ mod refusals;
 mod replies;
 mod requests;
 mod routes;
-mod rows;
 mod samples;
 mod selections;
 mod subject;
 mod watches;
 
-use rows::Row;
+use case_rows::{Row, Tally, meets, plain};
 use std::alloc::Global;
 use std::rt::Runtime;
 use std::{env, fs, io};
 use subject::Subject;
 
-/// How many rows were read, and how many had another answer.
-#[derive(Clone, Copy)]
-struct Tally {
-    cases: u64,
-    mismatches: u64,
-}
-
-impl Tally {
-    fn count(&mut self, met: bool) {
-        self.cases = self.cases.saturating_add(1);
-        if !met {
-            self.mismatches = self.mismatches.saturating_add(1);
-        }
-    }
-}
-
 fn main(rt: HostRuntime) -> io::Result<()> {
-    let mut tally = Tally {
-        cases: 0,
-        mismatches: 0,
-    };
+    let mut tally = Tally::new();
     for file in env::args(&rt)?.skip(1) {
         run_file(&rt, rt.alloc(), file.as_str(), &mut tally)?;
     }
-    println!(rt; "{} cases, {} mismatches", tally.cases, tally.mismatches)
+    println!(rt; "{} cases, {} mismatches", tally.rows, tally.mismatches)
 }
+
+/// What a line wants that is no row: an answer that nothing gives.
+const NO_ROW: &str = "(a row is written INPUT => ANSWER)";
 
 /// Runs the rows of one file. A file whose subject isn't known is one mismatch.
 fn run_file<R: Runtime + AllocGlobal>(
@@ -72,8 +55,8 @@ fn run_file<R: Runtime + AllocGlobal>(
     let mut number = 0u64;
     for line in text.as_str().lines() {
         number = number.saturating_add(1);
-        if let Some(row) = Row::of_line(alloc, line)? {
-            let met = run_row(rt, alloc, subject, &row, (file, number))?;
+        if let Some(row) = Row::of_line(line, NO_ROW) {
+            let met = run_row(rt, alloc, subject, row, (file, number))?;
             tally.count(met);
         }
     }
@@ -85,16 +68,15 @@ fn run_row<R: Runtime + AllocGlobal>(
     rt: &R,
     alloc: Global,
     subject: Subject,
-    row: &Row,
+    row: Row<'_>,
     place: (&str, u64),
 ) -> io::Result<bool> {
-    let answer = subject.answer(alloc, row.input.as_str())?;
-    if answer.as_str() == row.wanted.as_str() {
-        return Ok(true);
-    }
-    let (file, number) = place;
-    println!(rt; "{file}:{number}: {}", row.input.as_str())?;
-    println!(rt; "    wanted: {}", row.wanted.as_str())?;
-    println!(rt; "    answer: {}", answer.as_str())?;
-    Ok(false)
+    let input = plain(alloc, row.step)?;
+    let wanted = plain(alloc, row.wanted)?;
+    let answer = subject.answer(alloc, input.as_str())?;
+    let row = Row {
+        step: input.as_str(),
+        wanted: wanted.as_str(),
+    };
+    meets(rt, place, row, answer.as_str())
 }

@@ -1,6 +1,7 @@
 //! Names, labels, keys, revisions and resources.
 
 use crate::samples::{Answer, truth, words};
+use case_rows::split;
 use kube_meta::{
     Key, Resource, Rev, Text, is_label_key, is_label_value, is_namespace, is_object_name,
 };
@@ -10,7 +11,7 @@ use std::alloc::Global;
 /// `order KEY KEY`, `rank PLURAL PLURAL`, `resource PLURAL`, `group GROUP VERSION PLURAL`, where the core group is
 /// `core`.
 pub fn answer(alloc: Global, input: &str) -> Answer {
-    let (what, text) = input.split_once(' ').unwrap_or((input, ""));
+    let (what, text) = split(input);
     match what {
         "namespace" => truth(alloc, is_namespace(text)),
         "name" => truth(alloc, is_object_name(text)),
@@ -27,7 +28,7 @@ pub fn answer(alloc: Global, input: &str) -> Answer {
 }
 
 fn label(alloc: Global, text: &str) -> Answer {
-    let (part, text) = text.split_once(' ').unwrap_or((text, ""));
+    let (part, text) = split(text);
     match part {
         "key" => truth(alloc, is_label_key(text)),
         "value" => truth(alloc, is_label_value(text)),
@@ -86,7 +87,7 @@ fn sign(one: &Key, other: &Key) -> &'static str {
 
 /// The order of two resources.
 fn rank(alloc: Global, text: &str) -> Answer {
-    let (one, other) = text.split_once(' ').unwrap_or((text, ""));
+    let (one, other) = split(text);
     let Some(one) = Resource::of_plural(one.as_bytes()) else {
         return Ok(None);
     };
@@ -100,8 +101,8 @@ fn rank(alloc: Global, text: &str) -> Answer {
 
 /// The resource of a group, a version and a name in paths.
 fn group(alloc: Global, text: &str) -> Answer {
-    let (group, rest) = text.split_once(' ').unwrap_or((text, ""));
-    let (version, plural) = rest.split_once(' ').unwrap_or((rest, ""));
+    let (group, rest) = split(text);
+    let (version, plural) = split(rest);
     let group = if group == "core" { "" } else { group };
     found(alloc, Resource::of_group(group, version, plural))
 }

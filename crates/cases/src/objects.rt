@@ -1,6 +1,7 @@
 //! Objects in bodies.
 
 use crate::samples::{Answer, resource, words};
+use case_rows::split;
 use json_obj::{ObjNo, obj_of, read_obj, read_value};
 use kube_meta::{Obj, Resource, Row, Text, is_namespace};
 use meta_view::meta_text;
@@ -26,7 +27,7 @@ enum Part {
 /// RESOURCE NAMESPACE NAME BODY`; `value RESOURCE NAMESPACE BODY`, a value that may have floats; `json BODY`, whether
 /// it is one value.
 pub fn answer(alloc: Global, input: &str) -> Answer {
-    let (what, text) = input.split_once(' ').unwrap_or((input, ""));
+    let (what, text) = split(input);
     match what {
         "create" => shown(alloc, Part::Json, text),
         "labels" => shown(alloc, Part::Labels, text),
@@ -42,8 +43,8 @@ pub fn answer(alloc: Global, input: &str) -> Answer {
 
 /// The resource and the namespace of a row, and what stands behind them.
 fn place(alloc: Global, input: &str) -> Result<Option<(Resource, Text, &str)>, AllocError> {
-    let (name, rest) = input.split_once(' ').unwrap_or((input, ""));
-    let (ns, body) = rest.split_once(' ').unwrap_or((rest, ""));
+    let (name, rest) = split(input);
+    let (ns, body) = split(rest);
     match resource(name) {
         Some(resource) => Ok(Some((resource, Text::new(alloc, ns)?, body))),
         None => Ok(None),
@@ -65,7 +66,7 @@ fn replaced(alloc: Global, input: &str) -> Answer {
     let Some((resource, ns, rest)) = place(alloc, input)? else {
         return Ok(None);
     };
-    let (name, body) = rest.split_once(' ').unwrap_or((rest, ""));
+    let (name, body) = split(rest);
     let name = Text::new(alloc, name)?;
     if !is_namespace(ns.as_str()) {
         return Ok(None);

@@ -6,6 +6,7 @@ use api_errors::{
     Failure, already_exists, bad_upgrade, conflict, expired, not_found, operation_told, read_only,
     request_told, route_told, too_large, used_up, write_told,
 };
+use case_rows::split;
 use edge_io::MemSource;
 use http_read::Reader;
 use kube_meta::Resource;
@@ -17,7 +18,7 @@ use up_store::{OpNo, WriteNo};
 /// was given as 2, `write RESOURCE NAME`, the same as a write's refusal, `expired`, `too-large`, `used-up`,
 /// `read-only`, `bad-upgrade`, `cut`.
 pub fn answer(alloc: Global, input: &str) -> Answer {
-    let (what, text) = input.split_once(' ').unwrap_or((input, ""));
+    let (what, text) = split(input);
     match what {
         "route" => route(alloc, text),
         "request" => request(alloc, text),
@@ -55,7 +56,7 @@ fn request(alloc: Global, bytes: &str) -> Answer {
 }
 
 fn object(alloc: Global, what: &str, text: &str) -> Answer {
-    let (plural, name) = text.split_once(' ').unwrap_or((text, ""));
+    let (plural, name) = split(text);
     match resource(plural) {
         Some(resource) => told_words(alloc, of_object(alloc, what, resource, name)?),
         None => Ok(None),

@@ -1,6 +1,7 @@
 //! Texts of replies.
 
 use crate::samples::{Answer, resource, words};
+use case_rows::split;
 use json_obj::{
     EventType, More, Refusal, bookmark, expired_pieces, list_parts, status, value_pieces,
 };
@@ -13,12 +14,11 @@ use std::alloc::{AllocError, Global};
 /// MESSAGE`; `line TYPE`, `value NUMBER`, `expired ASKED FLOOR`; `accept TYPES`, the form that is asked for. Items
 /// and objects are written `..`.
 pub fn answer(alloc: Global, input: &str) -> Answer {
-    let (what, text) = input.split_once(' ').unwrap_or((input, ""));
+    let (what, text) = split(input);
     match what {
         "bookmark" => marked(alloc, text, false),
         "closing" => marked(alloc, text, true),
-        "list" => list(alloc, text),
-        "page" => list(alloc, text),
+        "list" | "page" => list(alloc, text),
         "status" => refusal(alloc, text, false),
         "too-large" => refusal(alloc, text, true),
         "line" => line(alloc, text),
@@ -53,7 +53,7 @@ fn text_of(alloc: Global, bytes: &[u8]) -> Answer {
 }
 
 fn marked(alloc: Global, input: &str, closing: bool) -> Answer {
-    let (name, revision) = input.split_once(' ').unwrap_or((input, ""));
+    let (name, revision) = split(input);
     let text = match (shown(name), revision.parse::<u64>()) {
         (Some(Some(resource)), Ok(rev)) => bookmark(alloc, resource, rev, closing)?,
         (Some(None), Ok(rev)) => meta_bookmark(alloc, rev, closing)?,
@@ -74,8 +74,8 @@ fn more_of(alloc: Global, rest: &str) -> Result<Option<More>, AllocError> {
 }
 
 fn list(alloc: Global, input: &str) -> Answer {
-    let (name, rest) = input.split_once(' ').unwrap_or((input, ""));
-    let (revision, rest) = rest.split_once(' ').unwrap_or((rest, ""));
+    let (name, rest) = split(input);
+    let (revision, rest) = split(rest);
     let more = more_of(alloc, rest)?;
     let (mut front, back) = match (shown(name), revision.parse::<u64>()) {
         (Some(Some(resource)), Ok(rev)) => list_parts(alloc, resource, rev, more.as_ref())?,
@@ -88,8 +88,8 @@ fn list(alloc: Global, input: &str) -> Answer {
 }
 
 fn refusal(alloc: Global, input: &str, too_large: bool) -> Answer {
-    let (code, rest) = input.split_once(' ').unwrap_or((input, ""));
-    let (reason, message) = rest.split_once(' ').unwrap_or((rest, ""));
+    let (code, rest) = split(input);
+    let (reason, message) = split(rest);
     let Ok(code) = code.parse::<u16>() else {
         return Ok(None);
     };
@@ -112,7 +112,7 @@ fn pieces(alloc: Global, pieces: &[&[u8]]) -> Answer {
 }
 
 fn expired(alloc: Global, input: &str) -> Answer {
-    let (asked, floor) = input.split_once(' ').unwrap_or((input, ""));
+    let (asked, floor) = split(input);
     pieces(alloc, &expired_pieces(asked.as_bytes(), floor.as_bytes()))
 }
 

@@ -3,6 +3,7 @@
 ghost use Rattle.std.specs.Prelude.{◌<◌};
 
 use crate::samples::{Answer, words};
+use case_rows::split;
 use edge_io::MemSource;
 use http_read::{Reader, Req, ReqNo};
 use std::alloc::{AllocError, Global};
@@ -10,7 +11,7 @@ use std::alloc::{AllocError, Global};
 /// Rows: `bytes BYTES`, all requests and the end; `faults COUNT BYTES`, how many requests come where the source fails
 /// at its call 0, 1, .. up to the count.
 pub fn answer(alloc: Global, input: &str) -> Answer {
-    let (what, text) = input.split_once(' ').unwrap_or((input, ""));
+    let (what, text) = split(input);
     match what {
         "bytes" => in_pieces(alloc, text),
         "faults" => faults(alloc, text),
@@ -100,7 +101,7 @@ fn before_fault(alloc: Global, text: &str, at: u64) -> Result<Option<u32>, Alloc
 }
 
 fn faults(alloc: Global, input: &str) -> Answer {
-    let (count, text) = input.split_once(' ').unwrap_or((input, ""));
+    let (count, text) = split(input);
     let Ok(count) = count.parse::<u32>() else {
         return Ok(None);
     };

@@ -1,6 +1,7 @@
 //! Both selectors together, and what a change of an object is to them.
 
 use crate::samples::{Answer, fields, key, labels, truth, words};
+use case_rows::split;
 use kube_meta::{Obj, Resource, Text};
 use select_all::Selection;
 use std::alloc::{AllocError, Global};
@@ -9,7 +10,7 @@ use std::alloc::{AllocError, Global};
 /// LABELS | BEFORE | NOW` with the object's labels or `absent`, `same NAMESPACE | LABELS | FIELDS | NAMESPACE | ..`.
 /// The namespace `*` is all.
 pub fn answer(alloc: Global, input: &str) -> Answer {
-    let (what, text) = input.split_once(' ').unwrap_or((input, ""));
+    let (what, text) = split(input);
     match what {
         "read" => read(alloc, text),
         "select" => select(alloc, text),

@@ -7,17 +7,16 @@
 
 ghost use Rattle.std.specs.Prelude.{◌≡◌, [], false};
 
-mod rows;
 mod scene;
 mod start;
 mod steps;
 mod texts;
 mod things;
 
+use case_rows::{Lines, Tally, run_rows};
 use kube_meta::Memory;
 use rev_front::{Blank, blank};
 use rev_log::Revision;
-use rows::Row;
 use scene::{Scene, Stage};
 use start::Start;
 use std::alloc::Global;
@@ -26,27 +25,8 @@ use std::rt::Runtime;
 use std::{env, fs, io};
 use up_api::LogFacts;
 
-/// How many rows were read, and how many had another answer.
-#[derive(Clone, Copy)]
-struct Tally {
-    rows: u64,
-    mismatches: u64,
-}
-
-impl Tally {
-    fn count(&mut self, met: bool) {
-        self.rows = self.rows.saturating_add(1);
-        if !met {
-            self.mismatches = self.mismatches.saturating_add(1);
-        }
-    }
-}
-
 fn main(rt: HostRuntime) -> io::Result<()> {
-    let mut tally = Tally {
-        rows: 0,
-        mismatches: 0,
-    };
+    let mut tally = Tally::new();
     for file in env::args(&rt)?.skip(1) {
         let text = fs::read_to_string(&rt, file.as_str())?;
         let made = blank(rt.alloc(), 1)?;
@@ -79,15 +59,12 @@ fn run_file<N: LogFacts, R: Runtime>(
         scene: scene_of::<N>(alloc, made, first)?,
         watches: Vec::new(alloc),
     };
-    let mut number = 1u64;
-    for line in rest.lines() {
-        number = number.saturating_add(1);
-        if let Some(row) = Row::of_line(line) {
-            let met = run_row(rt, alloc, &mut stage, row, (name, number))?;
-            tally.count(met);
-        }
-    }
-    Ok(())
+    let rows = Lines {
+        file: name,
+        first: 2,
+        text: rest,
+    };
+    run_rows(rt, alloc, rows, &mut stage, tally)
 }
 
 fn scene_of<N: LogFacts>(
@@ -100,23 +77,4 @@ fn scene_of<N: LogFacts>(
     requires own { N.mirror ≡ false }
 {
     Scene::new(alloc, made, Start::read(alloc, first)?)
-}
-
-/// Whether a row has the answer that it wants; if not, both are printed.
-fn run_row<N: LogFacts, R: Runtime>(
-    rt: &R,
-    alloc: Global,
-    stage: &mut Stage<N>,
-    row: Row<'_>,
-    place: (&str, u64),
-) -> io::Result<bool> {
-    let answer = steps::answer(alloc, stage, row.step)?;
-    if answer.as_str() == row.wanted {
-        return Ok(true);
-    }
-    let (name, number) = place;
-    println!(rt; "{name}:{number}: {}", row.step)?;
-    println!(rt; "    wanted: {}", row.wanted)?;
-    println!(rt; "    answer: {}", answer.as_str())?;
-    Ok(false)
 }

@@ -2,7 +2,7 @@
 
 ghost use Rattle.up_api.specs.Settings.{AreInRange};
 
-use crate::steps::number;
+use case_rows::number;
 use kube_meta::Memory;
 use std::alloc::Global;
 use up_api::Settings;
@@ -11,12 +11,12 @@ use up_api::Settings;
 /// before which the log is compacted, each with the revision.
 #[derive(Drop)]
 pub struct Start {
-    pub window: usize,
-    pub window_max: usize,
-    pub fresh_ms: u64,
-    pub lane: usize,
-    pub batch: usize,
-    pub history: u64,
+    window: usize,
+    window_max: usize,
+    fresh_ms: u64,
+    lane: usize,
+    batch: usize,
+    history: u64,
     pub cuts: Vec<u64>,
     pub compactions: Vec<(u64, u64)>,
 }

@@ -2,32 +2,30 @@
 use crate::scene::{Scene, Stage, Watch};
 use crate::texts::{lines_text, rows_text};
 use crate::things::{creation, removal, replacement};
+use case_rows::{Steps, number, split};
 use kube_meta::{Memory, Resource};
 use select_all::Selection;
 use std::alloc::Global;
 use up_api::LogFacts;
 use up_store::{OpNo, Transaction, WriteAsk};
 
-/// The answer to a step, in words.
-pub fn answer<N: LogFacts>(
-    alloc: Global,
-    stage: &mut Stage<N>,
-    step: &str,
-) -> Result<String, Memory> {
-    let (verb, rest) = step.split_once(' ').unwrap_or((step, ""));
-    match verb {
-        "create" => write(alloc, &mut stage.scene, &creation(alloc, rest)?),
-        "replace" => write(alloc, &mut stage.scene, &replacement(alloc, rest)?),
-        "remove" => write(alloc, &mut stage.scene, &removal(alloc, rest)?),
-        "together" => transact(alloc, &mut stage.scene, rest),
-        "cut" | "compact" => operate(alloc, &mut stage.scene, verb, number(rest)),
-        "floor" | "end" | "at" => look(alloc, &mut stage.scene, verb, number(rest)),
-        "pump" => pump(alloc, &mut stage.scene, number(rest)),
-        "tick" => {
-            stage.scene.tick(number(rest));
-            Ok(format!(in alloc; "ok")?)
+impl<N: LogFacts> Steps for Stage<N> {
+    fn answer(&mut self, alloc: Global, step: &str) -> Result<String, Memory> {
+        let (verb, rest) = split(step);
+        match verb {
+            "create" => write(alloc, &mut self.scene, &creation(alloc, rest)?),
+            "replace" => write(alloc, &mut self.scene, &replacement(alloc, rest)?),
+            "remove" => write(alloc, &mut self.scene, &removal(alloc, rest)?),
+            "together" => transact(alloc, &mut self.scene, rest),
+            "cut" | "compact" => operate(alloc, &mut self.scene, verb, number(rest)),
+            "floor" | "end" | "at" => look(alloc, &mut self.scene, verb, number(rest)),
+            "pump" => pump(alloc, &mut self.scene, number(rest)),
+            "tick" => {
+                self.scene.tick(number(rest));
+                Ok(format!(in alloc; "ok")?)
+            }
+            _ => watching(alloc, self, verb, rest),
         }
-        _ => watching(alloc, stage, verb, rest),
     }
 }
 
@@ -38,7 +36,7 @@ fn watching<N: LogFacts>(
     verb: &str,
     rest: &str,
 ) -> Result<String, Memory> {
-    let (first, second) = rest.split_once(' ').unwrap_or((rest, ""));
+    let (first, second) = split(rest);
     match verb {
         "open" => open(alloc, stage, number(first), second),
         "take" => take(alloc, stage, number(first)),
@@ -46,11 +44,6 @@ fn watching<N: LogFacts>(
         "close" => close(alloc, stage, number(first)),
         _ => Ok(format!(in alloc; "no such step")?),
     }
-}
-
-/// The number that a word says; 0 where it says none.
-pub fn number(word: &str) -> u64 {
-    word.parse::<u64>().unwrap_or(0)
 }
 
 fn write<N: LogFacts>(

@@ -1,5 +1,6 @@
 //! Answers in words.
-use kube_meta::{Memory, Row};
+use case_rows::row_text;
+use kube_meta::Memory;
 use obj_tree::Snapshot;
 use std::alloc::Global;
 use watch_lane::Line;
@@ -26,11 +27,7 @@ pub fn lines_text(alloc: Global, lines: &[Line]) -> Result<String, Memory> {
 pub fn rows_text(alloc: Global, snapshot: &Snapshot) -> Result<String, Memory> {
     let mut text = String::new(alloc);
     for shown in snapshot.range(None) {
-        text = with_row(alloc, text, shown.row())?;
+        text.push_str(row_text(alloc, shown.row())?.as_str())?;
     }
     Ok(text)
-}
-
-fn with_row(alloc: Global, text: String, row: &Row) -> Result<String, Memory> {
-    Ok(format!(in alloc; "{text}[{} {}]", row.obj.key.name(), row.rev)?)
 }

@@ -1,5 +1,6 @@
 //! Pods, and writes of them.
-use kube_meta::{Fields, Key, Labels, Memory, Obj, Resource, Text};
+use case_rows::{key, object, split};
+use kube_meta::{Fields, Memory, Obj, Resource, Text};
 use std::alloc::Global;
 use up_store::WriteAsk;
 
@@ -28,23 +29,12 @@ pub fn removal(alloc: Global, name: &str) -> Result<WriteAsk, Memory> {
     })
 }
 
-// The names of the scripts are good ones, so all that can be missing is memory.
-fn key(alloc: Global, name: &str) -> Result<Key, Memory> {
-    Key::new(Text::new(alloc, "default")?, Text::new(alloc, name)?).map_err(|_| Memory)
-}
-
 fn pod(alloc: Global, words: &str) -> Result<Obj, Memory> {
-    let (name, node) = words.split_once(' ').unwrap_or((words, ""));
+    let (name, node) = split(words);
     let mut fields = Vec::new(alloc);
     fields.push(Text::new(alloc, node)?)?;
     fields.push(Text::new(alloc, "")?)?;
-    Ok(Obj {
-        key: key(alloc, name)?,
-        labels: Labels::new(alloc),
-        fields: Fields::new(fields),
-        front: Text::new(alloc, "{\"metadata\":{\"resourceVersion\":\"")?,
-        back: Text::new(alloc, "\"}}")?,
-        meta_from: 0,
-        meta_to: 0,
-    })
+    let mut obj = object(alloc, key(alloc, name)?)?;
+    obj.fields = Fields::new(fields);
+    Ok(obj)
 }

@@ -2,8 +2,8 @@
 
 ghost use Rattle.std.specs.Prelude.{◌≡◌, ◌<◌, IfOk};
 
-use crate::steps::Steps;
-use crate::words::{NO_STEP, number, split, visible, words};
+use crate::words::{NO_STEP, visible, words};
+use case_rows::{Steps, number, split};
 use edge_io::{
     Clock, Failed, Listener, MemNet, MemSink, MemSource, Net, Sink, Source, StepClock, WriteEnd,
 };
@@ -42,11 +42,7 @@ impl Steps for Ends {
                 self.buf = [0u8; 4];
                 words(alloc, "ok")
             }
-            "read" => {
-                let read = self.source.read(&mut self.buf);
-                let buf = visible(alloc, &self.buf)?;
-                Ok(format!(in alloc; "{read:?} {buf}")?)
-            }
+            "read" => read(alloc, &mut self.source, &mut self.buf),
             "sink" => {
                 let (step, fail) = split(rest);
                 self.sink = MemSink::new(size(step), fails(alloc, fail)?);
@@ -107,11 +103,10 @@ fn net(alloc: Global, text: &str) -> Result<MemNet, Memory>
     Ok(MemNet::new(list))
 }
 
-/// What is read of a source.
-fn read(alloc: Global, source: &mut MemSource) -> Result<String, Memory> {
-    let mut buf = [0u8; 4];
-    let read = source.read(&mut buf);
-    let buf = visible(alloc, &buf)?;
+/// What is read of a source, and the buffer then.
+fn read(alloc: Global, source: &mut MemSource, buf: &mut [u8]) -> Result<String, Memory> {
+    let read = source.read(buf);
+    let buf = visible(alloc, buf)?;
     Ok(format!(in alloc; "{read:?} {buf}")?)
 }
 
@@ -121,7 +116,7 @@ fn dial(alloc: Global, text: &str) -> Result<String, Memory> {
     let Ok((mut source, sink)) = net.dial(8001) else {
         return words(alloc, "no peer");
     };
-    let told = read(alloc, &mut source);
+    let told = read(alloc, &mut source, &mut [0u8; 4]);
     net.hang_up(source, sink);
     told
 }
@@ -133,7 +128,7 @@ fn accept(alloc: Global, text: &str) -> Result<String, Memory> {
         return words(alloc, "no listener");
     };
     let told = match listener.accept() {
-        Ok(Some((mut source, _sink, _clock))) => read(alloc, &mut source),
+        Ok(Some((mut source, _sink, _clock))) => read(alloc, &mut source, &mut [0u8; 4]),
         _ => words(alloc, "no connection"),
     };
     net.shut(listener);

@@ -4,8 +4,8 @@ ghost use Rattle.std.specs.Prelude.{◌≤◌, ◌<◌, ◌^◌, length};
 
 use crate::faults::{Writing, fails};
 use crate::replies::length_of;
-use crate::steps::Steps;
-use crate::words::{NO_STEP, number, split, visible, words};
+use crate::words::{NO_STEP, visible, words};
+use case_rows::{Steps, number, split};
 use edge_io::{MemSink, Sink};
 use kube_meta::Memory;
 use std::alloc::Global;

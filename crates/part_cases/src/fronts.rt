@@ -2,8 +2,8 @@
 
 ghost use Rattle.std.specs.Prelude.{◌≡◌};
 
-use crate::steps::Steps;
-use crate::words::{NO_STEP, number, split, words};
+use crate::words::{NO_STEP, words};
+use case_rows::{Steps, number, split};
 use kube_meta::Memory;
 use rev_front::{Blank, Entry, Front, LogName, Pen, blank, start};
 use std::alloc::Global;

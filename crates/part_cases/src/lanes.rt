@@ -1,8 +1,7 @@
 //! Which lanes a change is told to, by the node of a pod.
 
-use crate::steps::Steps;
-use crate::things::key;
-use crate::words::{NO_STEP, number, numbers, split, words};
+use crate::words::{NO_STEP, numbers, words};
+use case_rows::{Steps, key, number, split};
 use kube_meta::{Fields, Labels, Memory, Obj, Resource, Text};
 use select_all::Selection;
 use std::alloc::Global;

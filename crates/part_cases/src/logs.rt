@@ -1,8 +1,7 @@
 //! The states that a log leaves.
 
-use crate::steps::Steps;
-use crate::things::{key, object};
-use crate::words::{NO_STEP, number, split, words};
+use crate::words::{NO_STEP, words};
+use case_rows::{Steps, key, number, object, row_text, split};
 use kube_meta::{Memory, Resource, Row};
 use rev_log::{Change, Revision, state};
 use std::alloc::Global;
@@ -78,7 +77,7 @@ fn shown(alloc: Global, base: &[Row], log: &[Revision], text: &str) -> Result<St
     };
     let mut told = String::new(alloc);
     for row in &state(alloc, base, log, resource, number(at))? {
-        told = format!(in alloc; "{told}[{} {}]", row.obj.key.name(), row.rev)?;
+        told.push_str(row_text(alloc, row)?.as_str())?;
     }
     if told.is_empty() {
         return words(alloc, "nothing");

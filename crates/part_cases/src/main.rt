@@ -19,14 +19,13 @@ mod objects;
 mod pumps;
 mod replies;
 mod rings;
-mod rows;
 mod scenes;
-mod steps;
 mod systems;
 mod things;
 mod trees;
 mod words;
 
+use case_rows::{Lines, Tally, number, run_rows};
 use ends::Ends;
 use frames::Frames;
 use fronts::{Fronts, Note, two_threads};
@@ -41,15 +40,10 @@ use std::alloc::Global;
 use std::marker::Brand;
 use std::rt::Runtime;
 use std::{env, fs, io};
-use steps::{Lines, Tally, run_rows};
 use trees::Trees;
-use words::number;
 
 fn main(rt: HostRuntime) -> io::Result<()> {
-    let mut tally = Tally {
-        rows: 0,
-        mismatches: 0,
-    };
+    let mut tally = Tally::new();
     for file in env::args(&rt)?.skip(1) {
         let text = fs::read_to_string(&rt, file.as_str())?;
         let lines = Lines {

@@ -1,8 +1,7 @@
 //! Labels, listed fields, keys, texts, and objects as rows.
 
-use crate::steps::Steps;
-use crate::things::{key, object};
-use crate::words::{NO_STEP, number, split, visible, words};
+use crate::words::{NO_STEP, visible, words};
+use case_rows::{Steps, key, number, object, split};
 use encode_once::Shown;
 use kube_meta::{Fields, Key, Labels, Memory, Row, Text};
 use std::alloc::Global;
@@ -29,25 +28,13 @@ impl Steps for Objects {
     fn answer(&mut self, alloc: Global, step: &str) -> Result<String, Memory> {
         let (verb, rest) = split(step);
         match verb {
-            "labels" => {
-                let is_empty = if self.labels.is_empty() {
-                    ", empty"
-                } else {
-                    ""
-                };
-                Ok(format!(in alloc; "{}{is_empty}", self.labels.len())?)
-            }
+            "labels" => counted(alloc, self.labels.len(), self.labels.is_empty()),
             "put" => put(alloc, &mut self.labels, rest),
             "get" => found(alloc, self.labels.get(rest)),
             "label" => label(alloc, &self.labels, number(rest)),
             "fields" => {
                 self.fields = values(alloc, rest)?;
-                let is_empty = if self.fields.is_empty() {
-                    ", empty"
-                } else {
-                    ""
-                };
-                Ok(format!(in alloc; "{}{is_empty}", self.fields.len())?)
+                counted(alloc, self.fields.len(), self.fields.is_empty())
             }
             "field" => found(alloc, self.fields.get(number(rest) as usize)),
             "texts" => texts(alloc, rest),
@@ -57,6 +44,11 @@ impl Steps for Objects {
             _ => words(alloc, NO_STEP),
         }
     }
+}
+
+fn counted(alloc: Global, count: usize, is_empty: bool) -> Result<String, Memory> {
+    let empty = if is_empty { ", empty" } else { "" };
+    Ok(format!(in alloc; "{count}{empty}")?)
 }
 
 fn found(alloc: Global, text: Option<&Text>) -> Result<String, Memory> {
@@ -125,29 +117,25 @@ fn copy(alloc: Global, text: &str) -> Result<String, Memory> {
     Ok(format!(in alloc; "{} / {}, its copy is {same}", key.ns(), key.name())?)
 }
 
-/// What the copy of a row is.
-fn row(alloc: Global, text: &str) -> Result<String, Memory> {
+/// The row of a name and a revision.
+fn row_of(alloc: Global, text: &str) -> Result<Row, Memory> {
     let (name, rev) = split(text);
     let obj = Arc::new(alloc, object(alloc, key(alloc, name)?)?)?;
-    let row = Row {
+    Ok(Row {
         obj,
         rev: number(rev),
-    };
-    let copy = row.clone()?;
+    })
+}
+
+/// What the copy of a row is.
+fn row(alloc: Global, text: &str) -> Result<String, Memory> {
+    let copy = row_of(alloc, text)?.clone()?;
     Ok(format!(in alloc; "{} {}", copy.obj.key.as_str(), copy.rev)?)
 }
 
 /// The parts in which a row is shown.
 fn parts(alloc: Global, text: &str) -> Result<String, Memory> {
-    let (name, rev) = split(text);
-    let obj = Arc::new(alloc, object(alloc, key(alloc, name)?)?)?;
-    let shown = Shown::new(
-        alloc,
-        Row {
-            obj,
-            rev: number(rev),
-        },
-    )?;
+    let shown = Shown::new(alloc, row_of(alloc, text)?)?;
     let (front, back) = (
         visible(alloc, shown.front())?,
         visible(alloc, shown.back())?,

@@ -2,7 +2,7 @@
 
 ghost use Rattle.std.specs.Prelude.{◌≡◌, IfOk};
 
-use crate::things::key;
+use case_rows::key;
 use kube_meta::{Memory, Resource, Row};
 use reflect_core::Reflector;
 use rev_front::{Blank, Pen, blank, start};

@@ -3,8 +3,8 @@
 ghost use Rattle.std.specs.Prelude.{◌≤◌, ◌<◌, ◌^◌};
 
 use crate::faults::{Writing, fails};
-use crate::steps::Steps;
-use crate::words::{NO_STEP, number, split, visible, words};
+use crate::words::{NO_STEP, visible, words};
+use case_rows::{Steps, number, split};
 use edge_io::{MemSink, Sink};
 use http_send::{
     SendNo, begin_chunk, begin_reply, begin_stream, end_chunk, end_stream, part, send_chunk,

@@ -5,9 +5,9 @@ ghost use Rattle.std.specs.Cmp.Lexicographic.{slice_cmp};
 ghost use Rattle.std.specs.Ordering.{nat_cmp};
 ghost use Rattle.std.specs.declared.cmp.Ordering.TheVariants.{Less};
 
-use crate::steps::Steps;
-use crate::things::{key, revision, shown};
-use crate::words::{NO_STEP, number, numbers, one, split, words};
+use crate::things::{revision, shown};
+use crate::words::{NO_STEP, numbers, one, words};
+use case_rows::{Steps, key, number, split};
 use event_ring::{Event, Ring};
 use kube_meta::{Key, Memory};
 use std::alloc::Global;

@@ -1,9 +1,9 @@
 //! What is told by one line of code each.
 
 use crate::pumps::pump;
-use crate::steps::Steps;
 use crate::words::{NO_STEP, words};
 use crate::{caches, laws, systems};
+use case_rows::Steps;
 use kube_meta::Memory;
 use std::alloc::Global;
 use up_api::Settings;

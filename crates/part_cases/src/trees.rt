@@ -1,8 +1,8 @@
 //! Trees of objects, and snapshots of them. The objects are `p-1000` and so on, whose order is that of their numbers.
 
-use crate::steps::Steps;
-use crate::things::{key, revision, shown};
-use crate::words::{NO_STEP, number, numbers, one, split, words};
+use crate::things::{revision, shown};
+use crate::words::{NO_STEP, numbers, one, words};
+use case_rows::{Steps, key, number, split};
 use encode_once::Shown;
 use kube_meta::{Key, Memory};
 use obj_tree::{Rows, Snapshot, Tree};

@@ -6,16 +6,6 @@ use std::alloc::Global;
 /// The answer to what is no step of a file.
 pub const NO_STEP: &str = "(this file has no such step)";
 
-/// The first word, and what stands behind the blank after it.
-pub fn split(text: &str) -> (&str, &str) {
-    text.split_once(' ').unwrap_or((text, ""))
-}
-
-/// The number that a word says; 0 where it says none.
-pub fn number(word: &str) -> u64 {
-    word.parse::<u64>().unwrap_or(0)
-}
-
 /// These words as an answer.
 pub fn words(alloc: Global, text: &str) -> Result<String, Memory> {
     String::from_str(alloc, text)

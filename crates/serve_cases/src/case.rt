@@ -1,6 +1,7 @@
 //! How a case is written, line by line.
 
 use crate::ends::Sign;
+use case_rows::{plain, split};
 use std::alloc::{AllocError, Global};
 
 /// More bytes than a connection has.
@@ -52,7 +53,7 @@ impl Case {
 
     /// Takes in a line, and answers whether it is one of a case.
     pub fn take_line(&mut self, line: &str) -> Result<bool, AllocError> {
-        let (word, text) = line.split_once(' ').unwrap_or((line, ""));
+        let (word, text) = split(line);
         match word {
             "workers" => self.workers = text.parse::<usize>().unwrap_or(0),
             "connections" => self.connections = text.parse::<u64>().unwrap_or(0),
@@ -96,8 +97,12 @@ impl Plan {
             "lasts" => self.lasts.push(read_sign(alloc, text)?)?,
             "late" => self.late.extend_from_slice(text.as_bytes())?,
             "stop" => self.stop.extend_from_slice(text.as_bytes())?,
-            "bytes" => put_plain(&mut self.bytes, text)?,
-            "wants" => put_plain(&mut self.wanted, text)?,
+            "bytes" => self
+                .bytes
+                .extend_from_slice(plain(alloc, text)?.as_bytes())?,
+            "wants" => self
+                .wanted
+                .extend_from_slice(plain(alloc, text)?.as_bytes())?,
             _ => return self.take_cut(alloc, word, text),
         }
         Ok(true)
@@ -105,7 +110,7 @@ impl Plan {
 
     // Takes in a line that says where the connection is cut, or stops reading.
     fn take_cut(&mut self, alloc: Global, word: &str, text: &str) -> Result<bool, AllocError> {
-        let (number, sign) = text.split_once(' ').unwrap_or((text, ""));
+        let (number, sign) = split(text);
         let Ok(bytes) = number.parse::<u64>() else {
             return Ok(false);
         };
@@ -124,34 +129,9 @@ impl Plan {
 
 // The number of a connection, from 1, and a text.
 fn read_sign(alloc: Global, text: &str) -> Result<Sign, AllocError> {
-    let (number, text) = text.split_once(' ').unwrap_or((text, ""));
+    let (number, text) = split(text);
     Ok(Sign {
         number: number.parse::<usize>().unwrap_or(0).saturating_sub(1),
         text: Vec::from_slice(alloc, text.as_bytes())?,
     })
-}
-
-// Puts bytes as they are; `<CRLF>` and `<LF>` stand for these.
-fn put_plain(bytes: &mut Vec<u8>, text: &str) -> Result<(), AllocError> {
-    let mut is_first = true;
-    for part in text.split('<') {
-        if is_first {
-            bytes.extend_from_slice(part.as_bytes())?;
-            is_first = false;
-        } else {
-            put_named(bytes, part)?;
-        }
-    }
-    Ok(())
-}
-
-// Puts what stands behind a `<`.
-fn put_named(bytes: &mut Vec<u8>, part: &str) -> Result<(), AllocError> {
-    let (name, behind) = part.split_once('>').unwrap_or((part, ""));
-    match name {
-        "CRLF" => bytes.extend_from_slice(b"\r\n")?,
-        "LF" => bytes.extend_from_slice(b"\n")?,
-        _ => bytes.extend_from_slice(name.as_bytes())?,
-    }
-    bytes.extend_from_slice(behind.as_bytes())
 }

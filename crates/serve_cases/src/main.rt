@@ -10,38 +10,20 @@ mod ends;
 mod serving;
 
 use case::{Case, Plan};
+use case_rows::{Tally, says_nothing};
 use serving::{Host, Outcome, serve_case};
 use std::alloc::{AllocError, Global};
 use std::rt::Runtime;
 use std::{env, fs, io};
 
-/// How many servers there were, and how many came out otherwise.
-#[derive(Clone, Copy)]
-struct Tally {
-    cases: u64,
-    mismatches: u64,
-}
-
-impl Tally {
-    fn count(&mut self, met: bool) {
-        self.cases = self.cases.saturating_add(1);
-        if !met {
-            self.mismatches = self.mismatches.saturating_add(1);
-        }
-    }
-}
-
 fn main(rt: HostRuntime) -> io::Result<()> {
-    let mut tally = Tally {
-        cases: 0,
-        mismatches: 0,
-    };
+    let mut tally = Tally::new();
     for file in env::args(&rt)?.skip(1) {
         run_file(rt, rt.alloc(), file.as_str(), &mut tally)?;
     }
     println!(rt;
         "{} servers, {} come out otherwise",
-        tally.cases, tally.mismatches
+        tally.rows, tally.mismatches
     )
 }
 
@@ -68,7 +50,7 @@ fn run_file<R: Runtime + Host>(
 
 /// Whether a line is one of the case, or says nothing.
 fn take_line(case: &mut Option<Case>, line: &str) -> Result<bool, AllocError> {
-    if line.is_empty() || line.starts_with('#') {
+    if says_nothing(line) {
         return Ok(true);
     }
     match case {

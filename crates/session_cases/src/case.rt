@@ -5,6 +5,7 @@ use crate::kind::Kind;
 use crate::load::Load;
 use crate::options::Options;
 use crate::request::Requests;
+use case_rows::split;
 use std::alloc::{AllocError, Global};
 
 /// What a client sends, how the server is set, and what is wanted to come back.
@@ -66,7 +67,7 @@ impl Case {
 
     /// Takes in a line, and answers whether it is one of a case.
     pub fn take_line(&mut self, line: &str) -> Result<bool, AllocError> {
-        let (word, text) = line.split_once(' ').unwrap_or((line, ""));
+        let (word, text) = split(line);
         if self.set(word, text) {
             return Ok(true);
         }

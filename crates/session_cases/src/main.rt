@@ -12,7 +12,6 @@ mod answer;
 mod case;
 mod clock;
 mod difference;
-mod drawing;
 mod ends;
 mod faults;
 mod kind;
@@ -27,6 +26,7 @@ mod wanted;
 
 use alike::{Amiss, look};
 use case::Case;
+use case_rows::{Tally, says_nothing};
 use kind::Kind;
 use std::alloc::{AllocError, Global};
 use std::env::Env;
@@ -34,22 +34,6 @@ use std::rt::Runtime;
 use std::sync::Wait;
 use std::{env, fs, io};
 use trying::comes_out;
-
-/// How many cases were served, and how many came out otherwise.
-#[derive(Clone, Copy)]
-struct Tally {
-    cases: u64,
-    mismatches: u64,
-}
-
-impl Tally {
-    fn count(&mut self, met: bool) {
-        self.cases = self.cases.saturating_add(1);
-        if !met {
-            self.mismatches = self.mismatches.saturating_add(1);
-        }
-    }
-}
 
 /// How many drawn sessions are compared.
 const DRAWN: u64 = 2_000;
@@ -67,17 +51,14 @@ fn run_files<R: Runtime + Env + Wait + Copy + Drop>(
     alloc: Global,
     kind: Kind,
 ) -> io::Result<()> {
-    let mut tally = Tally {
-        cases: 0,
-        mismatches: 0,
-    };
+    let mut tally = Tally::new();
     for file in env::args(&rt)?.skip(1) {
         run_file(rt, alloc, kind, file.as_str(), &mut tally)?;
     }
     println!(rt;
         "{}: {} cases, {} come out otherwise",
         kind.word(),
-        tally.cases,
+        tally.rows,
         tally.mismatches
     )
 }
@@ -106,7 +87,7 @@ fn run_file<R: Runtime + Wait + Copy + Drop>(
 
 /// Whether a line is one of the case, or says nothing.
 fn take_line(case: &mut Option<Case>, line: &str) -> Result<bool, AllocError> {
-    if line.is_empty() || line.starts_with('#') {
+    if says_nothing(line) {
         return Ok(true);
     }
     match case {

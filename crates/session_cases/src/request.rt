@@ -1,5 +1,6 @@
 //! What a client sends, line by line.
 
+use case_rows::{plain, split};
 use itoa::Buffer;
 use std::alloc::{AllocError, Global};
 
@@ -9,6 +10,7 @@ pub struct Requests {
     pub bytes: Vec<u8>,
     // The fields of the next request.
     fields: String,
+    alloc: Global,
 }
 
 impl Requests {
@@ -17,6 +19,7 @@ impl Requests {
         Requests {
             bytes: Vec::new(alloc),
             fields: String::new(alloc),
+            alloc,
         }
     }
 
@@ -25,7 +28,9 @@ impl Requests {
         match word {
             "field" => self.put_field(text)?,
             "request" => self.put_request(text)?,
-            "bytes" => put_plain(&mut self.bytes, text)?,
+            "bytes" => self
+                .bytes
+                .extend_from_slice(plain(self.alloc, text)?.as_bytes())?,
             _ => return Ok(false),
         }
         Ok(true)
@@ -39,8 +44,8 @@ impl Requests {
 
     // A request: its method, its target, and its body, where it has one. A POST and a PUT tell the body's length.
     fn put_request(&mut self, text: &str) -> Result<(), AllocError> {
-        let (method, rest) = text.split_once(' ').unwrap_or((text, ""));
-        let (target, body) = rest.split_once(' ').unwrap_or((rest, ""));
+        let (method, rest) = split(text);
+        let (target, body) = split(rest);
         self.put(&[method, " ", target, " HTTP/1.1\r\nHost: x\r\n"])?;
         self.bytes.extend_from_slice(self.fields.as_bytes())?;
         self.fields.clear();
@@ -63,43 +68,4 @@ impl Requests {
         }
         Ok(())
     }
-}
-
-// Puts bytes as they are; `<CRLF>`, `<CR>` and `<LF>` stand for these, and `<64 of ab>` for `ab` 64 times.
-fn put_plain(bytes: &mut Vec<u8>, text: &str) -> Result<(), AllocError> {
-    let mut is_first = true;
-    for part in text.split('<') {
-        if is_first {
-            bytes.extend_from_slice(part.as_bytes())?;
-            is_first = false;
-        } else {
-            put_named(bytes, part)?;
-        }
-    }
-    Ok(())
-}
-
-// Puts what stands behind a `<`.
-fn put_named(bytes: &mut Vec<u8>, part: &str) -> Result<(), AllocError> {
-    let Some((name, behind)) = part.split_once('>') else {
-        bytes.extend_from_slice(b"<")?;
-        return bytes.extend_from_slice(part.as_bytes());
-    };
-    put_times(bytes, name)?;
-    bytes.extend_from_slice(behind.as_bytes())
-}
-
-// Puts a line end by its name, or a text so many times.
-fn put_times(bytes: &mut Vec<u8>, name: &str) -> Result<(), AllocError> {
-    match name {
-        "CRLF" => return bytes.extend_from_slice(b"\r\n"),
-        "CR" => return bytes.extend_from_slice(b"\r"),
-        "LF" => return bytes.extend_from_slice(b"\n"),
-        _ => {}
-    }
-    let (count, piece) = name.split_once(" of ").unwrap_or(("0", ""));
-    for _ in 0..count.parse::<u32>().unwrap_or(0) {
-        bytes.extend_from_slice(piece.as_bytes())?;
-    }
-    Ok(())
 }

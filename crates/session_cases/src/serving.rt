@@ -94,7 +94,7 @@ fn serve_local<N: LogFacts>(
 {
     let mut client: LocalClient<N> = LocalClient::new(alloc, made, settings)?;
     let end = serve_with(alloc, &mut client, settings, ends);
-    drop(client);
+    client.close();
     Ok(end)
 }
 
@@ -115,7 +115,7 @@ fn serve_shared<N: LogFacts, R: Wait + Copy + Drop>(
     let store: Store<N> = Store::new(alloc, made, settings.history)?;
     let cacher = Cacher::new(rt, alloc, StoreDoor::new(rt, store)?, settings)?;
     let end = serve_one_of(alloc, &cacher, settings, ends);
-    drop(cacher);
+    cacher.close();
     end
 }
 

@@ -5,8 +5,8 @@
 //! What a watch may be told otherwise is left out: none is from a revision below a compaction, or behind which the
 //! window doesn't reach, and where one is told of changes it has no bookmarks, which come at turns without any.
 
-use crate::drawing::Draws;
 use base64::engine::general_purpose::URL_SAFE_NO_PAD;
+use case_rows::Draws;
 use itoa::Buffer;
 use std::alloc::{AllocError, Global};
 
@@ -93,6 +93,18 @@ impl Session {
         self.draws.below(most).saturating_add(1)
     }
 
+    /// One digit below `most`.
+    fn digit(&mut self, most: u64) -> &'static [u8] {
+        match self.draws.below(most) {
+            0 => b"0",
+            1 => b"1",
+            2 => b"2",
+            3 => b"3",
+            4 => b"4",
+            _ => b"5",
+        }
+    }
+
     /// The path of a collection: that of pods, and in one of eight that of config maps.
     fn place(&mut self) -> &'static [u8] {
         if self.draws.below(8) == 0 {
@@ -105,11 +117,7 @@ impl Session {
     /// A create.
     fn create(&mut self) -> Result<(), AllocError> {
         let place = self.place();
-        let (name, group, node) = (
-            self.draws.digit(6),
-            self.draws.digit(3),
-            self.draws.digit(2),
-        );
+        let (name, group, node) = (self.digit(6), self.digit(3), self.digit(2));
         self.put(
             b"POST",
             &[place],
@@ -128,7 +136,7 @@ impl Session {
     /// A replacement, in one of four that of one revision alone.
     fn replace(&mut self) -> Result<(), AllocError> {
         let place = self.place();
-        let (name, group) = (self.draws.digit(6), self.draws.digit(3));
+        let (name, group) = (self.digit(6), self.digit(3));
         let revision = self.revision();
         let mut digits = Buffer::new();
         let digits = digits.format(revision).as_bytes();
@@ -154,13 +162,13 @@ impl Session {
 
     /// A removal.
     fn remove(&mut self) -> Result<(), AllocError> {
-        let (place, name) = (self.place(), self.draws.digit(6));
+        let (place, name) = (self.place(), self.digit(6));
         self.put(b"DELETE", &[place, b"/p-", name], &[])
     }
 
     /// A get of an object that isn't older than a revision.
     fn get(&mut self) -> Result<(), AllocError> {
-        let (place, name) = (self.place(), self.draws.digit(6));
+        let (place, name) = (self.place(), self.digit(6));
         let mut digits = Buffer::new();
         let revision = digits.format(self.revision()).as_bytes();
         self.put(
@@ -172,7 +180,7 @@ impl Session {
 
     /// A list: by labels, by fields, or its first page.
     fn list(&mut self) -> Result<(), AllocError> {
-        let (place, value) = (self.place(), self.draws.digit(3));
+        let (place, value) = (self.place(), self.digit(3));
         let query: &'static [u8] = match self.draws.below(3) {
             0 => b"?labelSelector=g%3D",
             1 => b"?labelSelector=g+notin+%280%2C1%29&fieldSelector=metadata.name%21%3Dp-",
@@ -198,7 +206,7 @@ impl Session {
         let mut digits = Buffer::new();
         let revision = digits.format(self.revision()).as_bytes();
         let mut lines = Vec::new(self.alloc);
-        let name = self.draws.digit(6);
+        let name = self.digit(6);
         put_parts(
             &mut lines,
             &[
@@ -222,7 +230,7 @@ impl Session {
 
     /// A transaction: a create and a removal of pods.
     fn transact(&mut self) -> Result<(), AllocError> {
-        let (name, removed) = (self.draws.digit(6), self.draws.digit(6));
+        let (name, removed) = (self.digit(6), self.digit(6));
         self.put(
             b"POST",
             &[b"/watchcache/transaction"],

@@ -4,8 +4,7 @@ ghost use Rattle.list_rules.specs.Options.{IsNeverExact};
 ghost use Rattle.std.specs.Prelude.{IfSome, IsTrue};
 ghost use Rattle.watch_rules.specs.Starts.{is_never_exact};
 
-use crate::pods::key;
-use crate::rows::number;
+use case_rows::{key, number};
 use kube_meta::{Memory, Resource, Text};
 use list_rules::{GetAsk, ListAsk};
 use select_all::{Meaning, Selection};

@@ -9,10 +9,8 @@ ghost use Rattle.std.specs.Prelude.{◌≡◌, [], false};
 ghost use Rattle.up_api.specs.Settings.{AreInRange};
 
 mod asks;
-mod dice;
 mod play;
 mod pods;
-mod rows;
 mod seat;
 mod start;
 mod steps;
@@ -20,11 +18,11 @@ mod storm;
 mod texts;
 mod told;
 
+use case_rows::{Lines, Tally};
 use kube_meta::Memory;
 use play::{Cast, Stage, play};
 use rev_front::{Blank, blank};
 use rev_log::Revision;
-use rows::{Script, Tally};
 use shared_client::Cacher;
 use start::Start;
 use std::alloc::Global;
@@ -58,7 +56,12 @@ fn run_file<R: Host>(rt: R, alloc: Global, file: &str, tally: &mut Tally) -> io:
         .unwrap_or((text.as_str(), ""));
     let settings = Start::read(first).settings();
     let made = blank(alloc, 1)?;
-    run_script::<Brand, R>(rt, alloc, made, &settings, Script { file, rows }, tally)
+    let rows = Lines {
+        file,
+        first: 2,
+        text: rows,
+    };
+    run_script::<Brand, R>(rt, alloc, made, &settings, rows, tally)
 }
 
 /// Runs the rows of a script, on a store, a second door to it, and caches of it.
@@ -67,7 +70,7 @@ fn run_script<N: LogFacts + Send + Sync, R: Host>(
     alloc: Global,
     made: Blank<Revision>,
     settings: &Settings,
-    script: Script<'_>,
+    rows: Lines<'_>,
     tally: &mut Tally,
 ) -> io::Result<()>
     requires name { made ≡ N.log }
@@ -85,7 +88,7 @@ fn run_script<N: LogFacts + Send + Sync, R: Host>(
         noted: door.reads(),
     };
     let mut cast = Cast::new(alloc);
-    play(&stage, &mut cast, script, tally)
+    play(&stage, &mut cast, rows, tally)
 }
 
 /// The caches of a new store, and a second door to it.

@@ -1,10 +1,10 @@
 //! A script as it is played: its store and caches, its clients, and its rows.
 
 use crate::Host;
-use crate::rows::{Row, Script, Tally, number};
 use crate::seat::Seat;
-use crate::steps::{answer, halves};
+use crate::steps::answer;
 use crate::storm::{Storm, weather};
+use case_rows::{Lines, NO_ROW, Row, Tally, meets, number, split};
 use client_api::Client;
 use kube_meta::Memory;
 use shared_client::{Cacher, SharedClient};
@@ -49,16 +49,16 @@ impl<C: Client> Cast<C> {
 pub fn play<'a, N: LogFacts + Send + Sync, R: Host>(
     stage: &Stage<'a, N, R>,
     cast: &mut Cast<SharedClient<'a, N, R>>,
-    script: Script<'_>,
+    rows: Lines<'_>,
     tally: &mut Tally,
 ) -> io::Result<()> {
-    let mut line_number = 1u64;
-    for line in script.rows.lines() {
-        line_number = line_number.saturating_add(1);
-        if let Some(row) = Row::of_line(line) {
-            let met = play_row(stage, cast, row, (script.file, line_number))?;
+    let mut number = rows.first;
+    for line in rows.text.lines() {
+        if let Some(row) = Row::of_line(line, NO_ROW) {
+            let met = play_row(stage, cast, row, (rows.file, number))?;
             tally.count(met);
         }
+        number = number.saturating_add(1);
     }
     Ok(())
 }
@@ -70,18 +70,30 @@ fn play_row<'a, N: LogFacts + Send + Sync, R: Host>(
     row: Row<'_>,
     place: (&str, u64),
 ) -> io::Result<bool> {
-    for time in 0..row.times {
-        let step = numbered(stage.alloc, row.step, time.saturating_add(1))?;
+    let (times, step) = repeated(row.step);
+    for time in 0..times {
+        let step = numbered(stage.alloc, step, time.saturating_add(1))?;
         let answer = answer_to(stage, cast, step.as_str())?;
-        if answer.as_str() != row.wanted {
-            let (name, number) = place;
-            println!(stage.rt; "{name}:{number}: {}", step.as_str())?;
-            println!(stage.rt; "    wanted: {}", row.wanted)?;
-            println!(stage.rt; "    answer: {}", answer.as_str())?;
+        let row = Row {
+            step: step.as_str(),
+            wanted: row.wanted,
+        };
+        if !meets(&stage.rt, place, row, answer.as_str())? {
             return Ok(false);
         }
     }
     Ok(true)
+}
+
+// How many times a step is done: `times N STEP` says it, and else it is done once.
+fn repeated(step: &str) -> (u64, &str) {
+    match step.strip_prefix("times ") {
+        Some(rest) => {
+            let (count, step) = split(rest);
+            (number(count).clamp(1, 10_000), step)
+        }
+        None => (1, step),
+    }
 }
 
 // The step with the number of the time in place of each `*`.
@@ -105,7 +117,7 @@ fn answer_to<'a, N: LogFacts + Send + Sync, R: Host>(
     cast: &mut Cast<SharedClient<'a, N, R>>,
     step: &str,
 ) -> Result<String, Memory> {
-    let (word, rest) = halves(step);
+    let (word, rest) = split(step);
     match word {
         "reads" => reads(stage),
         "pump" => pump(stage),
@@ -148,12 +160,12 @@ fn pump<N: LogFacts, R: Host>(stage: &Stage<'_, N, R>) -> Result<String, Memory>
     Ok(format!(in stage.alloc; "ok")?)
 }
 
-// A storm: the seed of its dice, and how many writes each writer asks for.
+// A storm: the seed of its draws, and how many writes each writer asks for.
 fn storm<N: LogFacts + Send + Sync, R: Host>(
     stage: &Stage<'_, N, R>,
     words: &str,
 ) -> Result<String, Memory> {
-    let (seed, writes) = halves(words);
+    let (seed, writes) = split(words);
     let storm = Storm {
         seed: number(seed),
         writes: number(writes),

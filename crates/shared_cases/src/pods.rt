@@ -1,7 +1,7 @@
 //! Small pods, writes of them, and selections by their labels.
 
-use crate::dice::Dice;
-use kube_meta::{Fields, Key, Labels, Memory, Obj, Resource, Text};
+use case_rows::{Draws, key, object};
+use kube_meta::{Fields, Memory, Obj, Resource, Text};
 use select_all::Selection;
 use std::alloc::Global;
 use up_store::WriteAsk;
@@ -34,11 +34,11 @@ pub fn removal(alloc: Global, name: &str) -> Result<WriteAsk, Memory> {
     })
 }
 
-/// A write of some pod: it is created, replaced or removed, as the dice fall.
-pub fn some_write(alloc: Global, dice: &mut Dice) -> Result<WriteAsk, Memory> {
-    let name = format!(in alloc; "p-{}", dice.below(PODS))?;
-    let app = app_of(dice.below(4));
-    match dice.below(5) {
+/// A write of some pod: it is created, replaced or removed, as is drawn.
+pub fn some_write(alloc: Global, draws: &mut Draws) -> Result<WriteAsk, Memory> {
+    let name = format!(in alloc; "p-{}", draws.below(PODS))?;
+    let app = app_of(draws.below(4));
+    match draws.below(5) {
         0 | 1 => Ok(WriteAsk::Create {
             resource: Resource::Pods,
             obj: pod(alloc, name.as_str(), app, "")?,
@@ -77,26 +77,15 @@ pub fn some_selection(alloc: Global, number: usize) -> Result<Selection, Memory>
     Selection::read(alloc, Resource::Pods, None, label, "").map_err(|_| Memory)
 }
 
-/// The key of a pod. The names of the scripts are good ones, so all that can be missing is memory.
-pub fn key(alloc: Global, name: &str) -> Result<Key, Memory> {
-    Key::new(Text::new(alloc, "default")?, Text::new(alloc, name)?).map_err(|_| Memory)
-}
-
 fn pod(alloc: Global, name: &str, app: &str, node: &str) -> Result<Obj, Memory> {
-    let mut labels = Labels::new(alloc);
-    if !app.is_empty() {
-        labels.put(Text::new(alloc, "app")?, Text::new(alloc, app)?)?;
-    }
     let mut fields = Vec::new(alloc);
     fields.push(Text::new(alloc, node)?)?;
     fields.push(Text::new(alloc, "")?)?;
-    Ok(Obj {
-        key: key(alloc, name)?,
-        labels,
-        fields: Fields::new(fields),
-        front: Text::new(alloc, "{\"metadata\":{\"resourceVersion\":\"")?,
-        back: Text::new(alloc, "\"}}")?,
-        meta_from: 0,
-        meta_to: 0,
-    })
+    let mut obj = object(alloc, key(alloc, name)?)?;
+    obj.fields = Fields::new(fields);
+    if !app.is_empty() {
+        obj.labels
+            .put(Text::new(alloc, "app")?, Text::new(alloc, app)?)?;
+    }
+    Ok(obj)
 }

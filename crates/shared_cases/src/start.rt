@@ -2,7 +2,7 @@
 
 ghost use Rattle.up_api.specs.Settings.{AreInRange};
 
-use crate::rows::number;
+use case_rows::number;
 use up_api::Settings;
 
 /// How many settings a line may give.

@@ -2,9 +2,9 @@
 
 use crate::asks::{get_ask, list_ask, meaning, of_fields, start, watch_ask};
 use crate::pods::{creation, removal, replacement};
-use crate::rows::number;
 use crate::seat::Seat;
 use crate::texts::{lines_text, rows_text};
+use case_rows::{number, split};
 use client_api::{Client, Took};
 use kube_meta::Memory;
 use std::alloc::Global;
@@ -15,8 +15,8 @@ const NODES: u64 = 3;
 
 /// The answer of a client to a step, in words.
 pub fn answer<C: Client>(alloc: Global, seat: &mut Seat<C>, step: &str) -> Result<String, Memory> {
-    let (verb, rest) = halves(step);
-    let (first, second) = halves(rest);
+    let (verb, rest) = split(step);
+    let (first, second) = split(rest);
     match verb {
         "create" => write(alloc, seat, &creation(alloc, first, second)?),
         "replace" => write(alloc, seat, &replacement(alloc, first, second)?),
@@ -51,11 +51,6 @@ fn watching<C: Client>(
         }
         _ => Ok(format!(in alloc; "no such step")?),
     }
-}
-
-/// A text's first word, and what comes behind it.
-pub fn halves(text: &str) -> (&str, &str) {
-    text.split_once(' ').unwrap_or((text, ""))
 }
 
 fn write<C: Client>(alloc: Global, seat: &mut Seat<C>, ask: &WriteAsk) -> Result<String, Memory> {

@@ -2,10 +2,10 @@
 
 use crate::Host;
 use crate::asks::list_ask;
-use crate::dice::Dice;
 use crate::pods::{some_selection, some_write};
 use crate::seat::Seat;
 use crate::told::Told;
+use case_rows::Draws;
 use client_api::Client;
 use kube_meta::Memory;
 use select_all::Meaning;
@@ -30,7 +30,7 @@ const OPERATIONS: u64 = 40;
 /// How many turns a watcher takes at most, and how often a part looks whether it may go on.
 const TURNS: u64 = 40_000;
 
-/// A storm: the seed of its dice, and how many writes each writer asks for.
+/// A storm: the seed of its draws, and how many writes each writer asks for.
 #[derive(Clone, Copy)]
 pub struct Storm {
     pub seed: u64,
@@ -155,15 +155,15 @@ fn play_by<C: Client, R: Wait + std::time::Clock + Copy>(
     storm: Storm,
     number: usize,
 ) -> Result<Part, Memory> {
-    let mut dice = Dice::new(storm.seed.wrapping_add(number as u64));
+    let mut draws = Draws::from_seed(storm.seed.wrapping_add(number as u64));
     if number > WRITERS {
-        return watch(rt, alloc, seat, &mut dice, (progress, number));
+        return watch(rt, alloc, seat, &mut draws, (progress, number));
     }
     wait_until(rt, &progress.begun, WATCHERS as u64);
     let part = if number == WRITERS {
-        Ok(operate(rt, seat, &mut dice, storm.writes))
+        Ok(operate(rt, seat, &mut draws, storm.writes))
     } else {
-        write(rt, alloc, seat, &mut dice, storm.writes)
+        write(rt, alloc, seat, &mut draws, storm.writes)
     };
     progress.busy.fetch_sub(1, SeqCst);
     part
@@ -174,20 +174,20 @@ fn write<C: Client, R: Wait + std::time::Clock + Copy>(
     rt: R,
     alloc: Global,
     seat: &mut Seat<C>,
-    dice: &mut Dice,
+    draws: &mut Draws,
     writes: u64,
 ) -> Result<Part, Memory> {
     let mut part = Part::new();
     let mut last = 0u64;
     for _ in 0..writes {
-        if let Ok(written) = seat.write(&some_write(alloc, dice)?) {
+        if let Ok(written) = seat.write(&some_write(alloc, draws)?) {
             part.accepted = part.accepted.saturating_add(1);
             if written.rev <= last {
                 part.wrongs = part.wrongs.saturating_add(1);
             }
             last = written.rev;
         }
-        doze(rt, dice.below(3));
+        doze(rt, draws.below(3));
     }
     Ok(part)
 }
@@ -196,16 +196,16 @@ fn write<C: Client, R: Wait + std::time::Clock + Copy>(
 fn operate<C: Client, R: Wait + std::time::Clock + Copy>(
     rt: R,
     seat: &mut Seat<C>,
-    dice: &mut Dice,
+    draws: &mut Draws,
     writes: u64,
 ) -> Part {
     for _ in 0..OPERATIONS {
-        doze(rt, dice.below(20));
-        let ask = match dice.below(4) {
+        doze(rt, draws.below(20));
+        let ask = match draws.below(4) {
             0 => Operate::Cut,
             1 => Operate::Restart,
             _ => Operate::Compact {
-                at: dice.below(writes.max(1)).saturating_mul(WRITERS as u64),
+                at: draws.below(writes.max(1)).saturating_mul(WRITERS as u64),
             },
         };
         let _ = seat.operate(ask);
@@ -219,7 +219,7 @@ fn watch<C: Client, R: Wait + std::time::Clock + Copy>(
     rt: R,
     alloc: Global,
     seat: &mut Seat<C>,
-    dice: &mut Dice,
+    draws: &mut Draws,
     place: (&Progress, usize),
 ) -> Result<Part, Memory> {
     let (progress, number) = place;
@@ -236,7 +236,7 @@ fn watch<C: Client, R: Wait + std::time::Clock + Copy>(
             if is_last {
                 break;
             }
-            if dice.below(8) == 0 && told.compare(seat)? {
+            if draws.below(8) == 0 && told.compare(seat)? {
                 part.compared = part.compared.saturating_add(1);
             }
             doze(rt, 1);

@@ -1,8 +1,9 @@
 //! Answers in words.
 
+use case_rows::row_text;
 use client_api::Line;
 use encode_once::Shown;
-use kube_meta::{Memory, Row};
+use kube_meta::Memory;
 use std::alloc::Global;
 use std::sync::Arc;
 
@@ -16,10 +17,6 @@ pub fn rows_text(alloc: Global, rows: &[Arc<Shown>]) -> Result<String, Memory> {
         pieces.push(row_text(alloc, shown.row())?)?;
     }
     together(alloc, pieces.as_slice())
-}
-
-fn row_text(alloc: Global, row: &Row) -> Result<String, Memory> {
-    Ok(format!(in alloc; "[{} {}]", row.obj.key.name(), row.rev)?)
 }
 
 /// Each line as `[Added p-1 2]`.

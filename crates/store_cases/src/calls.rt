@@ -2,17 +2,16 @@
 
 ghost use Rattle.std.specs.Prelude.{◌≡◌, true};
 
+use crate::opening::LAST;
 use crate::served::Served;
 use crate::steps::Step;
 use crate::things::{unchanged, write_of, writes_of, written};
+use case_rows::row_text;
 use kube_meta::{Memory, Resource, Row};
 use rev_log::Revision;
 use std::alloc::Global;
 use up_api::{Feed, LogFacts, Pass, UpNo};
 use up_store::{OpNo, Store, Transaction, TxWriteNo, Written};
-
-/// The greatest revision: 2 ^ 62.
-const LAST: u64 = 1 << 62;
 
 /// A store, or a door to one, a pass of it, and a feed that was begun.
 #[derive(Drop)]
@@ -196,7 +195,7 @@ fn refused(alloc: Global, no: UpNo) -> Result<String, Memory> {
 fn rows_text(alloc: Global, rows: &[Row]) -> Result<String, Memory> {
     let mut text = String::new(alloc);
     for row in rows {
-        text = format!(in alloc; "{text}[{} {}]", row.obj.key.name(), row.rev)?;
+        text.push_str(row_text(alloc, row)?.as_str())?;
     }
     Ok(text)
 }

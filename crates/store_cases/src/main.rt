@@ -12,6 +12,7 @@ mod steps;
 mod things;
 
 use calls::{Client, answer, hear};
+use case_rows::Tally;
 use kube_meta::{Memory, Row};
 use opening::{Kind, Script};
 use rev_front::{Blank, blank};
@@ -28,34 +29,15 @@ use things::row;
 use up_api::LogFacts;
 use up_store::{ScriptedStore, Store, StoreDoor};
 
-/// How many steps were made, and how many had another answer.
-#[derive(Clone, Copy)]
-struct Tally {
-    steps: u64,
-    mismatches: u64,
-}
-
-impl Tally {
-    fn count(&mut self, met: bool) {
-        self.steps = self.steps.saturating_add(1);
-        if !met {
-            self.mismatches = self.mismatches.saturating_add(1);
-        }
-    }
-}
-
 fn main(rt: HostRuntime) -> io::Result<()> {
-    let mut tally = Tally {
-        steps: 0,
-        mismatches: 0,
-    };
+    let mut tally = Tally::new();
     for file in env::args(&rt)?.skip(1) {
         let text = fs::read_to_string(&rt, file.as_str())?;
         for script in text.as_str().split("\n\n") {
             run_script(&rt, rt.alloc(), script, &mut tally)?;
         }
     }
-    println!(rt; "{} steps, {} mismatches", tally.steps, tally.mismatches)
+    println!(rt; "{} steps, {} mismatches", tally.rows, tally.mismatches)
 }
 
 /// Opens what the script's first line says, and makes its steps.

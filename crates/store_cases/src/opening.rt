@@ -2,12 +2,12 @@
 
 ghost use Rattle.std.specs.Prelude.{◌≡◌, ◌≤◌, ◌^◌};
 
-use crate::steps::split;
+use case_rows::split;
 use kube_meta::Memory;
 use std::alloc::Global;
 
 /// The greatest revision: 2 ^ 62.
-const LAST: u64 = 1 << 62;
+pub const LAST: u64 = 1 << 62;
 
 /// What is opened.
 #[derive(Clone, Copy, Debug)]

@@ -1,5 +1,6 @@
 //! How a step of a script is written.
 
+use case_rows::split;
 use kube_meta::Resource;
 
 /// One step. `named` is an object's name, with its resource's plural and a `/` before it where it is no pod.
@@ -45,11 +46,6 @@ impl<'a> Step<'a> {
             _ => None,
         }
     }
-}
-
-/// The first word, and what stands behind the blank after it.
-pub fn split(text: &str) -> (&str, &str) {
-    text.split_once(' ').unwrap_or((text, ""))
 }
 
 /// The resource and the name that are written so.

@@ -3,8 +3,9 @@
 ghost use Rattle.std.specs.Prelude.{◌≡◌, [], All, IfOk};
 ghost use Rattle.kube_meta.specs.declared.resources.Resource.TheVariants.{Pods};
 
-use crate::steps::{named, split};
-use kube_meta::{Fields, Key, Labels, Memory, Obj, Resource, Row, Text};
+use crate::steps::named;
+use case_rows::{key, object, split};
+use kube_meta::{Memory, Obj, Resource, Row};
 use rev_log::{Change, Revision};
 use std::alloc::Global;
 use std::sync::Arc;
@@ -20,11 +21,11 @@ pub fn write_of(alloc: Global, text: &str) -> Result<Option<WriteAsk>, Memory> {
     Ok(match word {
         "create" => Some(WriteAsk::Create {
             resource,
-            obj: object(alloc, name)?,
+            obj: object_named(alloc, name)?,
         }),
         "replace" => Some(WriteAsk::Replace {
             resource,
-            obj: object(alloc, name)?,
+            obj: object_named(alloc, name)?,
             given: given.parse::<u64>().ok(),
         }),
         "remove" => Some(WriteAsk::Remove {
@@ -51,7 +52,7 @@ pub fn row(alloc: Global, name: &str, rev: u64) -> Result<Row, Memory>
     ensures { IfOk result (λ row. row.rev ≡ rev) }
 {
     Ok(Row {
-        obj: Arc::new(alloc, object(alloc, name)?)?,
+        obj: Arc::new(alloc, object_named(alloc, name)?)?,
         rev,
     })
 }
@@ -61,7 +62,7 @@ pub fn written(alloc: Global, rev: u64, name: &str) -> Result<Revision, Memory>
     ensures rev { IfOk result (λ revision. revision.rev ≡ rev) }
     ensures pods { IfOk result (λ revision. All (λ change. change.resource ≡ Pods) revision.changes) }
 {
-    let obj = object(alloc, name)?;
+    let obj = object_named(alloc, name)?;
     let change = Change {
         rev,
         resource: Resource::Pods,
@@ -79,19 +80,6 @@ pub fn unchanged(alloc: Global, rev: u64) -> Revision
     Revision::sorted(rev, Vec::new(alloc))
 }
 
-// The names of the scripts are good ones, so all that can be missing is memory.
-fn key(alloc: Global, name: &str) -> Result<Key, Memory> {
-    Key::new(Text::new(alloc, "default")?, Text::new(alloc, name)?).map_err(|_| Memory)
-}
-
-fn object(alloc: Global, name: &str) -> Result<Obj, Memory> {
-    Ok(Obj {
-        key: key(alloc, name)?,
-        labels: Labels::new(alloc),
-        fields: Fields::new(Vec::new(alloc)),
-        front: Text::new(alloc, "{\"metadata\":{\"resourceVersion\":\"")?,
-        back: Text::new(alloc, "\"}}")?,
-        meta_from: 0,
-        meta_to: 0,
-    })
+fn object_named(alloc: Global, name: &str) -> Result<Obj, Memory> {
+    object(alloc, key(alloc, name)?)
 }

@@ -1,4 +1,6 @@
-//! Draws, from a seed.
+//! Draws, the same in each run.
+
+ghost use Rattle.std.specs.Prelude.{◌<◌};
 
 /// The factor and the summand of a linear congruential sequence modulo 2^64.
 const FACTOR: u64 = 6_364_136_223_846_793_005;
@@ -6,7 +8,7 @@ const FACTOR: u64 = 6_364_136_223_846_793_005;
 const SUMMAND: u64 = 1_442_695_040_888_963_407;
 
 /// The state that the draws so far have left.
-#[derive(Drop)]
+#[derive(Clone, Copy, Drop)]
 pub struct Draws {
     state: u64,
 }
@@ -17,21 +19,11 @@ impl Draws {
         Draws { state: seed }
     }
 
-    /// A number below `most`.
-    pub fn below(&mut self, most: u64) -> u64 {
+    /// A number below `most`; 0 where that is 0.
+    pub fn below(&mut self, most: u64) -> u64
+        ensures { 0 < most → result < most }
+    {
         self.state = self.state.wrapping_mul(FACTOR).wrapping_add(SUMMAND);
         (self.state >> 33) % most.max(1)
-    }
-
-    /// One digit below `most`.
-    pub fn digit(&mut self, most: u64) -> &'static [u8] {
-        match self.below(most) {
-            0 => b"0",
-            1 => b"1",
-            2 => b"2",
-            3 => b"3",
-            4 => b"4",
-            _ => b"5",
-        }
     }
 }

@@ -1,0 +1,74 @@
+//! Words of rows.
+
+ghost use Rattle.std.specs.Prelude.{◌≡◌, ◌==◌, ◌⊎◌, ℕ, IfOk, string_bytes};
+ghost use Rattle.std.specs.List.{before_first, after_first};
+ghost use Rattle.case_rows.specs.Words.{Says, HasNoMark};
+
+use std::alloc::{AllocError, Global};
+
+/// The first word, and what stands behind the blank after it.
+pub fn split(text: &str) -> (&str, &str)
+    ensures first { result.0.now ≡ before_first (λ b. b == 32) text.now }
+    ensures rest { result.1.now ≡ after_first (λ b. b == 32) text.now }
+{
+    text.split_once(' ').unwrap_or((text, ""))
+}
+
+/// The number that a word says; 0 where it says none.
+pub fn number(word: &str) -> u64
+    ensures said { (n : ℕ) → Says word.now n → result ≡ n }
+    ensures none { Says word.now result ⊎ (result ≡ 0) }
+{
+    word.parse::<u64>().unwrap_or(0)
+}
+
+/// The text that a row's text stands for: `<LF>`, `<CRLF>`, `<CR>`, `<TAB>` and `<SP>` are those bytes, `<FIELD>` is a
+/// header field and its line end, and `<64 of ab>` is `ab` so many times. All else stands for itself.
+pub fn plain(alloc: Global, text: &str) -> Result<String, AllocError>
+    ensures { HasNoMark text.now → IfOk result (λ plain. string_bytes plain ≡ text.now) }
+{
+    let Some((front, behind)) = text.split_once('<') else {
+        return String::from_str(alloc, text);
+    };
+    let mut plain = String::from_str(alloc, front)?;
+    for part in behind.split('<') {
+        push_part(&mut plain, part)?;
+    }
+    Ok(plain)
+}
+
+// Puts what stands behind a `<`.
+fn push_part(plain: &mut String, part: &str) -> Result<(), AllocError> {
+    if let Some((name, behind)) = part.split_once('>') {
+        if let Some((times, piece)) = repeated(name) {
+            for _ in 0..times {
+                plain.push_str(piece)?;
+            }
+            return plain.push_str(behind);
+        }
+    }
+    plain.push_str("<")?;
+    plain.push_str(part)
+}
+
+// How often, and what.
+fn repeated(name: &str) -> Option<(u32, &str)> {
+    if let Some(piece) = named(name) {
+        return Some((1, piece));
+    }
+    let (count, piece) = name.split_once(" of ")?;
+    let times = count.parse::<u32>().ok()?;
+    Some((times, named(piece).unwrap_or(piece)))
+}
+
+fn named(name: &str) -> Option<&'static str> {
+    match name {
+        "LF" => Some("\n"),
+        "CRLF" => Some("\r\n"),
+        "CR" => Some("\r"),
+        "TAB" => Some("\t"),
+        "SP" => Some(" "),
+        "FIELD" => Some("X: y\r\n"),
+        _ => None,
+    }
+}
