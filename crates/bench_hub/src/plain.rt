@@ -115,6 +115,16 @@ impl Plain {
         Ok(())
     }
 
+    /// All objects in the order of their keys, each shared.
+    #[inline(never)]
+    pub fn list(&self) -> Result<Vec<Arc<Shown>>, Memory> {
+        let mut list = Vec::new(self.alloc);
+        for shown in self.map.values() {
+            list.push(Arc::try_clone(shown)?)?;
+        }
+        Ok(list)
+    }
+
     /// What the last changes wrote.
     #[inline(never)]
     pub fn lines(&self, many: usize) -> Result<Vec<Arc<Shown>>, Memory> {

@@ -5,7 +5,7 @@ ghost use Rattle.kube_meta.specs.declared.resources.Resource.TheVariants.{Pods};
 
 use crate::things::creation;
 use cache_hub::Hub;
-use kube_meta::{Memory, Resource};
+use kube_meta::{Memory, Resource, Row};
 use rev_front::Blank;
 use rev_log::Revision;
 use select_all::Selection;
@@ -71,6 +71,18 @@ impl<N: LogFacts> Scene<N> {
     /// A write, which the cache doesn't know yet.
     pub fn write(&mut self, ask: &WriteAsk) {
         let _ = self.store.write(ask, &mut self.told);
+    }
+
+    /// Gives up the states of more than so many revisions before the log's end.
+    pub fn compact(&mut self, behind: u64) {
+        let at = self.store.revision().saturating_sub(behind);
+        let _ = self.store.compact(at, &mut self.told);
+    }
+
+    /// The store's pods so many revisions before the log's end, unless they are refused.
+    pub fn list(&mut self, behind: u64) -> Option<Vec<Row>> {
+        let at = self.store.revision().saturating_sub(behind);
+        self.store.list_at(Resource::Pods, at, &mut self.told).ok()
     }
 
     /// The cache takes in the next change, which is answered with the nanoseconds that it took.

@@ -30,6 +30,14 @@ pub fn change(alloc: Global, number: usize, objects: usize) -> Result<WriteAsk, 
     })
 }
 
+/// Creates a config map, which changes no pod.
+pub fn config_map(alloc: Global) -> Result<WriteAsk, Memory> {
+    Ok(WriteAsk::Create {
+        resource: Resource::ConfigMaps,
+        obj: object(alloc, 0, Vec::new(alloc))?,
+    })
+}
+
 // The names are good ones, so all that can be missing is memory.
 fn key(alloc: Global, number: usize) -> Result<Key, Memory> {
     let name = format!(in alloc; "web-6d4b75cb6d-{}", 1_000_000usize.wrapping_add(number))?;
@@ -40,6 +48,10 @@ fn pod(alloc: Global, number: usize) -> Result<Obj, Memory> {
     let mut fields = Vec::new(alloc);
     fields.push(node(alloc, number)?)?;
     fields.push(Text::new(alloc, "Running")?)?;
+    object(alloc, number, fields)
+}
+
+fn object(alloc: Global, number: usize, fields: Vec<Text>) -> Result<Obj, Memory> {
     Ok(Obj {
         key: key(alloc, number)?,
         labels: Labels::new(alloc),

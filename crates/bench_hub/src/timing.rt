@@ -5,8 +5,8 @@ ghost use Rattle.kube_meta.specs.declared.resources.Resource.TheVariants.{Pods};
 
 use crate::plain::Plain;
 use crate::scene::{Scene, WINDOW, since};
-use crate::things::{change, node};
-use kube_meta::{Memory, Resource};
+use crate::things::{change, config_map, node};
+use kube_meta::{Memory, Resource, Row};
 use select_all::Selection;
 use std::alloc::Global;
 use std::io;
@@ -176,6 +176,35 @@ impl<N: LogFacts> Bench<N> {
     }
 }
 
+impl<N: LogFacts> Bench<N> {
+    /// How often the store, the cache and two lists hold the objects of the lists. One list is of the log's end, and
+    /// is read off the rows there; the other is of the revision before, which changed no pod, and is made of the rows
+    /// at the floor and of the changes after it. An object that is shared is held five times: by the rows at the end;
+    /// by the rows at the floor or by the change after it that wrote the object; by what the cache's tree and events
+    /// show, which they share; and by each list. No contract can say this. The plain cache is emptied before.
+    pub fn holders(&mut self) -> Result<usize, Memory> {
+        self.plain = Plain::new(self.alloc, WINDOW);
+        self.scene.compact(100);
+        self.scene.write(&config_map(self.alloc)?);
+        let before = self.scene.list(1);
+        let end = self.scene.list(0);
+        let held = match &end {
+            Some(rows) => holders_of(rows),
+            None => 0,
+        };
+        drop(before);
+        Ok(held)
+    }
+}
+
+fn holders_of(rows: &[Row]) -> usize {
+    let mut held = 0usize;
+    for row in rows {
+        held = held.saturating_add(Arc::strong_count(&row.obj));
+    }
+    held
+}
+
 /// Prints one pair of so many steps: what each and its plain fellow take in tenths of a nanosecond, and their ratio.
 fn print_pair<R: Runtime>(rt: &R, name: &str, pair: Pair, steps: u64) -> io::Result<()> {
     let step = pair.step.saturating_mul(10) / steps.max(1);
@@ -243,6 +272,56 @@ impl<N: LogFacts> Bench<N> {
     }
 }
 
+impl<N: LogFacts> Bench<N> {
+    // How many rows the store lists so many revisions before its end.
+    #[inline(never)]
+    fn listed(&mut self, behind: u64) -> usize {
+        match self.scene.list(behind) {
+            Some(rows) => rows.len(),
+            None => 0,
+        }
+    }
+
+    // A list so many revisions before the end, beside one of a plain map. Both are made and let go of.
+    fn time_list<R: Runtime>(&mut self, rt: &R, behind: u64) -> io::Result<Pair> {
+        let from = Instant::now(rt)?;
+        let _rows = self.listed(behind);
+        let step = since(rt, from)?;
+        let from = Instant::now(rt)?;
+        let _rows = self.plain.list()?.len();
+        let plain = since(rt, from)?;
+        Ok(Pair { step, plain })
+    }
+
+    fn print_list<R: Runtime>(
+        &mut self,
+        rt: &R,
+        place: &str,
+        behind: u64,
+        pair: Pair,
+    ) -> io::Result<()> {
+        let rows = self.listed(behind);
+        let name = format!(in self.alloc; "list of {rows} {place}, each row")?;
+        print_pair(rt, name.as_str(), pair, rows as u64)
+    }
+}
+
+/// Times lists of a store that keeps 2,000 revisions: at its floor, half way and at its end. Prints the best of each.
+pub fn report_lists<N: LogFacts, R: Runtime>(rt: &R, bench: &mut Bench<N>) -> io::Result<()> {
+    let _times = bench.changes(rt, 2_000)?;
+    let _lines = bench.drain();
+    bench.scene.compact(2_000);
+    let (mut floor, mut half, mut end) = (NONE, NONE, NONE);
+    for _ in 0..20 {
+        floor = floor.best(bench.time_list(rt, 2_000)?);
+        half = half.best(bench.time_list(rt, 1_000)?);
+        end = end.best(bench.time_list(rt, 0)?);
+    }
+    bench.print_list(rt, "at the floor", 2_000, floor)?;
+    bench.print_list(rt, "half way", 1_000, half)?;
+    bench.print_list(rt, "at the end", 0, end)
+}
+
 /// Times all steps and prints the best of each.
 pub fn report<N: LogFacts, R: Runtime>(rt: &R, bench: &mut Bench<N>) -> io::Result<()> {
     let none = bench.time_changes(rt, 0)?;
@@ -259,5 +338,6 @@ pub fn report<N: LogFacts, R: Runtime>(rt: &R, bench: &mut Bench<N>) -> io::Resu
     }
     print_pair(rt, "snapshot", snapshots, 1_000_000)?;
     print_pair(rt, "at, each change undone", old, 1_000)?;
-    print_pair(rt, "catch_up, each line", caught, 1_000)
+    print_pair(rt, "catch_up, each line", caught, 1_000)?;
+    report_lists(rt, bench)
 }

@@ -1,0 +1,56 @@
+//! Times whole sessions of a client with caches, from bytes in memory to bytes in memory: creates of objects, gets of
+//! them, lists of a tenth of them by label, and a watch of all their events.
+//!
+//! Beside a session stands what its parts cost alone. A plain loop does the same work and answers nobody: it reads the
+//! same requests (`http_read`), finds what each asks for (`route_req`, which reads the objects too) and asks that of a
+//! client of its own. Then as many bytes as the session wrote are copied to a sink, in as many writes as there are
+//! requests. The ratio is the session's time over the time of both together. What it has above 1 is what the session
+//! itself costs: replies and lines as texts, their heads, and the order of it all.
+//!
+//! With the word `time` it asks for 10,000 objects, and prints for each kind of request how many a session answers in a
+//! second, the nanoseconds of one, of the parts, and the ratio, each time as the best of some runs that take turns.
+//! Without words it asks for 100 objects each way, and prints what came out.
+#![tactic(auto)]
+
+mod kinds;
+mod parts;
+mod session;
+mod texts;
+mod timing;
+mod ways;
+
+use kinds::Size;
+use parts::Part;
+use std::alloc::Global;
+use std::rt::Runtime;
+use std::{env, io};
+use ways::{Passes, Way, over_new_client};
+
+fn main(rt: HostRuntime) -> io::Result<()> {
+    let timed = env::args(&rt)?.count() > 1;
+    if timed {
+        timing::report(&rt, rt.alloc())
+    } else {
+        check(&rt, rt.alloc())
+    }
+}
+
+// Prints what comes of a few objects, by sessions and by their parts.
+fn check<R: Runtime>(rt: &R, alloc: Global) -> io::Result<()> {
+    let size = Size {
+        objects: 100,
+        lists: 1,
+    };
+    let served = over_new_client(rt, alloc, Way::Session, size)?;
+    print_counts(rt, "sessions", &served)?;
+    let asked = over_new_client(rt, alloc, Way::Parts { upto: Part::Ask }, size)?;
+    print_counts(rt, "their parts", &asked)
+}
+
+// Prints how many objects and events came out.
+fn print_counts<R: Runtime>(rt: &R, way: &str, passes: &Passes) -> io::Result<()> {
+    println!(rt;
+        "bench_session: by {way} {} objects created, {} got, {} listed, and {} events watched",
+        passes.create.came, passes.get.came, passes.list.came, passes.watch.came
+    )
+}
