@@ -1,7 +1,8 @@
 #!/usr/bin/env bash
 # Builds crates/bench_hub with optimisation, and times what a cache takes in with 0, 50 and 1,000 lanes, its snapshots, old
-# states and catching up, each beside its plain fellow, all in one run. It prints the figures, and ends with status 1 where a
-# change costs more than one and a half times as much with 1,000 lanes as with 50, of which it touches the same one.
+# states and catching up, and lists of its store, each beside its plain fellow, all in one run. It prints the figures, and
+# ends with status 1 where a change costs more than one and a half times as much with 1,000 lanes as with 50, of which it
+# touches the same one.
 set -euo pipefail
 cd "$(dirname "$0")/../crates/bench_hub"
 rm -f out/bench_hub
