@@ -76,7 +76,7 @@ fn write(alloc: Global, input: &str) -> Answer {
         return Ok(None);
     };
     match asked(alloc, "limit=2")? {
-        Some(Ok(ask)) => Ok(Some(token(alloc, &ask, revision, &last)?.into_string())),
+        Some(Ok(ask)) => Ok(Some(token(alloc, &ask, revision, &last)?.to_string()?)),
         _ => Ok(None),
     }
 }

@@ -1,12 +1,14 @@
 -- The two parts of a joined text.
-use Rattle.std.proofs.Common.{◌≡◌, ℕ, Bool, ◌||◌, true, false, [], take, drop, inl, inr, ltb, drop-cons, refl, ◌+◌, List, ◌∷◌, ◌++◌, length, sym, ap, ◌∙◌, subst, arith, ap₂, suc, ◌<◌, get_or, length-append}
+use Rattle.std.proofs.Common.{◌≡◌, ℕ, Bool, ◌||◌, true, false, [], take, drop, inl, inr, ltb, drop-cons, refl, ◌+◌, List, ◌∷◌, ◌++◌, length, sym, ap, ◌∙◌, subst, arith, ap₂, suc, ◌<◌, get_or, length-append, append_assoc, bytes_eq, Decides}
 use Rattle.std.proofs.Math.Seq.{take-append_seam, drop-append-add, get_or-append_seam}
-use Rattle.std.proofs.lemmas.Bool.{and_parts, cases_Bool, lt-ltb, ltb-true, eqb-true}
+use Rattle.std.proofs.lemmas.Bool.{and_parts, cases_Bool, lt-ltb, ltb-true, eqb-true, false_from_ne_true, false≢true}
 use Rattle.std.proofs.lemmas.List.{take-append-drop}
+use Rattle.std.proofs.lemmas.Slice.Eq.{bytes_eq-Decides}
+use Rattle.std.specs.Prelude.{slice_index_or}
 use Rattle.std.specs.List.{list_all, list_any, position_or_len}
 use Rattle.kube_meta.specs.Names.{is_slash, is_dns_byte, IsNamespace, IsObjectName}
-use Rattle.kube_meta.specs.Keys.{joined, namespace_of, name_of, is_key, IsKey, JoinedTellsApart, KeysAreTested}
-use Rattle.kube_meta.proofs.NameLemmas.{place_of_slash, list_any-position}
+use Rattle.kube_meta.specs.Keys.{joined, namespace_of, name_of, is_key, is_in, IsIn, IsKey, JoinedTellsApart, KeysAreTested, KeysAreInTheirNamespace}
+use Rattle.kube_meta.proofs.NameLemmas.{place_of_slash, list_any-position, is_name_byte, bytes_of_name, bytes_of_namespace as name_bytes_of_namespace}
 
 -- each byte of a namespace is one of a DNS name
 bytes_of_namespace : (ns : List ℕ) → IsNamespace ns → list_all is_dns_byte ns ≡ true
@@ -99,4 +101,62 @@ tested text = (
   λ is.
       let any : list_any is_slash text ≡ true = ap (list_any is_slash) is.parted ∙ some_slash (namespace_of text) (name_of text) in
       rw (any, is.namespace, is.name) refl,
+)
+
+-- ---- the keys of a namespace
+
+begun : (ns name : List ℕ) → joined ns name ≡ joined ns [] ++ name
+begun ns name = sym (append_assoc ns (47 ∷ []) name)
+
+pub is_in-Decides : (ns key : List ℕ) → Decides (is_in ns key) (IsIn ns key)
+is_in-Decides ns key = (
+  λ passes.
+      let same = (bytes_eq-Decides (take (length (joined ns [])) key) (joined ns [])).0 passes in
+      (drop (length (joined ns [])) key, sym (take-append-drop (length (joined ns [])) key) ∙ ap (λ front. front ++ drop (length (joined ns [])) key) same ∙ sym (begun ns _)),
+  λ is.
+      (bytes_eq-Decides (take (length (joined ns [])) key) (joined ns [])).1
+      (ap (take (length (joined ns []))) (is.1 ∙ begun ns is.0) ∙ take-append_seam (joined ns []) is.0),
+)
+
+no_slash : (b : ℕ) → is_name_byte b ≡ true → is_slash b ≡ false
+no_slash b passes = false_from_ne_true (is_slash b) (λ slash.
+    let here : b ≡ 47 = eqb-true b 47 slash in
+    false≢true (subst (λ c. is_name_byte c ≡ true) here passes))
+
+-- where neither piece has a slash, a slash between them parts them
+parts_once : (ns name other rest : List ℕ) → list_all is_name_byte ns ≡ true → list_all is_name_byte name ≡ true → joined ns name ≡ joined other rest → ns ≡ other
+parts_once [] name [] rest first second same = refl
+parts_once [] name (c ∷ other) rest first second same = absurd (inside other name rest second (ap (drop 1) same))
+  where
+    inside : (other name rest : List ℕ) → list_all is_name_byte name ≡ true → name ≡ joined other rest → ⊥
+    inside [] name rest passes is = let all = subst (λ text. list_all is_name_byte text ≡ true) is passes in false≢true all
+    inside (c ∷ other) [] rest passes is = absurd (cc)
+    inside (c ∷ other) (b ∷ name) rest passes is = inside other name rest (and_parts _ _ passes).1 (ap (drop 1) is)
+parts_once (b ∷ ns) name [] rest first second same =
+    let here : b ≡ 47 = ap (λ text. slice_index_or text 0 0) same in
+    let passes : is_name_byte 47 ≡ true = subst (λ c. is_name_byte c ≡ true) here (and_parts _ _ first).0 in
+    absurd (false≢true passes)
+parts_once (b ∷ ns) name (c ∷ other) rest first second same =
+    let here : b ≡ c = ap (λ text. slice_index_or text 0 0) same in
+    ap₂ (λ x xs. x ∷ xs) here (parts_once ns name other rest (and_parts _ _ first).1 second (ap (drop 1) same))
+
+in_theirs : (ns key : List ℕ) → IsKey key → Decides (is_in ns key) (namespace_of key ≡ ns)
+in_theirs ns key is = (
+  λ passes.
+      let within = (is_in-Decides ns key).0 passes in
+      parts_once (namespace_of key) (name_of key) ns within.0 (name_bytes_of_namespace (namespace_of key) is.namespace) (bytes_of_name (name_of key) is.name) (sym is.parted ∙ within.1),
+  λ same. (is_in-Decides ns key).1 (name_of key, is.parted ∙ ap (λ n. joined n (name_of key)) same),
+)
+
+-- the namespace of a key, compared
+pub in_its_namespace : (ns key : List ℕ) → IsKey key → bytes_eq (namespace_of key) ns ≡ is_in ns key
+in_its_namespace ns key is = elim (cases_Bool (bytes_eq (namespace_of key) ns)) [
+  | inl same ↦ same ∙ sym ((in_theirs ns key is).1 ((bytes_eq-Decides (namespace_of key) ns).0 same))
+  | inr other ↦ other ∙ sym (false_from_ne_true (is_in ns key) (λ passes. false≢true (sym other ∙ (bytes_eq-Decides (namespace_of key) ns).1 ((in_theirs ns key is).0 passes))))
+]
+
+pub keys_in_theirs : KeysAreInTheirNamespace
+keys_in_theirs ns key is = (
+  (λ within. (in_theirs ns key is).0 ((is_in-Decides ns key).1 within), λ same. (is_in-Decides ns key).0 ((in_theirs ns key is).1 same)),
+  is_in-Decides ns key,
 )

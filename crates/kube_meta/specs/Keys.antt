@@ -1,5 +1,5 @@
 -- The key of an object: its namespace and name, joined by `/`. A namespace has no `/`, so the first one parts them again.
-use Rattle.std.specs.Prelude.{◌≡◌, ◌↔◌, ℕ, Bool, true, ◌&&◌, List, ◌∷◌, ◌++◌}
+use Rattle.std.specs.Prelude.{◌≡◌, ◌↔◌, ℕ, Bool, true, ◌&&◌, List, [], ◌∷◌, ◌++◌, length, take, bytes_eq}
 use Rattle.std.specs.List.{before_first, after_first, list_any}
 use Rattle.kube_meta.specs.Names.{is_slash, is_namespace, is_object_name, IsNamespace, IsObjectName}
 
@@ -32,3 +32,15 @@ is_key text = list_any is_slash text && (is_namespace (namespace_of text) && is_
 -- it passes exactly for the texts of keys
 abbrev pub KeysAreTested : Type 0
 KeysAreTested = (text : List ℕ) → (is_key text ≡ true) ↔ IsKey text
+
+-- a key is in a namespace: it is that and some name, joined
+abbrev pub IsIn : List ℕ → List ℕ → Type 0
+IsIn ns key = (name : List ℕ) × (key ≡ joined ns name)
+
+-- the test of that: the key begins with the namespace and `/`
+abbrev pub is_in : List ℕ → List ℕ → Bool
+is_in ns key = bytes_eq (take (length (joined ns [])) key) (joined ns [])
+
+-- so the key of an object is in its own namespace alone
+abbrev pub KeysAreInTheirNamespace : Type 0
+KeysAreInTheirNamespace = (ns key : List ℕ) → IsKey key → (IsIn ns key ↔ (namespace_of key ≡ ns)) × ((is_in ns key ≡ true) ↔ IsIn ns key)

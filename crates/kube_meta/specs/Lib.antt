@@ -5,3 +5,4 @@ pub mod Resources
 pub mod Revisions
 pub mod Objects
 pub mod Rows
+pub mod Texts

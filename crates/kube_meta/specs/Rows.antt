@@ -4,6 +4,7 @@ use Rattle.std.specs.Cmp.Lexicographic.{slice_cmp}
 use Rattle.std.specs.List.Sorted.{IsStrictlySortedBy}
 use Rattle.std.specs.Ordering.{nat_cmp, is_lt}
 use Rattle.kube_meta.specs.declared.objects.Obj.{Obj}
+use Rattle.kube_meta.specs.Keys.{is_in}
 
 pub record RowData : Type 0 where
   pub obj : Obj
@@ -28,3 +29,7 @@ is_behind key row = is_lt (slice_cmp nat_cmp key (key_of row))
 abbrev pub behind : Option (List ℕ) → List RowData → List RowData
 behind None rows = rows
 behind (Some key) rows = filter (is_behind key) rows
+
+-- the rows of one namespace
+abbrev pub within : List ℕ → List RowData → List RowData
+within ns rows = filter (λ row. is_in ns (key_of row)) rows

@@ -9,7 +9,7 @@ ghost use Rattle.std.specs.Ordering.{nat_cmp, as_partial_cmp};
 ghost use Rattle.std.specs.List.{list_any};
 ghost use Rattle.kube_meta.specs.Names as names;
 ghost use Rattle.kube_meta.specs.Names.{IsNamespace, IsObjectName, is_slash};
-ghost use Rattle.kube_meta.specs.Keys.{joined, namespace_of, name_of, is_key, IsKey, JoinedTellsApart, KeysAreTested};
+ghost use Rattle.kube_meta.specs.Keys.{joined, namespace_of, name_of, is_in, is_key, IsKey, JoinedTellsApart, KeysAreInTheirNamespace, KeysAreTested};
 
 use crate::names::{is_namespace, is_object_name};
 use crate::{Memory, Text};
@@ -61,7 +61,7 @@ impl Key {
             return Err(KeyNo::BadNamespace);
         }
         let slash = ns.as_str().len();
-        let mut joined = ns.into_string();
+        let mut joined = ns.to_string()?;
         joined.push_str("/")?;
         joined.push_str(name.as_str())?;
         Ok(Key { joined, slash })
@@ -81,6 +81,7 @@ impl Key {
     pub fn ns(&self) -> &str
         ensures value { result.now ≡ namespace_of self.now }
         ensures form { IsNamespace result.now }
+        ensures whole { IsKey self.now }
     {
         &self.joined.as_str()[..self.slash]
     }
@@ -91,6 +92,13 @@ impl Key {
         ensures form { IsObjectName result.now }
     {
         &self.joined.as_str()[self.slash + 1..]
+    }
+
+    /// Whether the key is in a namespace.
+    pub fn is_in(&self, ns: &str) -> bool
+        ensures { result ≡ is_in ns.now self.now }
+    {
+        self.ns() == ns
     }
 
     /// The joined text, `namespace/name`.
@@ -216,4 +224,9 @@ pub fn joined_texts_tell_keys_apart()
 /// The test for the texts of keys passes for those alone.
 pub fn keys_are_tested()
     ensures { KeysAreTested }
+{}
+
+/// A key is in a namespace exactly where that is its own, and `is_in` tells it.
+pub fn keys_are_in_their_namespace()
+    ensures { KeysAreInTheirNamespace }
 {}

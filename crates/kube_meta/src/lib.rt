@@ -12,7 +12,9 @@ mod revisions;
 mod texts;
 
 pub use field_values::Fields;
-pub use keys::{Key, KeyNo, joined_texts_tell_keys_apart, keys_are_tested};
+pub use keys::{
+    Key, KeyNo, joined_texts_tell_keys_apart, keys_are_in_their_namespace, keys_are_tested,
+};
 pub use label_pairs::Labels;
 pub use names::{is_label_key, is_label_value, is_namespace, is_object_name};
 pub use objects::{Obj, Row};

@@ -8,23 +8,37 @@ ghost use Rattle.std.specs.Cmp.Rules.{comparing};
 ghost use Rattle.std.specs.Ordering.{nat_cmp, as_partial_cmp};
 
 use crate::Memory;
+use arrayvec::ArrayString;
 use std::alloc::Global;
 use std::cmp::Ordering;
+use std::fmt;
 use std::marker::Model;
 
+// The most bytes of a text that is kept in place. Names and values of labels have seldom more.
+const SHORT: usize = 24;
+
 /// A text that is kept: UTF-8, seen in contracts as the list of its bytes. Texts are compared byte
-/// by byte.
-#[derive(Debug, Drop)]
+/// by byte. A short one lies in the value itself, so that it takes no memory of its own, and no look
+/// at another place when it is read.
+#[derive(Drop)]
 pub struct Text {
-    text: String,
+    held: Held,
+}
+
+// Where a text lies.
+#[derive(Drop)]
+enum Held {
+    Short(Global, ArrayString<SHORT>),
+    Long(String),
 }
 
 impl Model for Text {
-    ghost use Rattle.std.specs.Prelude.{ℕ, List, string_bytes};
+    ghost use Rattle.std.specs.Prelude.{ℕ, List};
+    ghost use Rattle.kube_meta.specs.Texts.{bytes_of};
 
     ghost Value = { List ℕ };
 
-    ghost view = { λ t. string_bytes t.text };
+    ghost view = { λ t. bytes_of t.held };
 }
 
 impl Text {
@@ -32,30 +46,40 @@ impl Text {
     pub fn new(alloc: Global, text: &str) -> Result<Text, Memory>
         ensures { IfOk result (λ t. t ≡ text.now) }
     {
-        Ok(Text {
-            text: String::from_str(alloc, text)?,
-        })
+        let held = match ArrayString::from(text) {
+            Ok(short) => Held::Short(alloc, short),
+            Err(_) => Held::Long(String::from_str(alloc, text)?),
+        };
+        Ok(Text { held })
     }
 
     /// The text that `text` holds, with no copy.
     pub fn from_string(text: String) -> Text
         ensures { result ≡ string_bytes text }
     {
-        Text { text }
+        Text {
+            held: Held::Long(text),
+        }
     }
 
     /// The text, lent.
     pub fn as_str(&self) -> &str
         ensures { result.now ≡ self.now }
     {
-        self.text.as_str()
+        match &self.held {
+            Held::Short(_, text) => text.as_str(),
+            Held::Long(text) => text.as_str(),
+        }
     }
 
-    /// The text as a `String`, with no copy.
-    pub fn into_string(self) -> String
-        ensures { string_bytes result ≡ self }
+    /// A copy of the text as a `String`.
+    pub fn to_string(&self) -> Result<String, Memory>
+        ensures { IfOk result (λ text. string_bytes text ≡ self.now) }
     {
-        self.text
+        match &self.held {
+            Held::Short(alloc, text) => Ok(String::from_str(*alloc, text.as_str())?),
+            Held::Long(text) => Ok(text.clone()?),
+        }
     }
 }
 
@@ -63,9 +87,17 @@ impl Clone for Text {
     ghost is_clone = { λ text copy. copy ≡ text };
 
     fn clone(&self) -> Result<Text, Memory> {
-        Ok(Text {
-            text: self.text.clone()?,
-        })
+        let held = match &self.held {
+            Held::Short(alloc, text) => Held::Short(*alloc, *text),
+            Held::Long(text) => Held::Long(text.clone()?),
+        };
+        Ok(Text { held })
+    }
+}
+
+impl fmt::Debug for Text {
+    fn fmt<W: fmt::Write>(&self, f: &mut fmt::Formatter<W>) -> fmt::Result {
+        fmt::Debug::fmt(&self.as_str(), f)
     }
 }
 

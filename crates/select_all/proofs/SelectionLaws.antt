@@ -4,8 +4,7 @@ use Rattle.std.specs.Prelude.{◌&&◌}
 use Rattle.std.specs.List.{AllByRecursion}
 use Rattle.std.proofs.lemmas.Bool.{cases_Bool, and_parts, and_from, eqb-true}
 use Rattle.std.proofs.lemmas.List.Elements.{recursion_from_All}
-use Rattle.std.proofs.lemmas.Slice.Eq.{bytes_eq-Decides}
-use Rattle.kube_meta.specs.Keys.{namespace_of}
+use Rattle.kube_meta.proofs.KeyLemmas.{is_in-Decides}
 use Rattle.kube_meta.specs.declared.resources.Resource.{Resource}
 use Rattle.label_select.specs.Reading.{Fails as LabelFails}
 use Rattle.label_select.proofs.MeaningLaws.{selects-Decides as labels-Decides}
@@ -52,7 +51,7 @@ both_only resource ns label field labels fields s is e f =
 
 within-Decides : (ns : Option (List ℕ)) (key : List ℕ) → Decides (is_within ns key) (IsWithin ns key)
 within-Decides None key = (λ _. tt, λ _. refl)
-within-Decides (Some ns) key = bytes_eq-Decides (namespace_of key) ns
+within-Decides (Some ns) key = is_in-Decides ns key
 
 pub selects_decides : SelectionsDecide
 selects_decides s obj =

@@ -1,7 +1,7 @@
 -- Which objects a selection holds, and what a change of one object is to it.
-use Rattle.std.specs.Prelude.{◌≡◌, ℕ, Bool, true, false, ◌&&◌, List, Option, Some, None, bytes_eq}
+use Rattle.std.specs.Prelude.{ℕ, Bool, true, false, ◌&&◌, List, Option, Some, None}
 use Rattle.kube_meta.specs.declared.objects.Obj.{Obj}
-use Rattle.kube_meta.specs.Keys.{namespace_of}
+use Rattle.kube_meta.specs.Keys.{IsIn, is_in}
 use Rattle.label_select.specs.Meaning.{Selects as LabelsSelect, selects as labels_select}
 use Rattle.field_select.specs.Meaning.{Selects as FieldsSelect, selects as fields_select}
 use Rattle.select_all.specs.declared.selection.Selection.{Selection}
@@ -11,9 +11,9 @@ use Rattle.select_all.specs.declared.selection.Kind.TheVariants.{Added, Modified
 -- the key is in the namespace, where one is asked for
 abbrev pub IsWithin : Option (List ℕ) → List ℕ → Type 0
 IsWithin None key = Unit {0}
-IsWithin (Some ns) key = namespace_of key ≡ ns
+IsWithin (Some ns) key = IsIn ns key
 
--- The object is selected: its namespace is the one asked for, all label requirements hold, and all field terms do.
+-- The object is selected: it is in the namespace asked for, all label requirements hold, and all field terms do.
 pub record Selects (s : Selection) (obj : Obj) : Type 0 where
   pub namespace : IsWithin s.ns obj.key
   pub labels : LabelsSelect s.labels obj.labels
@@ -22,7 +22,7 @@ pub record Selects (s : Selection) (obj : Obj) : Type 0 where
 -- the same, computed
 abbrev pub is_within : Option (List ℕ) → List ℕ → Bool
 is_within None key = true
-is_within (Some ns) key = bytes_eq (namespace_of key) ns
+is_within (Some ns) key = is_in ns key
 
 abbrev pub selects : Selection → Obj → Bool
 selects s obj = is_within s.ns obj.key && (labels_select s.labels obj.labels && fields_select s.fields obj.fields obj.key)

@@ -185,7 +185,7 @@ fn is_within(ns: &Option<Text>, key: &Key) -> bool
     ensures { result ≡ is_within ns.now key.now }
 {
     match ns {
-        Some(ns) => key.ns() == ns.as_str(),
+        Some(ns) => key.is_in(ns.as_str()),
         None => true,
     }
 }

@@ -8,7 +8,7 @@ use Rattle.kube_meta.proofs.keys.Key.new.Goals as goal
 pub invariant_of-result : goal.invariant_of-result
 invariant_of-result c =
     let pieces : (c.args.ns ++ 47 ∷ []) ++ c.args.name ≡ joined c.args.ns c.args.name = append_assoc c.args.ns (47 ∷ []) c.args.name in
-    let one : string_bytes c.push_str.new.self ≡ c.args.ns ++ 47 ∷ [] = rw (← c.into_string-joined.ensures) c.in_ok-push_str.ensures.bytes in
+    let one : string_bytes c.push_str.new.self ≡ c.args.ns ++ 47 ∷ [] = rw (← c.in_ok-joined.ensures) c.in_ok-push_str.ensures.bytes in
     let last : c.as_str-3.result.now ≡ c.args.name = cc in
     let two : string_bytes c.push_str-2.new.self ≡ string_bytes c.push_str.new.self ++ c.args.name = rw (← last) c.in_ok-push_str-2.ensures.bytes in
     let whole : string_bytes c.push_str-2.new.self ≡ joined c.args.ns c.args.name = two ∙ ap (λ text. text ++ c.args.name) one ∙ pieces in

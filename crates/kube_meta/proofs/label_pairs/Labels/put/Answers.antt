@@ -1,4 +1,4 @@
-use Rattle.std.proofs.Common.{◌≡◌, sym, ◌∙◌, ap, [], get_or, refl}
+use Rattle.std.proofs.Common.{◌≡◌, sym, ◌∙◌, ap, [], get_or, set, rules, refl}
 use Rattle.std.proofs.lemmas.List.{get_or_default}
 use Rattle.kube_meta.specs.Labels.{IsAt}
 use Rattle.kube_meta.proofs.LabelLemmas.{value_found, value_in_gap, puts_only_set, puts_only_insert}
@@ -19,7 +19,8 @@ returns-in-Ok-clause-ok c =
     let at : IsAt c.self.inside.pairs.items c.args.name c.in-Ok.at = rw (c.self.view_is, ← text) c.in-Ok.ensures.found in
     let read : c.index_mut.result.now ≡ get_or c.self.inside.pairs.items c.in-Ok.at ([], []) = c.index_mut.ensures.value ∙ get_or_default _ _ _ ([], []) at.in_range in
     let same_name : c.index_mut.result.now.0 ≡ c.args.name = ap (λ pair. pair.0) read ∙ at.has_name in
-    rw (← c.self.view_is, same_name, c.replace.ensures.after) (puts_only_set _ c.self.invariant c.args.name c.in-Ok.at at c.args.value)
+    let now : c.match-name.self ≡ set c.self.inside.pairs.items c.in-Ok.at (c.index_mut.result.now.0, c.replace.new.dest) = search rules in
+    rw (now, ← c.self.view_is, same_name, c.replace.ensures.after) (puts_only_set _ c.self.invariant c.args.name c.in-Ok.at at c.args.value)
 
 -- the pair is added in the gap
 pub returns-in_ok-insert-in-Err-clause-old : goal.returns-in_ok-insert-in-Err-clause-old
