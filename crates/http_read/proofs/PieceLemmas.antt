@@ -3,7 +3,9 @@ use Rattle.std.proofs.Common.{◌≡◌, ◌≢◌, ℕ, suc, ◌+◌, ◌-◌, 
 use Rattle.std.proofs.lemmas.Bool.{cond-true, cond-false, cases_eq, eq-eqb, ne_eqb}
 use Rattle.std.proofs.lemmas.Bool.Decides.{nat_tests}
 use Rattle.std.proofs.lemmas.List.{take_more, drop_all, reverse-append, reverse-reverse}
-use Rattle.std.specs.List.{position_or_len}
+use Rattle.std.specs.Prelude.{All}
+use Rattle.std.specs.List.{position_or_len, before_first, after_first}
+use Rattle.std.proofs.lemmas.List.Elements.{All-take, All-drop}
 use Rattle.form_urlencoded.specs.Form.{split, onto_first, split_once}
 use Rattle.form_urlencoded.proofs.FormLemmas.{split_once_before_same, split_once_after_same, split_once_before_other, split_once_after_other}
 use Rattle.httparse.specs.Grammar.{is_ows, skip_ows, trim_ows}
@@ -89,3 +91,10 @@ back-stop text end h w other =
 pub trim-both : (text : List ℕ) → last_blanks_off (skip_ows text) ≡ trim_ows text
 unfolding trim_ows
 trim-both text = refl
+
+-- what holds of each byte of a text holds of each byte of the pieces before and after its first separator
+pub before-all : (P : ℕ → Type 0) (s : ℕ) (text piece : List ℕ) → piece ≡ before_first (λ b. b == s) text → All P text → All P piece
+before-all P s text piece e all = subst (All P) (sym e) (All-take P _ text all)
+
+pub after-all : (P : ℕ → Type 0) (s : ℕ) (text piece : List ℕ) → piece ≡ after_first (λ b. b == s) text → All P text → All P piece
+after-all P s text piece e all = subst (All P) (sym e) (All-drop P _ text all)

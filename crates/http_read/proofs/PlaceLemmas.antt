@@ -1,8 +1,10 @@
 -- Pairs that stand in one text, as it grows.
 use Rattle.std.proofs.Common.{◌≡◌, ℕ, ◌-◌, ◌≤◌, List, [], ◌∷◌, ◌++◌, length, map, take, drop, refl, sym, ap, subst, ◌∙◌, arith, append_assoc, append-nil, length-append, length-drop, take_at, drop_at}
-use Rattle.std.specs.Prelude.{All, IsUtf8}
+use Rattle.std.specs.Prelude.{All, IsUtf8, IsCharBoundary}
 use Rattle.std.proofs.lemmas.List.{take-append-le, drop-append-le, map-append}
 use Rattle.std.proofs.lemmas.List.Elements.{All-head, All-tail, All-push, All-weaker}
+use Rattle.std.proofs.lemmas.Str.{IsUtf8-append, IsCharBoundary-at_seam, IsCharBoundary-end}
+use Rattle.form_urlencoded.proofs.FormLemmas.{IsCharBoundary_grown}
 use Rattle.http_read.specs.declared.places.Place.{Place}
 use Rattle.http_read.specs.Places.{pair_at, IsPlaceIn}
 
@@ -14,16 +16,17 @@ part-stays text more from to o h =
 
 pair-stays : (text more : List ℕ) (place : Place) → IsPlaceIn text place → pair_at (text ++ more) place ≡ pair_at text place
 pair-stays text more place h = λ i. (
-  part-stays text more place.name place.value h.name_first (omega (arith, h.value_next, h.within)) i,
-  part-stays text more place.value place.end h.value_next h.within i,
+  part-stays text more place.name place.value h.name_first h.between.0 i,
+  part-stays text more place.value place.end h.value_next h.after.0 i,
 )
 
-place-stays : (text more : List ℕ) (place : Place) → IsPlaceIn text place → IsPlaceIn (text ++ more) place
-place-stays text more place h = record {
+place-stays : (text more : List ℕ) → IsUtf8 text → IsUtf8 (text ++ more) → (place : Place) → IsPlaceIn text place → IsPlaceIn (text ++ more) place
+place-stays text more utf8 whole place h = record {
   name_first = h.name_first;
   value_next = h.value_next;
-  within = omega (arith, h.within, length-append text more);
-  utf8 = subst IsUtf8 (sym (ap (λ pair. pair.1) (pair-stays text more place h))) h.utf8;
+  before = IsCharBoundary_grown text (text ++ more) place.name utf8 whole (more, refl) h.before;
+  between = IsCharBoundary_grown text (text ++ more) place.value utf8 whole (more, refl) h.between;
+  after = IsCharBoundary_grown text (text ++ more) place.end utf8 whole (more, refl) h.after;
 }
 
 pairs-stay : (text more : List ℕ) (places : List Place) → All (IsPlaceIn text) places → map (pair_at (text ++ more)) places ≡ map (pair_at text) places
@@ -46,27 +49,33 @@ module _ (text name value : List ℕ) (place : Place) (first : place.name ≡ le
         ∙ part-new (text ++ name) value [] place.value place.end next (last ∙ ap length (sym (append_assoc text name value)))) i,
   )
 
-  new-place : IsUtf8 value → IsPlaceIn (text ++ (name ++ value)) place
-  new-place utf8 = record {
+  new-place : IsUtf8 name → IsUtf8 value → IsPlaceIn (text ++ (name ++ value)) place
+  new-place name_utf8 value_utf8 = record {
     name_first = omega (arith, first, next, length-append text name);
     value_next = omega (arith, next, last, length-append text name, length-append text (name ++ value), length-append name value);
-    within = omega (arith, last);
-    utf8 = subst IsUtf8 (sym (ap (λ pair. pair.1) new-pair)) utf8;
+    before = subst (IsCharBoundary (text ++ (name ++ value))) (sym first)
+        (IsCharBoundary-at_seam (text ++ (name ++ value)) text (name ++ value) refl (IsUtf8-append name value name_utf8 value_utf8));
+    between = subst (IsCharBoundary (text ++ (name ++ value))) (sym next)
+        (IsCharBoundary-at_seam (text ++ (name ++ value)) (text ++ name) value (sym (append_assoc text name value)) value_utf8);
+    after = subst (IsCharBoundary (text ++ (name ++ value))) (sym last) (IsCharBoundary-end (text ++ (name ++ value)));
   }
 
 -- one more pair, whose name and value were put behind the text
 pub pair-more : (text with_name with_value name value : List ℕ) (places more : List Place) (place : Place)
     → with_name ≡ text ++ name → with_value ≡ with_name ++ value → more ≡ places ++ (place ∷ [])
-    → place.name ≡ length text → place.value ≡ length with_name → place.end ≡ length with_value → IsUtf8 value → All (IsPlaceIn text) places
+    → place.name ≡ length text → place.value ≡ length with_name → place.end ≡ length with_value
+    → IsUtf8 text → IsUtf8 name → IsUtf8 value → All (IsPlaceIn text) places
     → All (IsPlaceIn with_value) more × (map (pair_at with_value) more ≡ map (pair_at text) places ++ ((name, value) ∷ []))
-pair-more text with_name with_value name value places more place n v m first next last utf8 all =
+pair-more text with_name with_value name value places more place n v m first next last text_utf8 name_utf8 value_utf8 all =
     let whole : with_value ≡ text ++ (name ++ value) = v ∙ ap (λ l. l ++ value) n ∙ append_assoc text name value in
     let next : place.value ≡ length (text ++ name) = next ∙ ap length n in
     let last : place.end ≡ length (text ++ (name ++ value)) = last ∙ ap length whole in
+    let whole_utf8 : IsUtf8 (text ++ (name ++ value)) =
+    IsUtf8-append text (name ++ value) text_utf8 (IsUtf8-append name value name_utf8 value_utf8) in
     rw (whole, m) (
       All-push (IsPlaceIn (text ++ (name ++ value))) places place
-          (All-weaker (IsPlaceIn text) (IsPlaceIn (text ++ (name ++ value))) (place-stays text (name ++ value)) places all)
-          (new-place text name value place first next last utf8),
+          (All-weaker (IsPlaceIn text) (IsPlaceIn (text ++ (name ++ value))) (place-stays text (name ++ value) text_utf8 whole_utf8) places all)
+          (new-place text name value place first next last name_utf8 value_utf8),
       map-append (pair_at (text ++ (name ++ value))) places (place ∷ [])
           ∙ ap (λ l. l ++ (pair_at (text ++ (name ++ value)) place ∷ [])) (pairs-stay text (name ++ value) places all)
           ∙ ap (λ pair. map (pair_at text) places ++ (pair ∷ [])) (new-pair text name value place first next last),

@@ -1,10 +1,9 @@
 -- Lists that are gone over from the front.
-use Rattle.std.proofs.Common.{◌≡◌, ℕ, ◌+◌, ◌<◌, Bool, true, false, ◌||◌, ◌&&◌, List, [], ◌∷◌, ◌++◌, length, map, filter, find, take, drop, get_or, sym, ap, ◌∙◌, cond}
+use Rattle.std.proofs.Common.{◌≡◌, ℕ, ◌+◌, ◌<◌, Bool, true, false, List, [], ◌∷◌, ◌++◌, length, map, filter, find, take, drop, get_or, sym, ap, ◌∙◌, cond}
 use Rattle.std.specs.Prelude.{None, Some}
-use Rattle.std.specs.List.{list_any}
 use Rattle.std.specs.Option.{option_or}
 use Rattle.std.proofs.lemmas.List.{take_more, map-append, take-append-drop}
-use Rattle.std.proofs.lemmas.List.Folds.{find-append, list_any-append}
+use Rattle.std.proofs.lemmas.List.Folds.{find-append}
 use Rattle.std.proofs.lemmas.List.Elements.{filter-append}
 
 module _ {X Y : Type 0} (f : X → Y) where
@@ -37,25 +36,6 @@ module _ {X Y : Type 0} (f : X → Y) where
         (ap (find p) (map-take_more xs i d h) ∙ find-append p _ _
         ∙ ap (λ o. option_or o (find p (f (get_or xs i d) ∷ []))) none ∙ find_one _ true same)
 
-    any_one : (y : Y) (b : Bool) → p y ≡ b → list_any p (y ∷ []) ≡ (b || false)
-    any_one y b e = ap (λ (t : Bool). t || false) e
-
-    -- none passed so far, nor does this one
-    pub any-step : (xs : List X) (i : ℕ) (d : X) → i < length xs → list_any p (map f (take i xs)) ≡ false → p (f (get_or xs i d)) ≡ false
-        → list_any p (map f (take (i + 1) xs)) ≡ false
-    any-step xs i d h none other =
-        ap (list_any p) (map-take_more xs i d h) ∙ list_any-append p _ _
-        ∙ ap (λ (t : Bool). t || list_any p (f (get_or xs i d) ∷ [])) none ∙ any_one _ false other
-
-    -- this one passes
-    pub any-here : (xs : List X) (i : ℕ) (d : X) → i < length xs → list_any p (map f (take i xs)) ≡ false → p (f (get_or xs i d)) ≡ true
-        → list_any p (map f xs) ≡ true
-    any-here xs i d h none same =
-        ap (list_any p) (map-around xs i d h) ∙ list_any-append p _ _
-        ∙ ap (λ (t : Bool). t || list_any p (map f (drop (i + 1) xs)))
-        (ap (list_any p) (map-take_more xs i d h) ∙ list_any-append p _ _
-        ∙ ap (λ (t : Bool). t || list_any p (f (get_or xs i d) ∷ [])) none ∙ any_one _ true same)
-
     filter_one : (y : Y) (b : Bool) → p y ≡ b → filter p (y ∷ []) ≡ cond b (y ∷ []) []
     filter_one y b e = ap (λ (t : Bool). cond t (y ∷ []) []) e
 
@@ -87,7 +67,3 @@ module _ {X : Type 0} (p : X → Bool) where
       ∙ ap (λ o. option_or o (find p (drop (i + 1) xs)))
       (ap (find p) (take_more xs i d h) ∙ find-append p _ _
       ∙ ap (λ o. option_or o (find p (get_or xs i d ∷ []))) none ∙ just_one _ true same)
-
--- two tests that pass
-pub and-true : (a b : Bool) → true ≡ a → true ≡ b → (a && b) ≡ true
-and-true a b p q = ap (λ (x : Bool). x && b) (sym p) ∙ sym q

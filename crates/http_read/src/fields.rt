@@ -53,6 +53,7 @@ pub(crate) fn has_field(bytes: &[u8], fields: &[HeaderSpan], name: &[u8]) -> boo
 }
 
 // Whether a list, split at its commas and with blanks trimmed, has this element.
+#[inline(never)]
 fn has_element(value: &[u8], element: &[u8]) -> bool
     ensures { result ≡ head.has_element element.now value.now }
 {
@@ -66,17 +67,30 @@ fn has_element(value: &[u8], element: &[u8]) -> bool
     is_same(trimmed(rest), element)
 }
 
-/// Whether a Connection field has this element.
-pub(crate) fn connection_has(bytes: &[u8], fields: &[HeaderSpan], element: &[u8]) -> bool
+/// What the Connection fields ask for.
+#[derive(Clone, Copy, Debug)]
+pub(crate) struct Asked {
+    pub(crate) upgrade: bool,
+    pub(crate) close: bool,
+}
+
+/// Whether a Connection field has `upgrade`, and whether one has `close`.
+#[inline(never)]
+pub(crate) fn connection_asks(bytes: &[u8], fields: &[HeaderSpan]) -> Asked
     requires { All (IsHeaderWithin (length bytes.now)) fields.now }
-    ensures { result ≡ head.connection_has element.now (map (header_bytes bytes.now) fields.now) }
+    ensures upgrade { result.upgrade ≡ head.connection_has (codes "upgrade") (map (header_bytes bytes.now) fields.now) }
+    ensures close { result.close ≡ head.connection_has (codes "close") (map (header_bytes bytes.now) fields.now) }
 {
+    let mut upgrade = false;
+    let mut close = false;
     for field in fields {
-        if is_named(bytes, field, b"connection") && has_element(field.value.of(bytes), element) {
-            return true;
+        if is_named(bytes, field, b"connection") {
+            let value = field.value.of(bytes);
+            upgrade |= has_element(value, b"upgrade");
+            close |= has_element(value, b"close");
         }
     }
-    false
+    Asked { upgrade, close }
 }
 
 // Whether each byte is a digit.
@@ -180,12 +194,18 @@ pub(crate) fn body_length(
     length_said(method, bytes, fields)
 }
 
-/// Whether a WebSocket is asked for.
-pub(crate) fn asks_websocket(method: &[u8], bytes: &[u8], fields: &[HeaderSpan]) -> bool
-    requires { All (IsHeaderWithin (length bytes.now)) fields.now }
+/// Whether a WebSocket is asked for, where `upgrade` says whether a Connection field has `upgrade`.
+pub(crate) fn asks_websocket(
+    method: &[u8],
+    bytes: &[u8],
+    fields: &[HeaderSpan],
+    upgrade: bool,
+) -> bool
+    requires within { All (IsHeaderWithin (length bytes.now)) fields.now }
+    requires upgrade { upgrade ≡ head.connection_has (codes "upgrade") (map (header_bytes bytes.now) fields.now) }
     ensures { result ≡ head.asks_websocket method.now (map (header_bytes bytes.now) fields.now) }
 {
-    if method != b"GET".as_slice() || !connection_has(bytes, fields, b"upgrade") {
+    if !upgrade || method != b"GET".as_slice() {
         return false;
     }
     match value_of(bytes, fields, b"upgrade") {

@@ -12,11 +12,11 @@ ghost use Rattle.http_read.specs.Answers.{UnlessFault};
 ghost use Rattle.http_read.specs.Steps.{FindsHead, LooksAtHead, ReadsHead, fields_at, request_at};
 
 use crate::body::Body;
-use crate::fields::{asks_websocket, connection_has, value_of};
+use crate::fields::{asks_websocket, connection_asks, value_of};
 use crate::kept::Kept;
 use crate::params::Params;
 use crate::pieces::cut;
-use crate::plain::{read_text, text};
+use crate::plain::{is_plain, text};
 use crate::refusal::ReqNo;
 use crate::request::{Req, Upgrade};
 use crate::segments::Segments;
@@ -92,7 +92,7 @@ fn text_of(
     ensures { IfOk result (λ text. text ≡ head.text_of (head.value_of name.now (map (header_bytes bytes.now) fields.now))) }
 {
     match value_of(bytes, fields, name) {
-        Some(value) => Ok(Some(read_text(alloc, value)?)),
+        Some(value) => Ok(Some(text(alloc, value)?)),
         None => Ok(None),
     }
 }
@@ -119,11 +119,13 @@ fn upgrade_of(
     method: &[u8],
     bytes: &[u8],
     fields: &[HeaderSpan],
+    upgrade: bool,
 ) -> Result<Option<Upgrade>, Memory>
-    requires { All (IsHeaderWithin (length bytes.now)) fields.now }
+    requires within { All (IsHeaderWithin (length bytes.now)) fields.now }
+    requires upgrade { upgrade ≡ head.connection_has (codes "upgrade") (map (header_bytes bytes.now) fields.now) }
     ensures { IfOk result (λ upgrade. upgrade ≡ head.upgrade_of method.now (map (header_bytes bytes.now) fields.now)) }
 {
-    if !asks_websocket(method, bytes, fields) {
+    if !asks_websocket(method, bytes, fields, upgrade) {
         return Ok(None);
     }
     let key = text_or_empty(alloc, bytes, fields, b"sec-websocket-key")?;
@@ -135,14 +137,26 @@ fn upgrade_of(
 fn target_parts(alloc: Global, target: &[u8]) -> Result<(Segments, Params), Memory>
     ensures { IfOk result (λ parts. (parts.0 ≡ path_of target.now) × (parts.1 ≡ query_pairs (query_of target.now))) }
 {
+    let plain = is_plain(target);
     let (path, query) = match cut(target, b'?') {
         Some(pieces) => pieces,
         None => (target, b"".as_slice()),
     };
     Ok((
-        Segments::read(alloc, path)?,
-        Params::of_bytes(alloc, query)?,
+        Segments::read(alloc, path, plain)?,
+        Params::of_bytes(alloc, query, plain)?,
     ))
+}
+
+// The text of a method, which is mostly `GET`.
+fn method_text(alloc: Global, method: &[u8]) -> Result<Text, Memory>
+    requires { IsUtf8 method.now }
+    ensures { IfOk result (λ text. text ≡ method.now) }
+{
+    if method == b"GET".as_slice() {
+        return Text::new(alloc, "GET");
+    }
+    text(alloc, method)
 }
 
 /// The request of a method, a target and fields, with no body.
@@ -157,17 +171,17 @@ pub(crate) fn make_request(
     requires within { All (IsHeaderWithin (length bytes.now)) fields.now }
     ensures { IfOk result (λ req. req ≡ request_with method.now target.now (map (header_bytes bytes.now) fields.now) []) }
 {
-    let method_text = text(alloc, method)?;
+    let method_text = method_text(alloc, method)?;
     let accept = text_of(alloc, bytes, fields, b"accept")?;
-    let upgrade = upgrade_of(alloc, method, bytes, fields)?;
-    let close = connection_has(bytes, fields, b"close");
+    let asked = connection_asks(bytes, fields);
+    let upgrade = upgrade_of(alloc, method, bytes, fields, asked.upgrade)?;
     let (path, params) = target_parts(alloc, target)?;
     Ok(Req {
         method: method_text,
         path,
         params,
         body: Body::from_vec(Vec::new(alloc)),
-        close,
+        close: asked.close,
         accept,
         upgrade,
     })

@@ -25,6 +25,48 @@ pub(crate) fn cut(text: &[u8], separator: u8) -> Option<(&[u8], &[u8])>
     }
 }
 
+/// The same of a text whose first piece is mostly short, so that its bytes are looked at one by one.
+#[inline(always)]
+pub(crate) fn cut_short(text: &[u8], separator: u8) -> Option<(&[u8], &[u8])>
+    ensures before { IfSome result (λ pieces. pieces.0.now ≡ before_first (λ b. b == separator) text.now) }
+    ensures after { IfSome result (λ pieces. pieces.1.now ≡ after_first (λ b. b == separator) text.now) }
+    ensures shorter { IfSome result (λ pieces. length pieces.1.now < length text.now) }
+    ensures pieces { IfSome result (λ pieces. form.split separator text.now ≡ pieces.0.now ∷ form.split separator pieces.1.now) }
+    ensures whole { IfNone result (text.now ≡ before_first (λ b. b == separator) text.now) }
+    ensures nothing { IfNone result (after_first (λ b. b == separator) text.now ≡ []) }
+    ensures alone { IfNone result (form.split separator text.now ≡ text.now ∷ []) }
+{
+    match text.iter().position(|b| *b == separator) {
+        Some(at) => Some((&text[..at], &text[at + 1..])),
+        None => None,
+    }
+}
+
+/// The pieces of a text before and after the first separator, or the text and nothing where there is none.
+#[inline(always)]
+pub(crate) fn parted(text: &[u8], separator: u8) -> (&[u8], &[u8])
+    ensures before { result.0.now ≡ before_first (λ b. b == separator) text.now }
+    ensures after { result.1.now ≡ after_first (λ b. b == separator) text.now }
+    ensures shorter { 0 < length text.now → length result.1.now < length text.now }
+{
+    match cut(text, separator) {
+        Some(pieces) => pieces,
+        None => (text, b"".as_slice()),
+    }
+}
+
+/// The same of a text whose first piece is mostly short.
+#[inline(always)]
+pub(crate) fn parted_short(text: &[u8], separator: u8) -> (&[u8], &[u8])
+    ensures before { result.0.now ≡ before_first (λ b. b == separator) text.now }
+    ensures after { result.1.now ≡ after_first (λ b. b == separator) text.now }
+{
+    match cut_short(text, separator) {
+        Some(pieces) => pieces,
+        None => (text, b"".as_slice()),
+    }
+}
+
 // Whether a byte is a blank.
 fn is_blank(byte: u8) -> bool
     ensures { result ≡ is_ows byte }

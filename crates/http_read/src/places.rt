@@ -1,9 +1,7 @@
 //! Where the pairs of a query stand in one text.
 
-ghost use Rattle.std.specs.Prelude.{◌≡◌, ◌++◌, OnOk};
+ghost use Rattle.std.specs.Prelude.{◌≡◌};
 ghost use Rattle.http_read.specs.Places.{pair_at, IsPlaceIn};
-
-use std::str;
 
 /// Where a pair stands in a text: its name, and behind it its value.
 #[derive(Clone, Copy, Debug)]
@@ -15,7 +13,7 @@ pub(crate) struct Place {
 
 impl Place {
     /// The name.
-    pub(crate) fn name_in(self, text: &[u8]) -> &[u8]
+    pub(crate) fn name_in(self, text: &str) -> &str
         requires { IsPlaceIn text.now self }
         ensures { result.now ≡ (pair_at text.now self).0 }
     {
@@ -23,10 +21,10 @@ impl Place {
     }
 
     /// The value.
-    pub(crate) fn value_in(self, text: &[u8]) -> &str
+    pub(crate) fn value_in(self, text: &str) -> &str
         requires { IsPlaceIn text.now self }
         ensures { result.now ≡ (pair_at text.now self).1 }
     {
-        str::from_utf8(&text[self.value..self.end]).unwrap_or("")
+        &text[self.value..self.end]
     }
 }

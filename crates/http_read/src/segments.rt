@@ -1,11 +1,12 @@
 //! The segments of a path.
 
-ghost use Rattle.std.specs.Prelude.{◌≡◌, IfOk, map};
+ghost use Rattle.std.specs.Prelude.{◌≡◌, IfOk, IsTrue, All, map};
 ghost use Rattle.form_urlencoded.specs.Form as form;
+ghost use Rattle.http_read.specs.Pieces.{IsItself};
 ghost use Rattle.http_read.specs.Queries as queries;
 ghost use Rattle.http_read.specs.Queries.{segments_of, slash};
 
-use crate::pieces::cut;
+use crate::pieces::cut_short;
 use crate::plain::segment_text;
 use kube_meta::{Memory, Text};
 use std::alloc::Global;
@@ -29,12 +30,14 @@ impl Model for Segments {
 }
 
 impl Segments {
-    /// The segments of a path after its first `/`, and none where it doesn't begin with `/`.
-    pub(crate) fn read(alloc: Global, path: &[u8]) -> Result<Segments, Memory>
+    /// The segments of a path after its first `/`, and none where it doesn't begin with `/`. The path may be known to
+    /// be plain.
+    pub(crate) fn read(alloc: Global, path: &[u8], plain: bool) -> Result<Segments, Memory>
+        requires { IsTrue plain → All IsItself path.now }
         ensures { IfOk result (λ segments. segments ≡ segments_of path.now) }
     {
         match path {
-            [b'/', rest @ ..] => split(alloc, rest),
+            [b'/', rest @ ..] => split(alloc, rest, plain),
             _ => Ok(Segments {
                 segments: Vec::new(alloc),
             }),
@@ -50,15 +53,16 @@ impl Segments {
 }
 
 // The segments between the slashes of a text.
-fn split(alloc: Global, text: &[u8]) -> Result<Segments, Memory>
+fn split(alloc: Global, text: &[u8], plain: bool) -> Result<Segments, Memory>
+    requires { IsTrue plain → All IsItself text.now }
     ensures { IfOk result (λ segments. segments ≡ map queries.segment_text (form.split slash text.now)) }
 {
     let mut segments = Vec::with_capacity(alloc, USUAL)?;
     let mut rest = text;
-    while let Some((segment, others)) = cut(rest, b'/') {
-        segments.push(segment_text(alloc, segment)?)?;
+    while let Some((segment, others)) = cut_short(rest, b'/') {
+        segments.push(segment_text(alloc, segment, plain)?)?;
         rest = others;
     }
-    segments.push(segment_text(alloc, rest)?)?;
+    segments.push(segment_text(alloc, rest, plain)?)?;
     Ok(Segments { segments })
 }

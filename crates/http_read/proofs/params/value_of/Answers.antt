@@ -9,7 +9,7 @@ use Rattle.http_read.proofs.params.value_of.Goals as goal
 pub returns-then-eq : goal.returns-then-eq
 returns-then-eq c =
     let name = c.args.name.now in
-    let test = ap (λ l. bytes_eq l name) (sym c.name_in.ensures) ∙ ap (bytes_eq c.name_in.result.now) (sym c.as_bytes.ensures.value) ∙ sym c.eq.ensures ∙ c.if-eq.true in
+    let test = ap (λ l. bytes_eq l name) (sym c.name_in.ensures) ∙ sym c.eq.ensures ∙ c.if-eq.true in
     ap Some c.value_in.ensures
     ∙ sym (ap (option_map (λ pair. pair.1)) (find-here (pair_at c.args.text.now) (λ pair. bytes_eq pair.0 name) c.args.places.now c.loop-place.place-index _
     c.loop-place-test.true c.loop-place.invariant test))
@@ -17,6 +17,6 @@ returns-then-eq c =
 pub loop-place-preserved : goal.loop-place-preserved
 loop-place-preserved c =
     let name = c.args.name.now in
-    let test = ap (λ l. bytes_eq l name) (sym c.name_in.ensures) ∙ ap (bytes_eq c.name_in.result.now) (sym c.as_bytes.ensures.value) ∙ sym c.eq.ensures ∙ c.if-eq.false in
+    let test = ap (λ l. bytes_eq l name) (sym c.name_in.ensures) ∙ sym c.eq.ensures ∙ c.if-eq.false in
     find-step (pair_at c.args.text.now) (λ pair. bytes_eq pair.0 name) c.args.places.now c.loop-place.place-index _
     c.loop-place-test.true c.loop-place.invariant test
