@@ -12,7 +12,7 @@ pub sized_with : (pages : List (List RowData)) (from to : ℕ) (others : List (L
 sized_with pages from to others sized those =
     sized-append (take from pages) (others ++ drop to pages) (sized-take pages from sized) (sized-append others (drop to pages) those (sized-drop pages to sized))
 
-joined_take : (pages : List (List RowData)) (n : ℕ) → n < length pages → joined (take (suc n) pages) ≡ joined (take n pages) ++ page_at pages n
+pub joined_take : (pages : List (List RowData)) (n : ℕ) → n < length pages → joined (take (suc n) pages) ≡ joined (take n pages) ++ page_at pages n
 joined_take [] n inside = absurd (omega arith)
 joined_take (page ∷ pages) zero inside = append-nil page
 joined_take (page ∷ pages) (suc n) inside =

@@ -5,3 +5,5 @@ pub mod EditLemmas
 pub mod MapEdits
 pub mod FillLemmas
 pub mod HeadLemmas
+pub mod SpanLemmas
+pub mod EdgeLemmas

@@ -3,3 +3,4 @@ pub mod Pages
 pub mod Places
 pub mod Heads
 pub mod Laws
+pub mod Edges

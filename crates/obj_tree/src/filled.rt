@@ -62,30 +62,28 @@ fn cut(
 {
     let mut last = Vec::with_capacity(alloc, FILL)?;
     for shown in rows {
-        last = part_with_room(alloc, parts, last)?;
+        if last.len() == FILL {
+            last = next_part(alloc, parts, last)?;
+        }
         last.push(shown)?;
     }
     Ok(last)
 }
 
-// The part to go on with: the last one, or where that is full a new one, and the last one goes behind the
-// others.
-fn part_with_room(
+// Puts a full part behind the others, and answers the one to go on with, which has room for as many rows.
+fn next_part(
     alloc: Global,
     parts: &mut Vec<Vec<Arc<Shown>>>,
-    last: Vec<Arc<Shown>>,
+    full: Vec<Arc<Shown>>,
 ) -> Result<Vec<Arc<Shown>>, Memory>
     requires filled { AreFilled (map (λ part. values_of part.items) parts.old.items) }
-    requires few { length last.items ≤ 48 }
+    requires full { length full.items ≡ 48 }
     ensures filled { OnOk result (AreFilled (map (λ part. values_of part.items) parts.new.items)) }
     ensures room { IfOk result (λ next. length next.items < 48) }
-    ensures rows { IfOk result (λ next. joined (map (λ part. values_of part.items) parts.new.items) ++ values_of next.items ≡ joined (map (λ part. values_of part.items) parts.old.items) ++ values_of last.items) }
+    ensures rows { IfOk result (λ next. joined (map (λ part. values_of part.items) parts.new.items) ++ values_of next.items ≡ joined (map (λ part. values_of part.items) parts.old.items) ++ values_of full.items) }
 {
-    if last.len() < FILL {
-        return Ok(last);
-    }
     let next = Vec::with_capacity(alloc, FILL)?;
-    add(parts, last)?;
+    add(parts, full)?;
     Ok(next)
 }
 

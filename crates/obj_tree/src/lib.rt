@@ -2,6 +2,7 @@
 //! all of them, and a change copies only the page that it changes, and that only where it is shared.
 #![tactic(auto)]
 
+mod edges;
 mod filled;
 mod head;
 mod laws;

@@ -1,10 +1,11 @@
 //! The objects of a tree at one time.
 
 ghost use Rattle.std.specs.Prelude.{◌≡◌, ◌==◌, length, option_map, option_copied};
-ghost use Rattle.kube_meta.specs.Rows.{AreRising, behind, row_with};
+ghost use Rattle.kube_meta.specs.Rows.{AreRising, behind, row_with, within};
 ghost use Rattle.obj_tree.specs.Pages.{values_of, joined, IsPaged};
 
 use crate::Rows;
+use crate::edges::{first_edge, last_edge, spot_of};
 use crate::search::{find, row_of};
 use crate::shared::{Pages, slice_of};
 use encode_once::Shown;
@@ -21,7 +22,8 @@ pub struct Snapshot {
 }
 
 impl Model for Snapshot {
-    ghost use Rattle.std.specs.Prelude.{◌≡◌, List, length};
+    ghost use Rattle.std.specs.Prelude.{◌≡◌, ◌≤◌, List, length};
+    ghost use Rattle.std.below.core.specs.declared.int.usize.TheConstants.{MAX};
     ghost use Rattle.kube_meta.specs.Rows.{RowData};
     ghost use Rattle.obj_tree.specs.Pages.{values_of, joined, IsPaged};
 
@@ -29,7 +31,7 @@ impl Model for Snapshot {
 
     ghost view = { λ s. joined (values_of s.pages.value.items) };
 
-    ghost invariant = { λ s. IsPaged (values_of s.pages.value.items) × (s.len ≡ length (joined (values_of s.pages.value.items))) };
+    ghost invariant = { λ s. IsPaged (values_of s.pages.value.items) × (s.len ≡ length (joined (values_of s.pages.value.items))) × (s.len ≤ MAX) };
 }
 
 impl Snapshot {
@@ -72,15 +74,27 @@ impl Snapshot {
     {
         let pages = slice_of(&self.pages);
         let Some(key) = after else {
-            return Rows::from(pages, 0);
+            return Rows::from(pages, 0, self.len);
         };
         let Some(place) = find(pages, key) else {
-            return Rows::from(pages, 0);
+            return Rows::from(pages, 0, self.len);
         };
         let (_, pages) = pages.split_at(place.page);
         match place.row {
-            Ok(row) => Rows::from(pages, row + 1),
-            Err(row) => Rows::from(pages, row),
+            Ok(row) => Rows::behind(pages, row + 1),
+            Err(row) => Rows::behind(pages, row),
         }
+    }
+
+    /// Lends the objects of one namespace whose keys are above `after`, or all of them where that is `None`,
+    /// in the order of their keys. They are found by search: no other object is walked over.
+    pub fn within(&self, ns: &str, after: Option<&Key>) -> Rows<'_>
+        ensures rows { result ≡ within ns.now (behind (option_copied after.entry) self.now) }
+        ensures rising { AreRising self.now }
+    {
+        let pages = slice_of(&self.pages);
+        let from = spot_of(pages, &first_edge(ns, after));
+        let to = spot_of(pages, &last_edge(ns));
+        Rows::between(pages, from, to)
     }
 }

@@ -27,7 +27,7 @@ impl Steps for Frames {
             "socket" => begin_socket(&mut sink, rest),
             "length" => begin_message(&mut sink, length_of(rest)),
             "close" => end_socket(&mut sink),
-            "accept" => return Ok(accept_text(alloc, rest)?.into_string()),
+            "accept" => return accept_text(alloc, rest)?.to_string(),
             "upgrade" => return upgrade(alloc, rest),
             "fails" => return fails(alloc, &WholeSocket, 50),
             "read" => return read_back(alloc, rest),

@@ -20,6 +20,7 @@ mod pumps;
 mod replies;
 mod rings;
 mod scenes;
+mod spaces;
 mod systems;
 mod things;
 mod trees;

@@ -97,7 +97,7 @@ fn texts(alloc: Global, text: &str) -> Result<String, Memory> {
     } else {
         "another"
     };
-    let text = Text::from_string(one.into_string());
+    let text = Text::from_string(one.to_string()?);
     Ok(format!(in alloc; "{} is {order}, its copy is {copy}", text.as_str())?)
 }
 

@@ -1,11 +1,12 @@
 //! Trees of objects, and snapshots of them. The objects are `p-1000` and so on, whose order is that of their numbers.
 
+use crate::spaces::{self, lent, spread};
 use crate::things::{revision, shown};
 use crate::words::{NO_STEP, numbers, one, words};
 use case_rows::{Steps, key, number, split};
 use encode_once::Shown;
 use kube_meta::{Key, Memory};
-use obj_tree::{Rows, Snapshot, Tree};
+use obj_tree::{Snapshot, Tree};
 use std::alloc::Global;
 use std::sync::Arc;
 
@@ -57,6 +58,12 @@ impl Steps for Trees {
             }
             "kept" => kept(alloc, &self.kept, self.before.as_slice()),
             "alike" => alike(alloc, rest),
+            "spread" => {
+                self.tree = spread(alloc, number(rest))?;
+                size(alloc, &self.tree)
+            }
+            "within" => spaces::within(alloc, &self.tree, rest),
+            "chosen" => spaces::alike(alloc, &self.tree),
             _ => words(alloc, NO_STEP),
         }
     }
@@ -129,15 +136,6 @@ fn kept(alloc: Global, snapshot: &Snapshot, before: &[u64]) -> Result<String, Me
         "others"
     };
     Ok(format!(in alloc; "{} rows, {same}", snapshot.len())?)
-}
-
-/// The revisions of what is lent.
-fn lent(alloc: Global, rows: Rows<'_>) -> Result<Vec<u64>, Memory> {
-    let mut revisions = Vec::new(alloc);
-    for shown in rows {
-        revisions.push(shown.row().rev)?;
-    }
-    Ok(revisions)
 }
 
 /// A tree beside a plain list of numbers with their revisions, in order.
@@ -240,6 +238,8 @@ fn agree(alloc: Global, beside: &Beside, number: u64) -> Result<bool, Memory> {
     let above = lent(alloc, snapshot.range(Some(&key)))?;
     Ok(
         tree.len() == plain.len()
+            && snapshot.range(None).len() == plain.len()
+            && snapshot.range(Some(&key)).len() == above.len()
             && tree.is_empty() == plain.is_empty()
             && tree.pages() <= plain.len() / 16 + 1
             && all.as_slice() == plain_above(alloc, plain, 0)?.as_slice()

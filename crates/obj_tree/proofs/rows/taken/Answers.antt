@@ -1,7 +1,8 @@
-use Rattle.std.proofs.Common.{◌≡◌, ◌∷◌, ◌+◌, List, drop, ap, sym, ◌∙◌}
+use Rattle.std.proofs.Common.{◌≡◌, ◌∷◌, ◌+◌, List, drop, ap, sym, ◌∙◌, arith}
 use Rattle.kube_meta.specs.Rows.{RowData}
 use Rattle.obj_tree.specs.Pages.{values_of, joined}
 use Rattle.obj_tree.proofs.MapEdits.{row_read, first_taken, within_first}
+use Rattle.obj_tree.proofs.SpanLemmas.{take_one}
 use Rattle.obj_tree.proofs.rows.taken.Goals as goal
 
 pub returns : goal.returns
@@ -14,6 +15,6 @@ returns c =
     let inside = within_first pages first rest c.args.place same c.requires.place in
     let row = c.index-rows-place.result.value in
     let read = row_read (λ p. p.value) c.rows.result.now first c.args.place c.index-rows-place.result row inside (c.rows.ensures ∙ c.deref.ensures) c.index-rows-place.is in
-    first_taken pages first rest c.args.place row same inside
-    ∙ ap (λ (r : RowData). r ∷ drop (c.args.place + 1) (joined pages)) (sym read)
+    let all = first_taken pages first rest c.args.place row same inside ∙ ap (λ (r : RowData). r ∷ drop (c.args.place + 1) (joined pages)) (sym read) in
+    take_one c.in_ok-left.left c.args.left row (drop (c.args.place + 1) (joined pages)) (drop c.args.place (joined pages)) (omega (arith, c.in_ok-left.ensures)) all
     ∙ ap (λ (r : List RowData). row ∷ r) (sym c.from.ensures)
