@@ -1,12 +1,14 @@
--- The selected rows of a state.
-use Rattle.std.proofs.Common.{◌≡◌, ℕ, Bool, true, false, List, [], ◌∷◌, ◌++◌, map, append_assoc, Option, Some, None, inl, inr, refl, ap, ◌∙◌}
-use Rattle.std.specs.Prelude.{filter}
+-- The page of a state's selected rows.
+use Rattle.std.proofs.Common.{◌≡◌, ℕ, Bool, List, [], ◌∷◌, length, Option, Some, None, inl, inr, refl, ap, sym, ◌∙◌}
+use Rattle.std.specs.Prelude.{◌↔◌, filter}
 use Rattle.std.proofs.lemmas.Bool.{cases_Bool}
-use Rattle.std.proofs.lemmas.List.{map-append}
 use Rattle.kube_meta.specs.Rows.{RowData, behind, is_behind}
 use Rattle.select_all.specs.declared.selection.Selection.{Selection}
 use Rattle.select_all.specs.Listings.{listing}
 use Rattle.select_all.specs.Selecting.{selects}
+use Rattle.list_rules.specs.declared.ask.ListAsk.{ListAsk}
+use Rattle.list_rules.specs.Pages.{page_of, left_of, remaining_of}
+use Rattle.client_api.specs.Lists.{IsCut}
 
 filters-swap : {X : Type 0} (f g : X → Bool) (xs : List X) → filter f (filter g xs) ≡ filter g (filter f xs)
 filters-swap f g [] = refl
@@ -26,14 +28,17 @@ pub listing_behind : (s : Selection) (after : Option (List ℕ)) (rows : List Ro
 listing_behind s None rows = refl
 listing_behind s (Some key) rows = filters-swap (λ row. selects s row.obj) (is_behind key) rows
 
--- one more row is selected, or isn't
-pub selected_push : {A : Type 0} (row_in : A → RowData) (s : Selection) (kept new : List A) (item : A) (row : RowData) (iter rest all : List RowData) →
-    map row_in kept ++ listing s iter ≡ all → iter ≡ row ∷ rest → selects s row.obj ≡ true → row_in item ≡ row → new ≡ kept ++ item ∷ [] → map row_in new ++ listing s rest ≡ all
-selected_push row_in s kept new item row iter rest all before first selected same pushed =
-    let now : map row_in kept ++ (row ∷ listing s rest) ≡ all = rw (first, selected) at before in
-    ap (λ xs. map row_in xs ++ listing s rest) pushed ∙ ap (λ xs. xs ++ listing s rest) (map-append row_in kept (item ∷ [])) ∙ append_assoc (map row_in kept) (row_in item ∷ []) (listing s rest)
-    ∙ ap (λ (r : RowData). map row_in kept ++ (r ∷ listing s rest)) same ∙ now
-
-pub selected_skip : {A : Type 0} (row_in : A → RowData) (s : Selection) (kept : List A) (row : RowData) (iter rest all : List RowData) →
-    map row_in kept ++ listing s iter ≡ all → iter ≡ row ∷ rest → selects s row.obj ≡ false → map row_in kept ++ listing s rest ≡ all
-selected_skip row_in s kept row iter rest all before first passed = rw (first, passed) at before
+-- what a walk kept of the rows in question, and what it left of them, is the page and what is left behind it
+pub cut_of_walk : (ask : ListAsk) (state asked kept rest : List RowData) (left : ℕ) → listing ask.selection asked ≡ listing ask.selection (behind ask.after state) →
+    kept ≡ page_of ask.limit (listing ask.selection asked) → length (listing ask.selection rest) ≡ left_of ask.limit (listing ask.selection asked) →
+    (left ≡ 0) ↔ (length (listing ask.selection rest) ≡ 0) → remaining_of ask.selection left ≡ remaining_of ask.selection (length (listing ask.selection rest)) →
+    IsCut ask (behind ask.after (listing ask.selection state)) kept left
+cut_of_walk ask state asked kept rest left in_question first count none told =
+    let s = ask.selection in
+    let all_is : listing s asked ≡ behind ask.after (listing s state) = in_question ∙ listing_behind s ask.after state in
+    let count_is : length (listing s rest) ≡ left_of ask.limit (behind ask.after (listing s state)) = count ∙ ap (left_of ask.limit) all_is in
+    record {
+      rows_are = first ∙ ap (page_of ask.limit) all_is;
+      none_left = (λ e. sym count_is ∙ none.0 e, λ e. none.1 (count_is ∙ e));
+      told = told ∙ ap (remaining_of s) count_is;
+    }

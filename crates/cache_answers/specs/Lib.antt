@@ -1,3 +1,4 @@
 pub mod Reads
 pub mod Starts
 pub mod Turns
+pub mod Walks

@@ -6,6 +6,7 @@ mod pairs;
 mod reads;
 mod starts;
 mod turns;
+mod walks;
 
 pub use pairs::both;
 pub use reads::{found, listed, revision_alone, snapshot_of};

@@ -3,16 +3,16 @@
 ghost use Rattle.std.specs.Prelude.{◌≡◌, IfOk, map};
 ghost use Rattle.kube_meta.specs.Rows.{AreRising, behind};
 ghost use Rattle.select_all.specs.Listings.{listing};
-ghost use Rattle.select_all.specs.Selecting.{selects};
 ghost use Rattle.client_api.specs.Lists.{page_at};
 ghost use Rattle.cache_answers.specs.Reads.{IsFound, revision_alone};
 
-use client_api::{Got, ListNo, Listed, page};
+use crate::walks::{first, in_question, left};
+use client_api::{Got, ListNo, Listed, page_before};
 use encode_once::Shown;
 use kube_meta::{Key, Memory, Row};
 use list_rules::ListAsk;
-use obj_tree::{Rows, Snapshot, Tree};
-use select_all::{Meaning, Selection};
+use obj_tree::{Snapshot, Tree};
+use select_all::Meaning;
 use std::alloc::Global;
 use std::sync::Arc;
 
@@ -40,36 +40,14 @@ pub fn found(state: &Snapshot, key: &Key, at: u64) -> Result<Got, ListNo>
 }
 
 /// The page of the ask, from the objects of its resource at a revision.
-#[tactic(auto, using(crate::proofs::ReadLemmas::listing_behind))]
 pub fn listed(alloc: Global, ask: &ListAsk, rev: u64, state: &Snapshot) -> Result<Listed, Memory>
     ensures { IfOk result (λ l. l ≡ page_at ask.now rev (behind ask.now.after (listing ask.now.selection state.now))) }
 {
-    let rows = selected(alloc, &ask.selection, state.range(ask.after.as_ref()))?;
-    page(alloc, ask, rev, rows)
-}
-
-// The selected ones of the objects, shared.
-pub(crate) fn selected(
-    alloc: Global,
-    selection: &Selection,
-    rows: Rows<'_>,
-) -> Result<Vec<Arc<Shown>>, Memory>
-    ensures { IfOk result (λ kept. map (λ shown. shown.value) kept.items ≡ listing selection.now rows.entry) }
-{
-    let mut kept = Vec::new(alloc);
-    for shown in rows {
-        if is_selected(selection, shown) {
-            kept.push(Arc::try_clone(shown)?)?;
-        }
-    }
-    Ok(kept)
-}
-
-// Whether the selection has the object.
-fn is_selected(selection: &Selection, shown: &Arc<Shown>) -> bool
-    ensures { result ≡ selects selection.now shown.now.value.obj }
-{
-    selection.selects(&shown.row().obj)
+    let selection = &ask.selection;
+    let mut rows = in_question(state, selection, ask.after.as_ref());
+    let items = first(alloc, selection, ask.limit, &mut rows)?;
+    let left = left(selection, rows);
+    page_before(alloc, ask, rev, items, left)
 }
 
 /// The objects of rows in the order of their keys.

@@ -4,7 +4,7 @@ ghost use Rattle.std.specs.Prelude.{◌≡◌, [], IfOk};
 ghost use Rattle.select_all.specs.Listings.{listing};
 ghost use Rattle.cache_answers.specs.Starts.{start_refusal};
 
-use crate::reads::selected;
+use crate::walks::{first, in_question};
 use client_api::{Begun, ListNo, too_large};
 use kube_meta::Memory;
 use obj_tree::Snapshot;
@@ -31,7 +31,8 @@ pub fn opened(
 ) -> Result<Begun, Memory>
     ensures { IfOk result (λ begun. begun ≡ record { at = at; rows = listing selection.now state.now }) }
 {
-    let initial = selected(alloc, selection, state.range(None))?;
+    let mut rows = in_question(state, selection, None);
+    let initial = first(alloc, selection, 0, &mut rows)?;
     Ok(Begun { at, initial })
 }
 

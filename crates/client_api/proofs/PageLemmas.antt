@@ -1,14 +1,32 @@
--- The page that begins with some rows, from the items that hold them.
-use Rattle.std.proofs.Common.{◌≡◌, ℕ, zero, suc, ◌-◌, ◌<◌, ◌≤◌, Bool, true, false, List, length, map, take, Option, Some, None, refl, ap, sym, ◌∙◌, arith}
+-- The page that begins with some rows, from the items that hold those of it and from how many are left.
+use Rattle.std.proofs.Common.{◌≡◌, ℕ, zero, suc, ◌-◌, ◌<◌, Bool, true, false, List, [], ◌∷◌, length, map, take, Option, Some, None, refl, ap, sym, ◌∙◌, arith}
 use Rattle.std.proofs.lemmas.Bool.{lt-ltb, ltb-true}
-use Rattle.std.proofs.lemmas.List.{take-map, length-map}
+use Rattle.std.proofs.lemmas.List.{take-map, length-map, length-take-le}
 use Rattle.std.proofs.lemmas.Option.{slice_get-map}
-use Rattle.std.specs.Prelude.{nat_lt, slice_get, option_map, if◌then◌else◌}
+use Rattle.std.specs.Prelude.{◌↔◌, nat_lt, slice_get, option_map, if◌then◌else◌}
 use Rattle.kube_meta.specs.Rows.{RowData, key_of}
 use Rattle.list_rules.specs.declared.ask.ListAsk.{ListAsk}
 use Rattle.list_rules.specs.Pages.{page_of, next_of, left_of, remaining_of}
 use Rattle.list_rules.specs.Tokens.{token_text}
-use Rattle.client_api.specs.Lists.{more_of, more_at}
+use Rattle.client_api.specs.Lists.{IsCut, more_of, more_at}
+
+-- ---- how many are left
+
+pub left_unlimited : (limit : ℕ) (rows : List RowData) → limit ≡ 0 → 0 ≡ left_of limit rows
+left_unlimited limit rows none = sym (ap (λ n. left_of n rows) none)
+
+pub left_limited : (limit count : ℕ) (rows : List RowData) → 0 < limit → length rows ≡ count → count - limit ≡ left_of limit rows
+left_limited zero count rows some many = absurd (omega (arith, some))
+left_limited (suc n) count rows some many = ap (λ m. m - suc n) (sym many)
+
+-- the first rows of all, and how many are left, are the page's
+pub cut_off : {A : Type 0} (row_in : A → RowData) (ask : ListAsk) (items kept : List A) (left : ℕ) → ((rows : List RowData) → length rows ≡ length items → left ≡ left_of ask.limit rows) →
+    map row_in kept ≡ page_of ask.limit (map row_in items) → IsCut ask (map row_in items) (map row_in kept) left
+cut_off row_in ask items kept left counted first =
+    let same : left ≡ left_of ask.limit (map row_in items) = counted (map row_in items) (length-map items row_in) in
+    record { rows_are = first; none_left = (λ none. sym same ∙ none, λ none. same ∙ none); told = ap (remaining_of ask.selection) same }
+
+-- ---- the next page
 
 next-some : (limit : ℕ) (rows : List RowData) (row : RowData) → 0 < limit → limit < length rows → slice_get rows (limit - 1) ≡ Some row → next_of limit rows ≡ Some (key_of row)
 next-some zero rows row some more at = absurd (omega (arith, some))
@@ -21,18 +39,7 @@ next-some (suc n) rows row some more at =
     moved : slice_get rows (suc n - 1) ≡ Some row → slice_get rows n ≡ Some row
     moved h = sym (ap (slice_get rows) same) ∙ h
 
-left-some : (limit : ℕ) (rows : List RowData) → 0 < limit → left_of limit rows ≡ length rows - limit
-left-some zero rows some = absurd (omega (arith, some))
-left-some (suc n) rows some = refl
-
--- rows are left
-pub more_some : (ask : ListAsk) (rev : ℕ) (rows : List RowData) (row : RowData) → 0 < ask.limit → ask.limit < length rows → slice_get rows (ask.limit - 1) ≡ Some row →
-    more_of ask rev rows ≡ Some (more_at ask rev (length rows - ask.limit) (key_of row))
-more_some ask rev rows row some more at =
-    ap (option_map (more_at ask rev (left_of ask.limit rows))) (next-some ask.limit rows row some more at)
-    ∙ ap (λ n. Some (more_at ask rev n (key_of row))) (left-some ask.limit rows some)
-
-next-none : (limit : ℕ) (rows : List RowData) → length rows ≤ limit → next_of limit rows ≡ None
+next-none : (limit : ℕ) (rows : List RowData) → left_of limit rows ≡ 0 → next_of limit rows ≡ None
 next-none zero rows few = refl
 next-none (suc n) rows few = beyond (nat_lt (suc n) (length rows)) refl
   where
@@ -40,30 +47,55 @@ next-none (suc n) rows few = beyond (nat_lt (suc n) (length rows)) refl
     beyond true is = absurd (omega (arith, few, ltb-true (suc n) (length rows) is))
     beyond false is = ap (λ (b : Bool). if b then option_map key_of (slice_get rows n) else None) is
 
--- none is
-pub more_none : (ask : ListAsk) (rev : ℕ) (rows : List RowData) → length rows ≤ ask.limit → more_of ask rev rows ≡ None
-more_none ask rev rows few = ap (option_map (more_at ask rev (left_of ask.limit rows))) (next-none ask.limit rows few)
+get_take : (n m : ℕ) (rows : List RowData) → m < n → slice_get (take n rows) m ≡ slice_get rows m
+get_take zero m rows less = absurd (omega (arith, less))
+get_take (suc n) m [] less = refl
+get_take (suc n) zero (row ∷ rows) less = refl
+get_take (suc n) (suc m) (row ∷ rows) less = get_take n m rows (omega (arith, less))
 
--- the next page, from the items that hold the rows
-pub more_made : {A : Type 0} (row_in : A → RowData) (ask : ListAsk) (rev : ℕ) (items : List A) (item : A) (token : List ℕ) (left : Option ℕ) → 0 < ask.limit → ask.limit < length items →
-    slice_get items (ask.limit - 1) ≡ Some item → token ≡ token_text ask.selection ask.label_text ask.field_text rev (key_of (row_in item)) →
-    left ≡ remaining_of ask.selection (length items - ask.limit) → Some (record { token = token; left = left }) ≡ more_of ask rev (map row_in items)
-more_made row_in ask rev items item token left some more at token_is left_is =
+-- where rows are left, it begins behind the last one of the page
+next-kept : (limit : ℕ) (all rows : List RowData) (row : RowData) → 0 < left_of limit all → rows ≡ page_of limit all → slice_get rows (length rows - 1) ≡ Some row → next_of limit all ≡ Some (key_of row)
+next-kept zero all rows row more same last = absurd (omega (arith, more))
+next-kept (suc n) all rows row more same last =
+    let many : length rows ≡ suc n = ap length same ∙ length-take-le (suc n) all (omega (arith, more)) in
+    let place : length rows - 1 ≡ n = omega (arith, many) in
+    let there : slice_get all n ≡ Some row = sym (get_take (suc n) n all (omega arith)) ∙ sym (ap (λ (l : List RowData). slice_get l n) same) ∙ sym (ap (slice_get rows) place) ∙ last in
+    let before : suc n - 1 ≡ n = omega arith in
+    next-some (suc n) all row (omega arith) (omega (arith, more)) (ap (slice_get all) before ∙ there)
+
+above : (left other : ℕ) → (left ≡ 0) ↔ (other ≡ 0) → 0 < left → 0 < other
+above left zero same some = absurd (omega (arith, some, same.1 refl))
+above left (suc other) same some = omega arith
+
+pub more_made : {A : Type 0} (row_in : A → RowData) (ask : ListAsk) (rev : ℕ) (all : List RowData) (items : List A) (item : A) (token : List ℕ) (left : ℕ) (told : Option ℕ) → IsCut ask all (map row_in items) left → 0 < left →
+    slice_get items (length items - 1) ≡ Some item → token ≡ token_text ask.selection ask.label_text ask.field_text rev (key_of (row_in item)) →
+    told ≡ remaining_of ask.selection left → Some (record { token = token; left = told }) ≡ more_of ask rev all
+more_made row_in ask rev all items item token left told cut some at token_is told_is =
     let rows = map row_in items in
     let many : length rows ≡ length items = length-map items row_in in
-    let found : slice_get rows (ask.limit - 1) ≡ Some (row_in item) = slice_get-map row_in items (ask.limit - 1) ∙ ap (option_map row_in) at in
-    let goal : more_of ask rev rows ≡ Some (more_at ask rev (length rows - ask.limit) (key_of (row_in item))) = more_some ask rev rows (row_in item) some (omega (arith, more, many)) found in
-    let lefts : left ≡ remaining_of ask.selection (length rows - ask.limit) = left_is ∙ ap (λ n. remaining_of ask.selection (n - ask.limit)) (sym many) in
-    ap (λ (z : List ℕ × Option ℕ). Some (record { token = z.0; left = z.1 })) {x = (token, left)} {y = (token_text ask.selection ask.label_text ask.field_text rev (key_of (row_in item)), remaining_of ask.selection (length rows - ask.limit))} (λ i. (token_is i, lefts i))
-    ∙ sym goal
+    let last : slice_get rows (length rows - 1) ≡ Some (row_in item) = ap (λ n. slice_get rows (n - 1)) many ∙ slice_get-map row_in items (length items - 1) ∙ ap (option_map row_in) at in
+    let next : next_of ask.limit all ≡ Some (key_of (row_in item)) = next-kept ask.limit all rows (row_in item) (above left (left_of ask.limit all) cut.none_left some) cut.rows_are last in
+    let lefts : told ≡ remaining_of ask.selection (left_of ask.limit all) = told_is ∙ cut.told in
+    ap (λ (z : List ℕ × Option ℕ). Some (record { token = z.0; left = z.1 })) {x = (token, told)} {y = (token_text ask.selection ask.label_text ask.field_text rev (key_of (row_in item)), remaining_of ask.selection (left_of ask.limit all))} (λ i. (token_is i, lefts i))
+    ∙ sym (ap (option_map (more_at ask rev (left_of ask.limit all))) next)
 
-pub none_made : {A : Type 0} (row_in : A → RowData) (ask : ListAsk) (rev : ℕ) (items : List A) → length items ≤ ask.limit → None ≡ more_of ask rev (map row_in items)
-none_made row_in ask rev items few = sym (more_none ask rev (map row_in items) (omega (arith, few, length-map items row_in)))
+-- there is none where no row is left
+pub more_none : (ask : ListAsk) (rev : ℕ) (all rows : List RowData) (left : ℕ) → IsCut ask all rows left → left ≡ 0 → None ≡ more_of ask rev all
+more_none ask rev all rows left cut none = sym (ap (option_map (more_at ask rev (left_of ask.limit all))) (next-none ask.limit all (cut.none_left.0 none)))
 
-pub none_unlimited : {A : Type 0} (row_in : A → RowData) (ask : ListAsk) (rev : ℕ) (items : List A) → ask.limit ≡ 0 → None ≡ more_of ask rev (map row_in items)
-none_unlimited row_in ask rev items none = sym (ap (option_map (more_at ask rev (left_of ask.limit (map row_in items)))) (ap (λ n. next_of n (map row_in items)) none))
+none_first : (limit : ℕ) (all : List RowData) → length (page_of limit all) ≡ 0 → left_of limit all ≡ 0
+none_first zero all none = refl
+none_first (suc n) [] none = omega arith
+none_first (suc n) (row ∷ rows) none = absurd (omega (arith, none))
 
--- the rows of the page
+-- or the page has none
+pub more_empty : {A : Type 0} (row_in : A → RowData) (ask : ListAsk) (rev : ℕ) (all : List RowData) (items : List A) (left : ℕ) → IsCut ask all (map row_in items) left → length items ≡ 0 → None ≡ more_of ask rev all
+more_empty row_in ask rev all items left cut none =
+    let rows_none : length (page_of ask.limit all) ≡ 0 = sym (ap length cut.rows_are) ∙ length-map items row_in ∙ none in
+    sym (ap (option_map (more_at ask rev (left_of ask.limit all))) (next-none ask.limit all (none_first ask.limit all rows_none)))
+
+-- ---- the rows of the page
+
 pub page_all : {A : Type 0} (row_in : A → RowData) (limit : ℕ) (items : List A) → limit ≡ 0 → map row_in items ≡ page_of limit (map row_in items)
 page_all row_in limit items none = sym (ap (λ n. page_of n (map row_in items)) none)
 

@@ -1,5 +1,5 @@
 -- What a list answers, between what was known before and what is known afterwards.
-use Rattle.std.specs.Prelude.{◌≡◌, ℕ, List, Option, option_map, Result, Ok, Err}
+use Rattle.std.specs.Prelude.{◌≡◌, ◌↔◌, ℕ, List, Option, option_map, Result, Ok, Err}
 use Rattle.kube_meta.specs.Rows.{RowData, behind}
 use Rattle.rev_front.specs.Passes.{Pass}
 use Rattle.rev_log.specs.Changes.{RevisionData}
@@ -30,6 +30,13 @@ more_of ask rev rows = option_map (more_at ask rev (left_of ask.limit rows)) (ne
 -- the page that begins with these rows: the first `limit` of them, or all where there is no limit
 abbrev pub page_at : ListAsk → ℕ → List RowData → ListedData
 page_at ask rev rows = record { rev = rev; rows = page_of ask.limit rows; more = more_of ask rev rows }
+
+-- The rows are the page that begins with `all`, and `left` tells what a reply tells of the rows left behind it: it is 0
+-- exactly where none are, and their number where that is told.
+pub record IsCut (ask : ListAsk) (all rows : List RowData) (left : ℕ) : Type 0 where
+  pub rows_are : rows ≡ page_of ask.limit all
+  pub none_left : (left ≡ 0) ↔ (left_of ask.limit all ≡ 0)
+  pub told : remaining_of ask.selection left ≡ remaining_of ask.selection (left_of ask.limit all)
 
 -- A list: at a fresh revision, of the selection's rows there, in the order of their keys, those behind the ask's key,
 -- the first `limit` of them where there is a limit; and whether more are left.

@@ -16,5 +16,5 @@ pub use client::Client;
 pub use laws::{
     lists_agree, loads_are_ends, loads_are_fresh, looks_load, onwards_join, starts_tell, turns_tell,
 };
-pub use pages::{page, too_large};
+pub use pages::{page, page_before, too_large};
 pub use watch_lane::Line;
