@@ -306,7 +306,8 @@ impl<N: LogFacts> Bench<N> {
     }
 }
 
-/// Times lists of a store that keeps 2,000 revisions: at its floor, half way and at its end. Prints the best of each.
+/// Times lists of a store that keeps 2,000 revisions: at its floor, half way and at its end. Half way a list is made by
+/// 1,000 changes of a copy of the floor's rows. Prints the best of each.
 pub fn report_lists<N: LogFacts, R: Runtime>(rt: &R, bench: &mut Bench<N>) -> io::Result<()> {
     let _times = bench.changes(rt, 2_000)?;
     let _lines = bench.drain();

@@ -9,6 +9,10 @@ pub enum Kind {
     Get,
     /// All objects with one of ten labels.
     List,
+    /// The first page of all objects.
+    Page,
+    /// All objects of one of a hundred namespaces.
+    Namespace,
     /// The events of all objects.
     Watch,
 }
@@ -18,7 +22,7 @@ pub enum Kind {
 pub struct Size {
     /// Objects that are created, got and watched.
     pub objects: u64,
-    /// Lists by label.
+    /// Lists of each kind.
     pub lists: u64,
 }
 
@@ -27,7 +31,7 @@ impl Kind {
     pub fn requests(self, size: Size) -> u64 {
         match self {
             Kind::Create | Kind::Get => size.objects,
-            Kind::List => size.lists,
+            Kind::List | Kind::Page | Kind::Namespace => size.lists,
             Kind::Watch => 1,
         }
     }

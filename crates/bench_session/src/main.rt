@@ -1,5 +1,5 @@
 //! Times whole sessions of a client with caches, from bytes in memory to bytes in memory: creates of objects, gets of
-//! them, lists of a tenth of them by label, and a watch of all their events.
+//! them, lists of a tenth of them by label, of a page and of a namespace, and a watch of all their events.
 //!
 //! Beside a session stands what its parts cost alone. A plain loop does the same work and answers nobody: it reads the
 //! same requests (`http_read`), finds what each asks for (`route_req`, which reads the objects too) and asks that of a
@@ -50,7 +50,12 @@ fn check<R: Runtime>(rt: &R, alloc: Global) -> io::Result<()> {
 // Prints how many objects and events came out.
 fn print_counts<R: Runtime>(rt: &R, way: &str, passes: &Passes) -> io::Result<()> {
     println!(rt;
-        "bench_session: by {way} {} objects created, {} got, {} listed, and {} events watched",
-        passes.create.came, passes.get.came, passes.list.came, passes.watch.came
+        "bench_session: by {way} {} objects created, {} got, {} listed, {} on a page, {} in a namespace, and {} events watched",
+        passes.create.came,
+        passes.get.came,
+        passes.list.came,
+        passes.page.came,
+        passes.namespace.came,
+        passes.watch.came
     )
 }

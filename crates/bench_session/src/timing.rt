@@ -31,6 +31,8 @@ fn best(first: Passes, second: Passes) -> Passes {
         create: quicker(first.create, second.create),
         get: quicker(first.get, second.get),
         list: quicker(first.list, second.list),
+        page: quicker(first.page, second.page),
+        namespace: quicker(first.namespace, second.namespace),
         watch: quicker(first.watch, second.watch),
     }
 }
@@ -74,6 +76,14 @@ fn print_round<R: Runtime>(rt: &R, alloc: Global, all: &Round) -> io::Result<()>
     print_kind(rt, alloc, Kind::Create, "create", all)?;
     print_kind(rt, alloc, Kind::Get, "get", all)?;
     print_kind(rt, alloc, Kind::List, "list of 1000 of 10000 by label", all)?;
+    print_kind(rt, alloc, Kind::Page, "page of 50 of 10000", all)?;
+    print_kind(
+        rt,
+        alloc,
+        Kind::Namespace,
+        "list of a namespace of 100 of 10000",
+        all,
+    )?;
     print_kind(rt, alloc, Kind::Watch, "watch of 10000 events", all)
 }
 

@@ -44,6 +44,8 @@ pub struct Passes {
     pub create: Pass,
     pub get: Pass,
     pub list: Pass,
+    pub page: Pass,
+    pub namespace: Pass,
     pub watch: Pass,
 }
 
@@ -54,6 +56,8 @@ impl Passes {
             Kind::Create => self.create,
             Kind::Get => self.get,
             Kind::List => self.list,
+            Kind::Page => self.page,
+            Kind::Namespace => self.namespace,
             Kind::Watch => self.watch,
         }
     }
@@ -103,6 +107,8 @@ fn over<R: Clock, C: Client>(
         create: serve_kind(rt, alloc, client, way, Kind::Create, size)?,
         get: serve_kind(rt, alloc, client, way, Kind::Get, size)?,
         list: serve_kind(rt, alloc, client, way, Kind::List, size)?,
+        page: serve_kind(rt, alloc, client, way, Kind::Page, size)?,
+        namespace: serve_kind(rt, alloc, client, way, Kind::Namespace, size)?,
         watch: serve_kind(rt, alloc, client, way, Kind::Watch, size)?,
     })
 }

@@ -4,7 +4,7 @@ use Rattle.std.specs.Str.Pattern.{FindsText, SplitsAroundMatch}
 use Rattle.std.specs.List.{count_by}
 use Rattle.std.specs.Str.{trim}
 
--- whether a line says nothing: it is blank, or begins with `#`
+-- whether a line says nothing: it is empty, or begins with `#`
 abbrev pub is_silent : List ℕ → Bool
 is_silent line = length line == 0 || slice_index line 0 == 35
 

@@ -22,8 +22,8 @@ pub struct Row<'a> {
 }
 
 impl<'a> Row<'a> {
-    /// The row of a line. A blank line and one that begins with `#` have none. A line without ` => ` wants `no_row`, an
-    /// answer that nothing gives, and so is a mismatch, unless it ends with ` =>` and so wants an empty answer.
+    /// The row of a line. An empty line and one that begins with `#` have none. A line without ` => ` wants `no_row`,
+    /// an answer that nothing gives, and so is a mismatch, unless it ends with ` =>` and so wants an empty answer.
     pub fn of_line(line: &'a str, no_row: &'a str) -> Option<Row<'a>>
         ensures none { IfNone result (is_silent line.now ≡ true) }
         ensures row { IfSome result (λ row. (is_silent line.now ≡ false) × IsRowOf line.now no_row.now row.step.now row.wanted.now) }
@@ -39,7 +39,7 @@ impl<'a> Row<'a> {
     }
 }
 
-/// Whether a line is blank, or begins with `#`.
+/// Whether a line is empty, or begins with `#`.
 pub fn says_nothing(line: &str) -> bool
     ensures { result ≡ is_silent line.now }
 {
