@@ -2,6 +2,7 @@
 
 ghost use Rattle.std.specs.Prelude.{◌≡◌, ℕ, ◌≤◌, [], false, Some, None, IfOk};
 ghost use Rattle.up_api.specs.Settings.{AreInRange};
+ghost use Rattle.client_api.specs.Gets.{IsGetAnswer};
 ghost use Rattle.client_api.specs.Lists.{IsListAnswer, IsListed};
 ghost use Rattle.client_api.specs.Refusals.{refusal_above};
 ghost use Rattle.cache_answers.specs.Reads.{revision_alone};
@@ -95,9 +96,7 @@ impl<N: LogFacts> Client for LocalClient<N> {
         if let Some(no) = too_large(ask.meaning, loaded) {
             return Err(no);
         }
-        let at = self.log.end(ask.resource);
-        let state = self.log.snapshot(ask.resource)?;
-        found(&state, &ask.key, at)
+        standing(&self.log, ask)
     }
 
     fn list(&mut self, ask: &ListAsk) -> Result<Listed, ListNo> {
@@ -142,6 +141,17 @@ impl<N: LogFacts> Client for LocalClient<N> {
             self.log.tick(watch.selection.resource, ms);
         }
     }
+}
+
+// The object at the ask's key, at its cache's end.
+fn standing<N: LogFacts>(log: &CachedLog<N>, ask: &GetAsk) -> Result<Got, ListNo>
+    ensures answer { (old : CachedLogData) (loaded : ℕ) → HasFollowed ask.now.resource loaded old log.now →
+        refusal_above ask.now.meaning loaded ≡ None → IsGetAnswer N.base old.pass ask.now result log.now.pass }
+    ensures within { IfOk result (λ got. got.at ≤ end_at log.now.caches ask.now.resource) }
+{
+    let at = log.end(ask.resource);
+    let state = log.snapshot(ask.resource)?;
+    found(&state, &ask.key, at)
 }
 
 // The page of the ask at its cache's end.
