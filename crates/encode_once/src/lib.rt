@@ -1,21 +1,30 @@
-//! The JSON of a row, made once and lent to everybody: the object's two texts are shared, and only the
-//! digits of the revision are written.
+//! A row with what is made of it once and lent to everybody: its JSON, of which the object's two texts are
+//! shared and only the digits of the revision are written, and the prefix of its key.
 #![tactic(auto)]
+
+mod prefix;
+mod sought;
 
 ghost use Rattle.std.specs.Prelude.{◌≡◌, ◌++◌, IfOk, decimal};
 ghost use Rattle.kube_meta.specs.Objects.{object_json};
+ghost use Rattle.kube_meta.specs.Rows.{key_of};
+ghost use Rattle.encode_once.specs.Prefixes.{first_bytes};
 
 use itoa::write_digits;
 use kube_meta::{Memory, Row};
+pub use prefix::{KeyPrefix, prefixes_are_in_order};
+pub use sought::Sought;
 use std::alloc::Global;
 use std::marker::Model;
 use std::sync::Arc;
 
 /// A row with the text of its revision, so that its JSON can be sent part by part without being
-/// copied. Seen in contracts as the row.
+/// copied, and with the prefix of its key, so that rows can be searched without a look at their objects.
+/// Seen in contracts as the row.
 #[derive(Debug, Drop)]
 pub struct Shown {
     row: Row,
+    prefix: KeyPrefix,
     // The digits of the revision stand at the end of 20 bytes, from `start` on.
     digits: [u8; 20],
     start: u8,
@@ -23,13 +32,14 @@ pub struct Shown {
 
 impl Model for Shown {
     ghost use Rattle.std.specs.Prelude.{◌≡◌, ◌≤◌, decimal, drop};
-    ghost use Rattle.kube_meta.specs.Rows.{RowData};
+    ghost use Rattle.kube_meta.specs.Rows.{RowData, key_of};
+    ghost use Rattle.encode_once.specs.Prefixes.{first_bytes};
 
     ghost Value = { RowData };
 
     ghost view = { λ s. s.row };
 
-    ghost invariant = { λ s. (s.start ≤ 20) × (drop s.start s.digits ≡ decimal s.row.rev) };
+    ghost invariant = { λ s. (s.start ≤ 20) × (drop s.start s.digits ≡ decimal s.row.rev) × (s.prefix.bytes ≡ first_bytes 48 (key_of s.row)) };
 }
 
 impl Shown {
@@ -39,7 +49,14 @@ impl Shown {
     {
         let mut digits = [0; 20];
         let start = write_digits(row.rev, &mut digits, 20) as u8;
-        Ok(Arc::new(alloc, Shown { row, digits, start })?)
+        let prefix = KeyPrefix::of(&row.obj.key);
+        let shown = Shown {
+            row,
+            prefix,
+            digits,
+            start,
+        };
+        Ok(Arc::new(alloc, shown)?)
     }
 
     /// The row that is shown.
@@ -47,6 +64,13 @@ impl Shown {
         ensures { result.now ≡ self.now }
     {
         &self.row
+    }
+
+    /// The first bytes of the object's key.
+    pub fn prefix(&self) -> &KeyPrefix
+        ensures { result.now.bytes ≡ first_bytes 48 (key_of self.now) }
+    {
+        &self.prefix
     }
 
     /// The object's JSON up to its revision.

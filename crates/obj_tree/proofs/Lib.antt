@@ -4,6 +4,6 @@ pub mod SearchLemmas
 pub mod EditLemmas
 pub mod MapEdits
 pub mod FillLemmas
-pub mod HeadLemmas
+pub mod PrefixLemmas
 pub mod SpanLemmas
 pub mod EdgeLemmas

@@ -1,6 +1,6 @@
 pub mod Maps
 pub mod Pages
 pub mod Places
-pub mod Heads
+pub mod Prefixes
 pub mod Laws
 pub mod Edges

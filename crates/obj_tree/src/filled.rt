@@ -13,7 +13,7 @@ use std::sync::Arc;
 const FILL: usize = 48;
 
 /// Pages of 48 rows, and a last one of those that are left. The rows are cut before a page is made of any,
-/// so that the looks at the pages' first keys don't wait for one another.
+/// so that the looks at the pages' first rows don't wait for one another.
 pub(crate) fn filled(alloc: Global, rows: Vec<Arc<Shown>>) -> Result<Vec<Arc<Page>>, Memory>
     ensures { IfOk result (λ pages. ArePagesOf (values_of pages.items) (values_of rows.items)) }
 {
@@ -31,15 +31,15 @@ fn paged(alloc: Global, parts: Vec<Vec<Arc<Shown>>>) -> Result<Vec<Arc<Page>>, M
     ensures { IfOk result (λ pages. values_of pages.items ≡ map (λ part. values_of part.items) parts.items) }
 {
     let mut pages = Vec::with_capacity(alloc, parts.len())?;
-    for page in with_heads(alloc, parts)? {
+    for page in prefixed(alloc, parts)? {
         pages.push(Arc::new(alloc, page)?)?;
     }
     Ok(pages)
 }
 
-// The parts with the heads of their first keys. Nothing else is done here, so that many looks are under way at
+// The parts with the prefixes of their first rows. Nothing else is done here, so that many looks are under way at
 // a time.
-fn with_heads(alloc: Global, parts: Vec<Vec<Arc<Shown>>>) -> Result<Vec<Page>, Memory>
+fn prefixed(alloc: Global, parts: Vec<Vec<Arc<Shown>>>) -> Result<Vec<Page>, Memory>
     ensures { IfOk result (λ pages. pages.items ≡ map (λ part. values_of part.items) parts.items) }
 {
     let mut pages = Vec::with_capacity(alloc, parts.len())?;

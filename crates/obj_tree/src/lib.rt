@@ -4,7 +4,6 @@
 
 mod edges;
 mod filled;
-mod head;
 mod laws;
 mod page;
 mod pages;

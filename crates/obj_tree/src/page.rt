@@ -2,11 +2,10 @@
 
 ghost use Rattle.std.specs.Prelude.{◌≡◌, ◌++◌, ◌∷◌, [], ◌≤◌, ◌<◌, ◌+◌, length, take, drop, IfOk, OnOk, OnErr};
 ghost use Rattle.kube_meta.specs.Rows.{key_of as row_key};
-ghost use Rattle.obj_tree.specs.Heads.{IsHead};
+ghost use Rattle.obj_tree.specs.Prefixes.{IsPrefix};
 ghost use Rattle.obj_tree.specs.Pages.{values_of, begins_by, row_put, row_gone};
 
-use crate::head::{Head, Sought, head_of};
-use encode_once::Shown;
+use encode_once::{KeyPrefix, Shown, Sought};
 use kube_meta::{Key, Memory};
 use std::alloc::Global;
 use std::cmp::Ordering;
@@ -16,22 +15,22 @@ use std::sync::Arc;
 /// Some rows that stand next to each other. Seen in contracts as their list.
 #[derive(Drop)]
 pub(crate) struct Page {
-    // The head of the first row's key.
-    head: Head,
+    // The first row's prefix, by which most pages are told apart without a look at their rows.
+    prefix: KeyPrefix,
     rows: Vec<Arc<Shown>>,
 }
 
 impl Model for Page {
     ghost use Rattle.std.specs.Prelude.{List};
     ghost use Rattle.kube_meta.specs.Rows.{RowData};
-    ghost use Rattle.obj_tree.specs.Heads.{IsHead};
+    ghost use Rattle.obj_tree.specs.Prefixes.{IsPrefix};
     ghost use Rattle.obj_tree.specs.Pages.{values_of};
 
     ghost Value = { List RowData };
 
     ghost view = { λ p. values_of p.rows.items };
 
-    ghost invariant = { λ p. IsHead p.head (values_of p.rows.items) };
+    ghost invariant = { λ p. IsPrefix p.prefix (values_of p.rows.items) };
 }
 
 impl Page {
@@ -49,13 +48,13 @@ impl Page {
         self.rows.len()
     }
 
-    // Whether the first row isn't above a key. The row itself is looked at only where the heads are equal.
+    // Whether the first row isn't above a key. The row itself is looked at only where the prefixes are equal.
     pub(crate) fn begins_by(&self, sought: &Sought<'_>) -> bool
-        ensures { result ≡ begins_by sought.now.key.now self.now }
+        ensures { result ≡ begins_by sought.now self.now }
     {
-        match self.head.cmp(&sought.head) {
+        match self.prefix.order(sought.prefix()) {
             Ordering::Less => true,
-            Ordering::Equal => is_first_by(&self.rows, sought.key),
+            Ordering::Equal => is_first_by(&self.rows, sought),
             Ordering::Greater => self.rows.as_slice().is_empty(),
         }
     }
@@ -77,7 +76,7 @@ impl Page {
     {
         self.rows.insert(place, shown)?;
         if place == 0 {
-            self.head = head_of_first(&self.rows);
+            self.prefix = prefix_of(&self.rows);
         }
         Ok(())
     }
@@ -89,7 +88,7 @@ impl Page {
     {
         self.rows[place] = shown;
         if place == 0 {
-            self.head = head_of_first(&self.rows);
+            self.prefix = prefix_of(&self.rows);
         }
     }
 
@@ -100,7 +99,7 @@ impl Page {
     {
         self.rows.remove(place);
         if place == 0 {
-            self.head = head_of_first(&self.rows);
+            self.prefix = prefix_of(&self.rows);
         }
     }
 
@@ -109,7 +108,7 @@ impl Page {
         ensures { result ≡ values_of rows.items }
     {
         Page {
-            head: head_of_first(&rows),
+            prefix: prefix_of(&rows),
             rows,
         }
     }
@@ -199,22 +198,22 @@ pub(crate) fn key_of(shown: &Shown) -> &Key
 }
 
 // Whether the first of rows isn't above a key.
-fn is_first_by(rows: &[Arc<Shown>], key: &Key) -> bool
-    ensures { result ≡ begins_by key.now (values_of rows.now) }
+fn is_first_by(rows: &[Arc<Shown>], sought: &Sought<'_>) -> bool
+    ensures { result ≡ begins_by sought.now (values_of rows.now) }
 {
     match rows.first() {
-        Some(shown) => !key.cmp(key_of(shown)).is_lt(),
+        Some(shown) => !shown.key_order(sought).is_gt(),
         None => true,
     }
 }
 
-// The head of the first row's key.
-fn head_of_first(rows: &[Arc<Shown>]) -> Head
-    ensures { IsHead result (values_of rows.now) }
+// The first row's prefix.
+fn prefix_of(rows: &[Arc<Shown>]) -> KeyPrefix
+    ensures { IsPrefix result (values_of rows.now) }
 {
     match rows.first() {
-        Some(shown) => head_of(key_of(shown)),
-        None => [0; 32],
+        Some(shown) => *shown.prefix(),
+        None => KeyPrefix::none(),
     }
 }
 

@@ -5,10 +5,10 @@ ghost use Rattle.kube_meta.specs.Rows.{RowData, key_of as row_key, row_with};
 ghost use Rattle.obj_tree.specs.Maps.{with_row, without};
 ghost use Rattle.obj_tree.specs.Pages.{values_of, joined, page_at, replaced, row_put, divided, row_gone, AreSized, AreFull, IsPaged, ArePagesOf, FitsBefore, FitsAfter};
 
-use crate::page::{Page, key_of};
+use crate::page::Page;
 use crate::search::find;
 use crate::shared::{Pages, own, slice_of};
-use encode_once::Shown;
+use encode_once::{Shown, Sought};
 use kube_meta::{Key, Memory};
 use std::alloc::Global;
 use std::sync::Arc;
@@ -26,7 +26,7 @@ pub(crate) fn put(
     ensures paged { IsPaged (values_of pages.new.value.items) }
     ensures err { OnErr result (values_of pages.new.value.items ≡ values_of pages.old.value.items) }
 {
-    let Some(place) = find(slice_of(pages), key_of(&shown)) else {
+    let Some(place) = find(slice_of(pages), &shown.sought()) else {
         put_first(alloc, pages, shown)?;
         return Ok(None);
     };
@@ -58,7 +58,7 @@ pub(crate) fn remove(
     ensures absent { row_with (joined (values_of pages.old.value.items)) key.now ≡ None → (result ≡ Ok None) × (pages.new ≡ pages.old) }
     ensures err { OnErr result (values_of pages.new.value.items ≡ values_of pages.old.value.items) }
 {
-    let Some(place) = find(slice_of(pages), key) else {
+    let Some(place) = find(slice_of(pages), &Sought::new(key)) else {
         return Ok(None);
     };
     let Ok(row) = place.row else {

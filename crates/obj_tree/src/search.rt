@@ -7,10 +7,8 @@ ghost use Rattle.obj_tree.specs.Maps.{is_below};
 ghost use Rattle.obj_tree.specs.Pages.{values_of, joined, IsPaged, IsPageFor, IsRowAt, IsGapAt};
 ghost use Rattle.obj_tree.specs.Places.{IsPlace};
 
-use crate::head::{Sought, head_of};
-use crate::page::{Page, key_of};
-use encode_once::Shown;
-use kube_meta::Key;
+use crate::page::Page;
+use encode_once::{Shown, Sought};
 use std::cmp::Ordering;
 use std::sync::Arc;
 
@@ -25,11 +23,11 @@ pub(crate) struct Place {
 }
 
 /// The row with a key, if there is one.
-pub(crate) fn row_of<'a>(pages: &'a [Arc<Page>], key: &Key) -> Option<&'a Arc<Shown>>
+pub(crate) fn row_of<'a>(pages: &'a [Arc<Page>], sought: &Sought<'_>) -> Option<&'a Arc<Shown>>
     requires { IsPaged (values_of pages.now) }
-    ensures { option_map (λ o. o.value) (option_copied result) ≡ row_with (joined (values_of pages.now)) key.now }
+    ensures { option_map (λ o. o.value) (option_copied result) ≡ row_with (joined (values_of pages.now)) sought.now }
 {
-    let place = find(pages, key)?;
+    let place = find(pages, sought)?;
     match place.row {
         Ok(row) => Some(&pages[place.page].rows()[row]),
         Err(_) => None,
@@ -38,43 +36,39 @@ pub(crate) fn row_of<'a>(pages: &'a [Arc<Page>], key: &Key) -> Option<&'a Arc<Sh
 
 /// Where a key stands or would stand, by binary search over the pages and in one; `None` where there is
 /// no page.
-pub(crate) fn find(pages: &[Arc<Page>], key: &Key) -> Option<Place>
+pub(crate) fn find(pages: &[Arc<Page>], sought: &Sought<'_>) -> Option<Place>
     requires { IsPaged (values_of pages.now) }
-    ensures { MatchOption result (values_of pages.now ≡ []) (IsPlace (values_of pages.now) key.now) }
+    ensures { MatchOption result (values_of pages.now ≡ []) (IsPlace (values_of pages.now) sought.now) }
 {
-    let page = page_for(pages, key)?;
-    let row = place_in(pages[page].rows(), key);
+    let page = page_for(pages, sought)?;
+    let row = place_in(pages[page].rows(), sought);
     Some(Place { page, row })
 }
 
 // The page in which a key stands or would stand, by long steps and then shorter ones; `None` where there is
 // no page.
-fn page_for(pages: &[Arc<Page>], key: &Key) -> Option<usize>
+fn page_for(pages: &[Arc<Page>], sought: &Sought<'_>) -> Option<usize>
     requires { IsPaged (values_of pages.now) }
-    ensures { MatchOption result (values_of pages.now ≡ []) (IsPageFor (values_of pages.now) key.now) }
+    ensures { MatchOption result (values_of pages.now ≡ []) (IsPageFor (values_of pages.now) sought.now) }
 {
     if pages.is_empty() {
         return None;
     }
-    let sought = Sought {
-        key,
-        head: head_of(key),
-    };
-    let at = last_begun(pages, &sought, 0, 512);
-    let at = last_begun(pages, &sought, at, 64);
-    let at = last_begun(pages, &sought, at, 8);
-    Some(last_begun(pages, &sought, at, 1))
+    let at = last_begun(pages, sought, 0, 512);
+    let at = last_begun(pages, sought, at, 64);
+    let at = last_begun(pages, sought, at, 8);
+    Some(last_begun(pages, sought, at, 1))
 }
 
 // Goes on by steps while the page there doesn't begin above a key.
 fn last_begun(pages: &[Arc<Page>], sought: &Sought<'_>, from: usize, step: usize) -> usize
     requires paged { IsPaged (values_of pages.now) }
     requires inside { from < length pages.now }
-    requires before { list_all (is_below sought.now.key.now) (joined (take from (values_of pages.now))) ≡ true }
+    requires before { list_all (is_below sought.now) (joined (take from (values_of pages.now))) ≡ true }
     requires some { 0 < step }
     ensures inside { result < length pages.now }
-    ensures before { list_all (is_below sought.now.key.now) (joined (take result (values_of pages.now))) ≡ true }
-    ensures after { step ≡ 1 → list_all (is_behind sought.now.key.now) (joined (drop (suc result) (values_of pages.now))) ≡ true }
+    ensures before { list_all (is_below sought.now) (joined (take result (values_of pages.now))) ≡ true }
+    ensures after { step ≡ 1 → list_all (is_behind sought.now) (joined (drop (suc result) (values_of pages.now))) ≡ true }
 {
     let mut at = from;
     while step < pages.len() - at && pages[at + step].begins_by(sought) {
@@ -85,14 +79,14 @@ fn last_begun(pages: &[Arc<Page>], sought: &Sought<'_>, from: usize, step: usize
 
 // Where the row with a key is, or where it would go. Rows are looked at in steps and then one by one: such
 // looks don't wait for one another, as those of a binary search do.
-fn place_in(rows: &[Arc<Shown>], key: &Key) -> Result<usize, usize>
+fn place_in(rows: &[Arc<Shown>], sought: &Sought<'_>) -> Result<usize, usize>
     requires { AreRising (values_of rows.now) }
-    ensures found { IfOk result (IsRowAt (values_of rows.now) key.now) }
-    ensures absent { IfErr result (IsGapAt (values_of rows.now) key.now) }
+    ensures found { IfOk result (IsRowAt (values_of rows.now) sought.now) }
+    ensures absent { IfErr result (IsGapAt (values_of rows.now) sought.now) }
 {
-    let mut at = passed(rows, key);
+    let mut at = passed(rows, sought);
     while at < rows.len() {
-        match key_of(&rows[at]).cmp(key) {
+        match rows[at].key_order(sought) {
             Ordering::Less => at += 1,
             Ordering::Equal => return Ok(at),
             Ordering::Greater => return Err(at),
@@ -102,13 +96,13 @@ fn place_in(rows: &[Arc<Shown>], key: &Key) -> Result<usize, usize>
 }
 
 // A place before which all rows are below a key: one of each eighth row's, and the last such.
-fn passed(rows: &[Arc<Shown>], key: &Key) -> usize
+fn passed(rows: &[Arc<Shown>], sought: &Sought<'_>) -> usize
     requires { AreRising (values_of rows.now) }
     ensures inside { result ≤ length rows.now }
-    ensures below { list_all (is_below key.now) (take result (values_of rows.now)) ≡ true }
+    ensures below { list_all (is_below sought.now) (take result (values_of rows.now)) ≡ true }
 {
     let mut at = 0;
-    while rows.len() - at >= STEP && key_of(&rows[at + (STEP - 1)]).cmp(key).is_lt() {
+    while rows.len() - at >= STEP && rows[at + (STEP - 1)].key_order(sought).is_lt() {
         at += STEP;
     }
     at

@@ -8,7 +8,7 @@ use crate::Rows;
 use crate::edges::{first_edge, last_edge, spot_of};
 use crate::search::{find, row_of};
 use crate::shared::{Pages, slice_of};
-use encode_once::Shown;
+use encode_once::{Shown, Sought};
 use kube_meta::Key;
 use std::marker::Model;
 use std::sync::Arc;
@@ -48,7 +48,7 @@ impl Snapshot {
     pub fn get(&self, key: &Key) -> Option<&Arc<Shown>>
         ensures { option_map (λ o. o.value) (option_copied result) ≡ row_with self.now key.now }
     {
-        row_of(slice_of(&self.pages), key)
+        row_of(slice_of(&self.pages), &Sought::new(key))
     }
 
     /// How many objects there are.
@@ -76,7 +76,7 @@ impl Snapshot {
         let Some(key) = after else {
             return Rows::from(pages, 0, self.len);
         };
-        let Some(place) = find(pages, key) else {
+        let Some(place) = find(pages, &Sought::new(key)) else {
             return Rows::from(pages, 0, self.len);
         };
         let (_, pages) = pages.split_at(place.page);

@@ -10,7 +10,7 @@ use crate::pages;
 use crate::search::row_of;
 use crate::shared::{Pages, slice_of};
 use crate::snapshot::Snapshot;
-use encode_once::Shown;
+use encode_once::{Shown, Sought};
 use kube_meta::{Key, Memory};
 use std::alloc::Global;
 use std::marker::Model;
@@ -97,7 +97,7 @@ impl Tree {
     pub fn get(&self, key: &Key) -> Option<&Arc<Shown>>
         ensures { option_map (λ o. o.value) (option_copied result) ≡ row_with self.now key.now }
     {
-        row_of(slice_of(&self.pages), key)
+        row_of(slice_of(&self.pages), &Sought::new(key))
     }
 
     /// How many objects there are.

@@ -9,7 +9,7 @@ returns-in_default-row c =
     let pages = values_of c.args.pages.now.value.items in
     let key = c.args.key.now in
     let place = c.in-Some.place in
-    let found : IsPlace pages key place = place_moved _ pages _ key place (ap values_of c.slice_of.ensures) refl c.in-Some.ensures in
+    let found : IsPlace pages key place = place_moved _ pages _ key place (ap values_of c.slice_of.ensures) c.new.ensures c.in-Some.ensures in
     let here = place_err pages key place c.in_default-row.field-0 found c.in_default-row.is in
     record {
       rows = nothing_gone pages key place.page c.in_default-row.field-0 found.page_is here;
@@ -25,7 +25,7 @@ returns-in_err-old-clause-absent c = λ none.
     let pages = values_of c.args.pages.now.value.items in
     let key = c.args.key.now in
     let place = c.in-Some.place in
-    let found : IsPlace pages key place = place_moved _ pages _ key place (ap values_of c.slice_of.ensures) refl c.in-Some.ensures in
+    let found : IsPlace pages key place = place_moved _ pages _ key place (ap values_of c.slice_of.ensures) c.new.ensures c.in-Some.ensures in
     let here = place_ok pages key place c.in-Ok.row found c.in-Ok.is in
     absurd (some_row pages key place.page found.page_is c.in-Ok.row here none)
 
@@ -34,7 +34,7 @@ returns-in_err-remove_owned-clause-absent c = λ none.
     let pages = values_of c.args.pages.now.value.items in
     let key = c.args.key.now in
     let place = c.in-Some.place in
-    let found : IsPlace pages key place = place_moved _ pages _ key place (ap values_of c.slice_of.ensures) refl c.in-Some.ensures in
+    let found : IsPlace pages key place = place_moved _ pages _ key place (ap values_of c.slice_of.ensures) c.new.ensures c.in-Some.ensures in
     let here = place_ok pages key place c.in-Ok.row found c.in-Ok.is in
     absurd (some_row pages key place.page found.page_is c.in-Ok.row here none)
 
@@ -43,7 +43,7 @@ returns c =
     let pages = values_of c.args.pages.now.value.items in
     let key = c.args.key.now in
     let place = c.in-Some.place in
-    let found : IsPlace pages key place = place_moved _ pages _ key place (ap values_of c.slice_of.ensures) refl c.in-Some.ensures in
+    let found : IsPlace pages key place = place_moved _ pages _ key place (ap values_of c.slice_of.ensures) c.new.ensures c.in-Some.ensures in
     let here = place_ok pages key place c.in-Ok.row found c.in-Ok.is in
     let row = c.in_ok-old.old.value in
     let old = rw c.slice_of-2.ensures at (c.in_ok-old.ensures row) in

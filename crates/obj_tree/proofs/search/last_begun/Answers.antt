@@ -11,7 +11,7 @@ pub loop-at-preserved : goal.loop-at-preserved
 loop-at-preserved c =
     let items = c.args.pages.now in
     let pages = values_of items in
-    let key = c.args.sought.now.key.now in
+    let key = c.args.sought.now in
     let next = c.loop-at.at + c.args.step in
     let within : next < length items = omega (arith, c.loop-at-test.true, c.loop-at.invariant.0) in
     let read = indexed (λ p. p.value) items next c.index-pages-at.result within c.index-pages-at.is in
@@ -23,7 +23,7 @@ pub returns-else-begins_by-clause-after : goal.returns-else-begins_by-clause-aft
 returns-else-begins_by-clause-after c = λ one.
     let items = c.args.pages.now in
     let pages = values_of items in
-    let key = c.args.sought.now.key.now in
+    let key = c.args.sought.now in
     let next = c.loop-at.at + c.args.step in
     let within : next < length items = omega (arith, c.loop-at-test.true, c.loop-at.invariant.0) in
     let read = indexed (λ p. p.value) items next c.index-pages-at.result within c.index-pages-at.is in

@@ -1,4 +1,4 @@
-use Rattle.std.proofs.Common.{◌≡◌, ◌+◌, ◌<◌, ◌≤◌, suc, true, ℕ, List, length, take, ap, sym, ◌∙◌, subst, refl, arith}
+use Rattle.std.proofs.Common.{◌≡◌, ◌+◌, ◌<◌, ◌≤◌, suc, true, ℕ, length, take, ap, sym, ◌∙◌, subst, refl, arith}
 use Rattle.std.specs.List.{list_all}
 use Rattle.std.specs.Cmp.Lexicographic.{slice_cmp}
 use Rattle.std.specs.Ordering.{nat_cmp, is_lt}
@@ -15,7 +15,7 @@ pub loop-at-preserved : goal.loop-at-preserved
 loop-at-preserved c =
     let items = c.args.rows.now in
     let rows = values_of items in
-    let key = c.args.key.now in
+    let key = c.args.sought.now in
     let at = c.loop-at.at in
     let i = at + 7 in
     let row = c.index-rows-at.result.value in
@@ -24,8 +24,7 @@ loop-at-preserved c =
     let read = row_read (λ p. p.value) items rows i c.index-rows-at.result row inside refl c.index-rows-at.is in
     let told : is_lt (slice_cmp nat_cmp (key_of row) key) ≡ true =
     ap (λ (r : RowData). is_lt (slice_cmp nat_cmp (key_of r) key)) (sym c.deref.ensures)
-    ∙ ap (λ (k : List ℕ). is_lt (slice_cmp nat_cmp k key)) (sym c.key_of.ensures)
-    ∙ ap is_lt (sym c.cmp.ensures)
+    ∙ ap is_lt (sym c.key_order.ensures)
     ∙ sym c.is_lt.ensures
     ∙ c.if-is_lt.true in
     let all = below_upto rows i row key inside (rising rows c.requires) (ap (λ (r : RowData). slice_cmp nat_cmp (key_of r) key) (sym read) ∙ lt_of (key_of row) key told) in

@@ -6,7 +6,7 @@ use Rattle.obj_tree.proofs.search.passed.Given as goal
 
 -- the rows that were passed are below the key
 abbrev pub invariant-loop-at : goal.invariant-loop-at
-invariant-loop-at l = (l.at ≤ length l.rows) × (list_all (is_below l.key) (take l.at (values_of l.rows)) ≡ true)
+invariant-loop-at l = (l.at ≤ length l.rows) × (list_all (is_below l.sought) (take l.at (values_of l.rows)) ≡ true)
 
 abbrev pub decreases-loop-at : goal.decreases-loop-at
 decreases-loop-at l = length l.rows - l.at

@@ -1,4 +1,4 @@
-use Rattle.std.proofs.Common.{◌≡◌, ◌+◌, ◌<◌, suc, true, ℕ, List, length, take, Less, Equal, Greater, ap, sym, ◌∙◌, subst, refl, arith}
+use Rattle.std.proofs.Common.{◌≡◌, ◌+◌, ◌<◌, suc, true, ℕ, length, take, Less, Equal, Greater, ap, sym, ◌∙◌, subst, refl, arith}
 use Rattle.std.specs.List.{list_all}
 use Rattle.std.specs.Cmp.Lexicographic.{slice_cmp}
 use Rattle.std.specs.Ordering.{nat_cmp}
@@ -15,14 +15,13 @@ pub loop-at-preserved : goal.loop-at-preserved
 loop-at-preserved c =
     let items = c.args.rows.now in
     let rows = values_of items in
-    let key = c.args.key.now in
+    let key = c.args.sought.now in
     let at = c.loop-at.at in
     let row = c.index-rows-at.result.value in
     let inside : at < length rows = omega (arith, c.loop-at-test.true, length-map items (λ p. p.value)) in
     let told : slice_cmp nat_cmp (key_of row) key ≡ Less =
     ap (λ (r : RowData). slice_cmp nat_cmp (key_of r) key) (sym c.deref.ensures)
-    ∙ ap (λ (k : List ℕ). slice_cmp nat_cmp k key) (sym c.key_of.ensures)
-    ∙ sym c.cmp.ensures
+    ∙ sym c.key_order.ensures
     ∙ c.in-Less.is in
     let read = row_read (λ p. p.value) items rows at c.index-rows-at.result row inside refl c.index-rows-at.is in
     let all = below_upto rows at row key inside (rising rows c.requires) (ap (λ (r : RowData). slice_cmp nat_cmp (key_of r) key) (sym read) ∙ told) in
@@ -33,14 +32,13 @@ pub returns-in-Equal-clause-found : goal.returns-in-Equal-clause-found
 returns-in-Equal-clause-found c =
     let items = c.args.rows.now in
     let rows = values_of items in
-    let key = c.args.key.now in
+    let key = c.args.sought.now in
     let at = c.loop-at.at in
     let row = c.index-rows-at.result.value in
     let inside : at < length rows = omega (arith, c.loop-at-test.true, length-map items (λ p. p.value)) in
     let told : slice_cmp nat_cmp (key_of row) key ≡ Equal =
     ap (λ (r : RowData). slice_cmp nat_cmp (key_of r) key) (sym c.deref.ensures)
-    ∙ ap (λ (k : List ℕ). slice_cmp nat_cmp k key) (sym c.key_of.ensures)
-    ∙ sym c.cmp.ensures
+    ∙ sym c.key_order.ensures
     ∙ c.in-Equal.is in
     row_at rows key at inside c.requires (λ d.
     let read = row_read (λ p. p.value) items rows at c.index-rows-at.result d inside refl c.index-rows-at.is in
@@ -50,14 +48,13 @@ pub returns-in-Greater-clause-absent : goal.returns-in-Greater-clause-absent
 returns-in-Greater-clause-absent c =
     let items = c.args.rows.now in
     let rows = values_of items in
-    let key = c.args.key.now in
+    let key = c.args.sought.now in
     let at = c.loop-at.at in
     let row = c.index-rows-at.result.value in
     let inside : at < length rows = omega (arith, c.loop-at-test.true, length-map items (λ p. p.value)) in
     let told : slice_cmp nat_cmp (key_of row) key ≡ Greater =
     ap (λ (r : RowData). slice_cmp nat_cmp (key_of r) key) (sym c.deref.ensures)
-    ∙ ap (λ (k : List ℕ). slice_cmp nat_cmp k key) (sym c.key_of.ensures)
-    ∙ sym c.cmp.ensures
+    ∙ sym c.key_order.ensures
     ∙ c.in-Greater.is in
     let read = row_read (λ p. p.value) items rows at c.index-rows-at.result row inside refl c.index-rows-at.is in
     record {

@@ -10,7 +10,7 @@ pub returns-in-Ok : goal.returns-in-Ok
 returns-in-Ok c =
     let items = c.args.pages.now in
     let pages = values_of items in
-    let key = c.args.key.now in
+    let key = c.args.sought.now in
     let place = c.in_ok-place.place in
     let found : IsPlace pages key place = place_moved _ pages _ key place refl refl c.in_ok-place.ensures in
     let here = place_ok pages key place c.in-Ok.row found c.in-Ok.is in
@@ -23,7 +23,7 @@ returns-in-Ok c =
 pub returns-in-Err : goal.returns-in-Err
 returns-in-Err c =
     let pages = values_of c.args.pages.now in
-    let key = c.args.key.now in
+    let key = c.args.sought.now in
     let place = c.in_ok-place.place in
     let found : IsPlace pages key place = place_moved _ pages _ key place refl refl c.in_ok-place.ensures in
     let here = place_err pages key place c.in-Err.field-0 found c.in-Err.is in

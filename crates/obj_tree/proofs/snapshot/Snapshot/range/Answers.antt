@@ -1,4 +1,4 @@
-use Rattle.std.proofs.Common.{◌≡◌, ◌+◌, List, drop, refl, ap, ◌∙◌, arith}
+use Rattle.std.proofs.Common.{◌≡◌, ◌+◌, List, drop, ap, ◌∙◌, arith}
 use Rattle.kube_meta.specs.Rows.{RowData}
 use Rattle.obj_tree.specs.Maps.{above}
 use Rattle.obj_tree.specs.Pages.{values_of, joined}
@@ -11,7 +11,7 @@ use Rattle.obj_tree.proofs.snapshot.Snapshot.range.Goals as goal
 pub overflow_add-row : goal.overflow_add-row
 overflow_add-row c =
     let pages = values_of c.self.inside.pages.value.items in
-    let found : IsPlace pages c.in-Some.key.now c.in-Some-find.place = place_moved _ pages _ c.in-Some.key.now c.in-Some-find.place (ap values_of c.slice_of-pages.ensures) refl c.in-Some-find.ensures in
+    let found : IsPlace pages c.in-Some.key.now c.in-Some-find.place = place_moved _ pages _ c.in-Some.key.now c.in-Some-find.place (ap values_of c.slice_of-pages.ensures) c.new.ensures c.in-Some-find.ensures in
     let here = place_ok pages c.in-Some.key.now c.in-Some-find.place c.in-Ok.row found c.in-Ok.is in
     let few = sized_at pages c.in-Some-find.place.page c.self.invariant.0.sized found.page_is.inside in
     omega (arith, few.1, here.inside)
@@ -34,7 +34,7 @@ returns-in-Ok-clause-rows c =
     let pages = values_of items in
     let key = c.in-Some.key.now in
     let place = c.in-Some-find.place in
-    let found : IsPlace pages key place = place_moved _ pages _ key place (ap values_of c.slice_of-pages.ensures) refl c.in-Some-find.ensures in
+    let found : IsPlace pages key place = place_moved _ pages _ key place (ap values_of c.slice_of-pages.ensures) c.new.ensures c.in-Some-find.ensures in
     let here = place_ok pages key place c.in-Ok.row found c.in-Ok.is in
     let same : values_of c.split_at.result.1.now ≡ drop place.page pages = ap values_of (c.split_at.ensures.back ∙ ap (drop place.page) c.slice_of-pages.ensures) ∙ map_drop (λ p. p.value) items place.page in
     let told = c.behind.ensures ∙ ap (λ (p : List (List RowData)). drop (c.in-Ok.row + 1) (joined p)) same ∙ lent_after_row pages key place.page c.in-Ok.row found.page_is here in
@@ -46,7 +46,7 @@ returns-in-Err-clause-rows c =
     let pages = values_of items in
     let key = c.in-Some.key.now in
     let place = c.in-Some-find.place in
-    let found : IsPlace pages key place = place_moved _ pages _ key place (ap values_of c.slice_of-pages.ensures) refl c.in-Some-find.ensures in
+    let found : IsPlace pages key place = place_moved _ pages _ key place (ap values_of c.slice_of-pages.ensures) c.new.ensures c.in-Some-find.ensures in
     let here = place_err pages key place c.in-Err.row found c.in-Err.is in
     let same : values_of c.split_at.result.1.now ≡ drop place.page pages = ap values_of (c.split_at.ensures.back ∙ ap (drop place.page) c.slice_of-pages.ensures) ∙ map_drop (λ p. p.value) items place.page in
     let told = c.behind-in-Err.ensures ∙ ap (λ (p : List (List RowData)). drop c.in-Err.row (joined p)) same ∙ lent_after_gap pages key place.page c.in-Err.row found.page_is here in

@@ -1,6 +1,6 @@
 use Rattle.std.proofs.Common.{◌≡◌, ◌++◌, map}
 use Rattle.obj_tree.specs.Pages.{values_of}
-use Rattle.obj_tree.proofs.filled.with_heads.Given as goal
+use Rattle.obj_tree.proofs.filled.prefixed.Given as goal
 
 -- the pages, and what is left, are all parts
 abbrev pub invariant-loop-part : goal.invariant-loop-part
