@@ -66,11 +66,13 @@ pub record ListenerState : Type 0 where
   pub waiting : List Connection
   pub given : ℕ
 
--- a net in memory: its connections, its count of faults, and what the listener that was shut last had handed out
+-- a net in memory: its connections, its count of faults, and what the listener that was shut last had handed out, and
+-- which connections it had left
 pub record NetState : Type 0 where
   pub waiting : List Connection
   pub faults : ℕ
   pub served : ℕ
+  pub left : Option (List Connection)
 
 -- what is left in the source that the next dial gives
 abbrev pub next_peer : List Connection → Option (List ℕ)

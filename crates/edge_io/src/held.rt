@@ -8,60 +8,83 @@ use std::marker::Model;
 /// How many bytes a sink holds back.
 const CAPACITY: usize = 65_536;
 
-/// The bytes that a sink holds back, at most as many as it has room for. Contracts see them and that room.
+/// The bytes that a sink holds back, at most as many as it has room for. Contracts see them and that room. It has no
+/// memory, and no room, until some is made.
 #[derive(Drop)]
 pub(crate) struct Held {
     buffer: Vec<u8>,
-    len: usize,
+    room: usize,
 }
 
 impl Model for Held {
-    ghost use Rattle.std.specs.Prelude.{◌≤◌, length, take};
+    ghost use Rattle.std.specs.Prelude.{◌≤◌, length, vec_capacity};
     ghost use Rattle.edge_io.specs.Held.{HeldBytes};
 
     ghost Value = { HeldBytes };
 
-    ghost view = { λ held. record { bytes = take held.len held.buffer.items; room = length held.buffer.items } };
+    ghost view = { λ held. record { bytes = held.buffer.items; room = held.room } };
 
-    ghost invariant = { λ held. held.len ≤ length held.buffer.items };
+    ghost invariant = { λ held. (length held.buffer.items ≤ held.room) × (held.room ≤ vec_capacity held.buffer) };
 }
 
 impl Held {
-    /// Nothing yet, with room for 64 KiB, or with none where there is no memory.
+    /// Nothing yet, with no room.
     pub(crate) fn new(alloc: Global) -> Held
-        ensures { result.bytes ≡ [] }
+        ensures { result ≡ record { bytes = []; room = 0 } }
     {
-        let mut buffer = Vec::new(alloc);
-        let _ = buffer.resize(CAPACITY, 0);
-        Held { buffer, len: 0 }
+        Held {
+            buffer: Vec::new(alloc),
+            room: 0,
+        }
     }
 
     /// The bytes that are held back.
     pub(crate) fn bytes(&self) -> &[u8]
         ensures { result.now ≡ self.now.bytes }
     {
-        &self.buffer[..self.len]
+        self.buffer.as_slice()
+    }
+
+    /// Makes room for 64 KiB where there is none, unless `bytes` would fill it by themselves. There stays none where
+    /// there is no memory.
+    pub(crate) fn make_room(&mut self, bytes: &[u8])
+        ensures { self.new.bytes ≡ self.old.bytes }
+    {
+        if self.room > 0 || bytes.len() >= CAPACITY {
+            return;
+        }
+        if let Ok(buffer) = Vec::with_capacity(*self.buffer.allocator(), CAPACITY) {
+            self.buffer = buffer;
+            self.room = CAPACITY;
+        }
     }
 
     /// Whether there is no more room.
     pub(crate) fn is_full(&self) -> bool
         ensures { IsTrue result ↔ (self.now.room ≤ length self.now.bytes) }
     {
-        self.len >= self.buffer.len()
+        self.room <= self.buffer.len()
     }
 
     /// Whether nothing is held back and `bytes` would fill the room by themselves.
     pub(crate) fn is_filled_by(&self, bytes: &[u8]) -> bool
         ensures { IsTrue result ↔ ((self.now.bytes ≡ []) × (self.now.room ≤ length bytes.now)) }
     {
-        self.len == 0 && self.buffer.len() <= bytes.len()
+        self.buffer.is_empty() && self.room <= bytes.len()
     }
 
     /// Forgets the bytes.
     pub(crate) fn clear(&mut self)
         ensures { self.new ≡ record self.old { bytes = [] } }
     {
-        self.len = 0;
+        self.buffer.clear();
+    }
+
+    /// Forgets the bytes, and gives the memory back.
+    pub(crate) fn release(&mut self)
+        ensures { self.new ≡ record { bytes = []; room = 0 } }
+    {
+        *self = Held::new(*self.buffer.allocator());
     }
 
     /// Takes as many bytes from the front of `bytes` as there is room for.
@@ -69,9 +92,9 @@ impl Held {
         ensures count { result ≡ min (length bytes.now) (self.old.room - length self.old.bytes) }
         ensures taken { self.new ≡ record self.old { bytes = self.old.bytes ++ take result bytes.now } }
     {
-        let n = bytes.len().min(self.buffer.len() - self.len);
-        self.buffer[self.len..self.len + n].copy_from_slice(&bytes[..n]);
-        self.len += n;
+        let n = bytes.len().min(self.room - self.buffer.len());
+        // There is room for them, so this asks for no memory.
+        let _ = self.buffer.extend_from_slice(&bytes[..n]);
         n
     }
 }

@@ -1,6 +1,6 @@
 //! A net in memory: a list of connections that is handed out.
 
-ghost use Rattle.std.specs.Prelude.{◌≡◌, ◌+◌, ◌<◌, ◌^◌, ◌↔◌, [], ◌∷◌, IfOk, IfSome, OnErr, OnOk, IsOk, IsNone, IsErr, length};
+ghost use Rattle.std.specs.Prelude.{◌≡◌, ◌+◌, ◌<◌, ◌^◌, ◌↔◌, [], ◌∷◌, IfOk, IfSome, OnErr, OnOk, IsOk, IsNone, IsErr, length, Some, None};
 ghost use Rattle.edge_io.specs.Memory.{Connection, next_peer, IsFirstDialled};
 ghost use Rattle.edge_io.specs.Net.{handed_out, failures, faulty, faulty_ends};
 
@@ -68,6 +68,7 @@ pub struct MemNet {
     waiting: VecDeque<MemConnection>,
     faults: u64,
     served: u64,
+    left: Option<VecDeque<MemConnection>>,
 }
 
 impl Model for MemNet {
@@ -75,18 +76,26 @@ impl Model for MemNet {
 
     ghost Value = { NetState };
 
-    ghost view = { λ net. record { waiting = net.waiting.items; faults = net.faults; served = net.served } };
+    ghost use Rattle.std.specs.Option.{option_map};
+
+    ghost view = { λ net. record {
+      waiting = net.waiting.items;
+      faults = net.faults;
+      served = net.served;
+      left = option_map (λ left. left.items) net.left;
+    } };
 }
 
 impl MemNet {
     /// A net of these connections.
     pub fn new(list: Vec<(MemSource, MemSink, StepClock)>) -> MemNet
-        ensures { result ≡ record { waiting = list.items; faults = 0; served = 0 } }
+        ensures { result ≡ record { waiting = list.items; faults = 0; served = 0; left = None } }
     {
         MemNet {
             waiting: VecDeque::from(list),
             faults: 0,
             served: 0,
+            left: None,
         }
     }
 }
@@ -97,6 +106,8 @@ impl Net for MemNet {
     ghost faults = { λ net. net.faults };
 
     ghost served = { λ net. net.served };
+
+    ghost ended = { λ net. net.left ≡ Some [] };
 
     ghost peer = { λ net. next_peer net.waiting };
 
@@ -111,9 +122,10 @@ impl Net for MemNet {
     }
 
     fn shut(&mut self, listener: MemListener)
-        ensures { self.new ≡ record self.old { served = listener.given } }
+        ensures { self.new ≡ record self.old { served = listener.given; left = Some listener.waiting } }
     {
         self.served = listener.given;
+        self.left = Some(listener.waiting);
     }
 
     fn dial(&mut self, _port: u16) -> Result<(MemSource, MemSink), Failed>

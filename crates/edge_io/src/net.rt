@@ -1,6 +1,6 @@
 //! What accepts connections.
 
-ghost use Rattle.std.specs.Prelude.{◌≡◌, ℕ, ◌+◌, ◌<◌, ◌≤◌, ◌^◌, List, Option, Some, None, IfOk, IfSome, IfNone};
+ghost use Rattle.std.specs.Prelude.{◌≡◌, ℕ, ◌+◌, ◌<◌, ◌≤◌, ◌^◌, ◌↔◌, List, Option, Some, None, IfOk, IfSome, IfNone};
 ghost use Rattle.edge_io.specs.Net.{handed_out, failures, faulty, faulty_ends};
 
 use crate::clock::Clock;
@@ -48,6 +48,9 @@ pub trait Net {
     // how many connections the listener that was shut last had handed out
     ghost served: { Self → ℕ };
 
+    // no more connections will come to the listener that was shut last
+    ghost ended: { Self → Type 0 };
+
     // what is left in the source that the next dial gives, where that is told
     ghost peer: { Self → Option (List ℕ) };
 
@@ -58,10 +61,11 @@ pub trait Net {
         ensures faults { faults self.new ≡ faults self.old + failures result }
         ensures served { served self.new ≡ served self.old };
 
-    /// Ends the use of a listener, and notes how many connections it handed out.
+    /// Ends the use of a listener, and notes how many connections it handed out, and whether no more will come.
     fn shut(&mut self, listener: Self::L)
         requires few_faults { faults self.old < 2 ^ 62 }
         ensures served { served self.new ≡ Self.L.given listener }
+        ensures ended { ended self.new ↔ Self.L.over listener }
         ensures faults { faults self.new ≡ faults self.old + faulty (Self.L.faults listener) };
 
     /// Connects to a port of this machine's loopback address.

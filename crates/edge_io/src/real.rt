@@ -29,7 +29,8 @@ impl<R> ReadEnd<R> {
         ReadEnd { from, faults: 0 }
     }
 
-    pub(crate) fn has_faults(&self) -> bool
+    /// Whether a fault was counted.
+    pub fn has_faults(&self) -> bool
         ensures { IsTrue result ↔ (0 < self.now.faults) }
     {
         self.faults > 0
@@ -56,8 +57,8 @@ impl<R: Read> Source for ReadEnd<R> {
 }
 
 /// A sink over what the system writes to, as standard output or a TCP stream. It holds back up to 64 KiB, which go
-/// out when they are full and at each [`Sink::flush`]. Where there is no memory for that, it holds back nothing. It
-/// tells no content. Once it failed it stays failed, so that nothing goes out behind a gap.
+/// out when they are full and at each [`Sink::flush`], and has memory for them only in between. Where there is none,
+/// it holds back nothing. It tells no content. Once it failed it stays failed, so that nothing goes out behind a gap.
 #[derive(Drop)]
 pub struct WriteEnd<W> {
     to: W,
@@ -80,7 +81,8 @@ impl<W> WriteEnd<W> {
         }
     }
 
-    pub(crate) fn has_faults(&self) -> bool
+    /// Whether a fault was counted.
+    pub fn has_faults(&self) -> bool
         ensures { IsTrue result ↔ (0 < self.now.faults) }
     {
         self.faults > 0
@@ -157,6 +159,7 @@ impl<W: Write> Sink for WriteEnd<W> {
         if bytes.is_empty() {
             return Ok(0);
         }
+        self.held.make_room(bytes);
         if self.held.is_full() {
             self.pour()?;
         }
@@ -174,6 +177,7 @@ impl<W: Write> Sink for WriteEnd<W> {
             return Err(self.fail());
         }
         self.pour()?;
+        self.held.release();
         match self.to.flush() {
             Ok(()) => Ok(()),
             Err(_) => Err(self.fail()),
@@ -184,9 +188,8 @@ impl<W: Write> Sink for WriteEnd<W> {
 /// How many milliseconds a [`SystemClock`] rests.
 const REST_MS: u64 = 20;
 
-/// The system's clock, in milliseconds since it was made. It never asks to stop, and a rest of it gives up the
-/// thread's turn for about 20 ms. It tells no readings. Where the system's clock can't be read, it shows what it
-/// showed before.
+/// The system's clock, in milliseconds since an instant. It never asks to stop, and a rest of it gives up the thread's
+/// turn for about 20 ms. It tells no readings. Where the system's clock can't be read, it shows what it showed before.
 #[derive(Drop)]
 pub struct SystemClock<R> {
     rt: R,
@@ -200,6 +203,13 @@ impl<R: std::time::Clock> SystemClock<R> {
         ensures { result.last ≡ 0 }
     {
         let start = Instant::now(&rt).ok();
+        SystemClock::since(rt, start)
+    }
+
+    /// A clock that shows the time since `start`, the same as any other that began there. Without a start it shows 0.
+    pub fn since(rt: R, start: Option<Instant>) -> SystemClock<R>
+        ensures { result.last ≡ 0 }
+    {
         SystemClock { rt, start, last: 0 }
     }
 

@@ -2,29 +2,47 @@
 
 ghost use Rattle.std.specs.Prelude.{◌≡◌, None};
 
+use crate::connection::Connection;
+use bells::{Bell, Rung, Woken, has_left, has_room};
 use edge_io::{Clock, Reading, SystemClock};
-use std::io::ErrorKind;
-use std::net::TcpStream;
+use std::alloc::Global;
+use std::sync::{Arc, Wait};
+use std::time::Instant;
 
-/// How many milliseconds pass between two looks at the peer.
+/// How many milliseconds pass at least between two looks at the peer as the clock is read.
 const LOOK_MS: u64 = 100;
 
-/// The system's clock, at a connection: it asks to stop where the peer has left, so that a quiet watch ends, which
-/// would else go on until its time is up.
+/// The system's clock, at a connection. Once the peer has left it asks to stop, so that a quiet watch ends, which would
+/// else go on until its time is up. Its rests end as its bell is rung, or its peer leaves.
 #[derive(Drop)]
 pub struct PeerClock<R> {
     clock: SystemClock<R>,
-    peer: TcpStream,
+    rt: R,
+    peer: Connection,
+    bell: Arc<Bell, Global>,
+    has_rested: bool,
+    has_left: bool,
     looked: u64,
 }
 
-impl<R: std::time::Clock> PeerClock<R> {
-    /// A clock that begins at 0 now, at a connection to `peer`.
-    pub fn new(rt: R, peer: TcpStream) -> PeerClock<R> {
+impl<R: std::time::Clock + Copy> PeerClock<R> {
+    /// A clock that shows the time since `start`, at a connection to `peer`.
+    pub(crate) fn since(
+        rt: R,
+        start: Option<Instant>,
+        peer: Connection,
+        bell: Arc<Bell, Global>,
+    ) -> PeerClock<R> {
+        let mut clock = SystemClock::since(rt, start);
+        let looked = clock.now().ms;
         PeerClock {
-            clock: SystemClock::new(rt),
+            clock,
+            rt,
             peer,
-            looked: 0,
+            bell,
+            has_rested: false,
+            has_left: false,
+            looked,
         }
     }
 }
@@ -36,13 +54,13 @@ impl<R: std::time::Clock> Clock for PeerClock<R> {
 
     fn now(&mut self) -> Reading {
         let ms = self.clock.now().ms;
-        let is_due = ms.saturating_sub(self.looked) >= LOOK_MS;
-        if is_due {
+        if ms.saturating_sub(self.looked) >= LOOK_MS {
             self.looked = ms;
+            self.has_left = self.has_left || has_left(&self.peer);
         }
         Reading {
             ms,
-            stop: is_due && has_left(&self.peer),
+            stop: self.has_left,
         }
     }
 
@@ -51,17 +69,21 @@ impl<R: std::time::Clock> Clock for PeerClock<R> {
     }
 }
 
-// Whether the peer has ended its side of the connection, or that is broken. What it sent before isn't taken.
-fn has_left(peer: &TcpStream) -> bool {
-    if peer.set_nonblocking(true).is_err() {
-        return true;
+impl<R: std::time::Clock + Wait> Rung for PeerClock<R> {
+    fn bell(&self) -> Option<&Arc<Bell, Global>> {
+        Some(&self.bell)
     }
-    let seen = peer.peek(&mut [0]);
-    if peer.set_nonblocking(false).is_err() {
-        return true;
-    }
-    match seen {
-        Ok(count) => count == 0,
-        Err(e) => !matches!(e.kind(), ErrorKind::WouldBlock | ErrorKind::Interrupted),
+
+    // Watches alone rest like this, so the alarm takes its descriptor at the first such rest, if enough are left.
+    fn rest_until(&mut self, count: u32, ms: u64) -> bool {
+        if !self.has_rested {
+            self.has_rested = true;
+            if has_room(&self.peer) {
+                self.bell.arm();
+            }
+        }
+        let woken = self.bell.rest(&self.rt, count, &self.peer, ms);
+        self.has_left = self.has_left || woken == Woken::Left;
+        true
     }
 }

@@ -3,9 +3,13 @@
 #![tactic(auto)]
 
 mod clock;
+mod connection;
+mod ends;
 mod net;
 mod port;
+mod remedy;
 
 pub use clock::PeerClock;
+pub use connection::Connection;
 pub use net::LoopbackNet;
 pub use port::LoopbackPort;

@@ -1,10 +1,13 @@
 //! A net that says where it listens.
 
-ghost use Rattle.std.specs.Prelude.{◌≡◌, ◌+◌};
+ghost use Rattle.std.specs.Prelude.{◌≡◌, None, IfOk};
 
-use crate::port::LoopbackPort;
-use edge_io::{Failed, Net, ReadEnd, TcpNet, WriteEnd};
+use crate::connection::Connection;
+use crate::ends::ends_of;
+use crate::port::{LoopbackPort, loopback};
+use edge_io::{Failed, Net, ReadEnd, WriteEnd};
 use std::alloc::Global;
+use std::io;
 use std::io::Eprint;
 use std::net::{TcpListener, TcpStream};
 
@@ -12,7 +15,6 @@ use std::net::{TcpListener, TcpStream};
 /// Nobody is asked who they are, so no other machine is let in.
 #[derive(Drop)]
 pub struct LoopbackNet<R> {
-    dialled: TcpNet<R>,
     rt: R,
     alloc: Global,
     faults: u64,
@@ -22,10 +24,9 @@ pub struct LoopbackNet<R> {
 impl<R: Copy> LoopbackNet<R> {
     /// The net of the runtime `rt`.
     pub fn new(alloc: Global, rt: R) -> LoopbackNet<R>
-        ensures fresh { result.dialled.faults + result.faults ≡ 0 }
+        ensures fresh { result.faults ≡ 0 }
     {
         LoopbackNet {
-            dialled: TcpNet::new(alloc, rt),
             rt,
             alloc,
             faults: 0,
@@ -44,11 +45,13 @@ where
 {
     type L = LoopbackPort<R>;
 
-    ghost faults = { λ net. ⟦<TcpNet<R> as Net>⟧.faults net.dialled + net.faults };
+    ghost faults = { λ net. net.faults };
 
     ghost served = { λ net. net.served };
 
-    ghost peer = { λ net. ⟦<TcpNet<R> as Net>⟧.peer net.dialled };
+    ghost ended = { λ _. ⊥ };
+
+    ghost peer = { λ _. None };
 
     // A line that can't be written is left out.
     fn listen(&mut self, port: u16) -> Result<LoopbackPort<R>, Failed> {
@@ -75,11 +78,31 @@ where
         }
     }
 
-    fn dial(&mut self, port: u16) -> Result<(ReadEnd<TcpStream>, WriteEnd<TcpStream>), Failed> {
-        self.dialled.dial(port)
+    fn dial(&mut self, port: u16) -> Result<(ReadEnd<Connection>, WriteEnd<Connection>), Failed> {
+        match connect(&self.rt, self.alloc, port) {
+            Ok(ends) => Ok(ends),
+            Err(_) => {
+                self.faults += 1;
+                Err(Failed)
+            }
+        }
     }
 
-    fn hang_up(&mut self, source: ReadEnd<TcpStream>, sink: WriteEnd<TcpStream>) {
-        self.dialled.hang_up(source, sink);
+    fn hang_up(&mut self, source: ReadEnd<Connection>, sink: WriteEnd<Connection>) {
+        if source.has_faults() || sink.has_faults() {
+            self.faults += 1;
+        }
     }
+}
+
+// The two ends of a new connection to a port.
+fn connect<R: std::net::Net<Stream = TcpStream>>(
+    rt: &R,
+    alloc: Global,
+    port: u16,
+) -> io::Result<(ReadEnd<Connection>, WriteEnd<Connection>)>
+    ensures { IfOk result (λ ends. (ends.0.faults ≡ 0) × (ends.1.faults ≡ 0)) }
+{
+    let (source, sink, _peer) = ends_of(alloc, TcpStream::connect(rt, loopback(port))?)?;
+    Ok((source, sink))
 }

@@ -3,37 +3,57 @@
 ghost use Rattle.std.specs.Prelude.{◌≡◌, IfOk};
 
 use crate::clock::PeerClock;
+use crate::connection::Connection;
+use crate::ends::ends_of;
+use crate::remedy::{Remedy, remedy_of};
+use bells::{Bell, listen_long};
 use edge_io::{Failed, Listener, ReadEnd, WriteEnd};
 use std::alloc::Global;
-use std::io;
-use std::io::ErrorKind;
+use std::io::{Eprint, ErrorKind};
 use std::net::{Ipv4Addr, SocketAddr, TcpListener, TcpStream};
+use std::sync::Arc;
+use std::time::{Duration, Instant};
+use std::{io, thread};
 
-/// A TCP port of this machine's loopback address that connections are accepted at. It is never over.
+/// How many milliseconds pass until a connection is accepted again, where the system wants descriptors or memory.
+const WANT_MS: u64 = 50;
+
+/// A TCP port of this machine's loopback address that connections are accepted at. It is never over. The clocks of its
+/// connections show the time since it was made.
 #[derive(Drop)]
 pub struct LoopbackPort<R> {
     listener: TcpListener,
     rt: R,
     alloc: Global,
+    start: Option<Instant>,
     given: u64,
     faults: u64,
 }
 
-impl<R: std::net::Net<Listener = TcpListener, Stream = TcpStream> + Copy> LoopbackPort<R> {
+impl<R> LoopbackPort<R>
+where
+    R: std::net::Net<Listener = TcpListener, Stream = TcpStream> + std::time::Clock + Copy,
+{
     /// Listens at a port; 0 stands for one that the system picks.
     pub(crate) fn bind(alloc: Global, rt: R, port: u16) -> io::Result<LoopbackPort<R>>
         ensures { IfOk result (λ port. (port.given ≡ 0) × (port.faults ≡ 0)) }
     {
-        let address = SocketAddr::from((Ipv4Addr::LOCALHOST, port));
-        let listener = TcpListener::bind(&rt, address)?;
+        let listener = TcpListener::bind(&rt, loopback(port))?;
+        listen_long(&listener);
         Ok(LoopbackPort {
             listener,
             rt,
             alloc,
+            start: Instant::now(&rt).ok(),
             given: 0,
             faults: 0,
         })
     }
+}
+
+/// This machine's loopback address at a port.
+pub(crate) fn loopback(port: u16) -> SocketAddr {
+    SocketAddr::from((Ipv4Addr::LOCALHOST, port))
 }
 
 impl<R> LoopbackPort<R> {
@@ -55,10 +75,52 @@ impl<R> LoopbackPort<R> {
     }
 }
 
-impl<R: std::time::Clock + Copy + Send> Listener for LoopbackPort<R> {
-    type S = ReadEnd<TcpStream>;
+/// The ends and the clock of a connection.
+type Ends<R> = (ReadEnd<Connection>, WriteEnd<Connection>, PeerClock<R>);
 
-    type K = WriteEnd<TcpStream>;
+impl<R: std::time::Clock + Eprint + Copy> LoopbackPort<R> {
+    // The next connection that can be set up. Those that can't, or that broke before they were accepted, are passed
+    // over, and where the system wants descriptors or memory, that is waited out, and said once.
+    fn next_ends(&self) -> io::Result<Ends<R>> {
+        let mut is_said = false;
+        for _ in 0..u64::MAX {
+            let error = match self.listener.accept() {
+                Ok((stream, _address)) => match self.set_up(stream) {
+                    Ok(ends) => return Ok(ends),
+                    Err(_) => continue,
+                },
+                Err(error) => error,
+            };
+            match remedy_of(&error) {
+                Remedy::GoOn => {}
+                Remedy::Wait => {
+                    if !is_said {
+                        let _ = eprintln!(self.rt;
+                            "watchcache: connections wait for descriptors or memory: {error}"
+                        );
+                        is_said = true;
+                    }
+                    thread::sleep(&self.rt, Duration::from_millis(WANT_MS));
+                }
+                Remedy::GiveUp => return Err(error),
+            }
+        }
+        Err(io::Error::from(ErrorKind::Other))
+    }
+
+    // The ends and the clock of a connection.
+    fn set_up(&self, stream: TcpStream) -> io::Result<Ends<R>> {
+        let (source, sink, peer) = ends_of(self.alloc, stream)?;
+        let bell = Arc::new(self.alloc, Bell::new())?;
+        let clock = PeerClock::since(self.rt, self.start, peer, bell);
+        Ok((source, sink, clock))
+    }
+}
+
+impl<R: std::time::Clock + Eprint + Copy + Send> Listener for LoopbackPort<R> {
+    type S = ReadEnd<Connection>;
+
+    type K = WriteEnd<Connection>;
 
     type T = PeerClock<R>;
 
@@ -70,8 +132,8 @@ impl<R: std::time::Clock + Copy + Send> Listener for LoopbackPort<R> {
 
     fn accept(
         &mut self,
-    ) -> Result<Option<(ReadEnd<TcpStream>, WriteEnd<TcpStream>, PeerClock<R>)>, Failed> {
-        match next_ends(self.alloc, self.rt, &self.listener) {
+    ) -> Result<Option<(ReadEnd<Connection>, WriteEnd<Connection>, PeerClock<R>)>, Failed> {
+        match self.next_ends() {
             Ok(ends) => {
                 self.given += 1;
                 Ok(Some(ends))
@@ -82,38 +144,4 @@ impl<R: std::time::Clock + Copy + Send> Listener for LoopbackPort<R> {
             }
         }
     }
-}
-
-// The ends and the clock of the next connection. One that its peer gave up before it was accepted is passed over.
-fn next_ends<R: std::time::Clock + Copy>(
-    alloc: Global,
-    rt: R,
-    listener: &TcpListener,
-) -> io::Result<(ReadEnd<TcpStream>, WriteEnd<TcpStream>, PeerClock<R>)> {
-    for _ in 0..u64::MAX {
-        match listener.accept() {
-            Ok((stream, _address)) => return ends_of(alloc, rt, stream),
-            Err(e) if is_passing(e.kind()) => {}
-            Err(e) => return Err(e),
-        }
-    }
-    Err(io::Error::from(ErrorKind::Other))
-}
-
-// Whether an accept may be tried again after such an error.
-fn is_passing(kind: ErrorKind) -> bool {
-    matches!(kind, ErrorKind::Interrupted | ErrorKind::ConnectionAborted)
-}
-
-// The ends of a connection, which sends what it is given at once, and its clock.
-fn ends_of<R: std::time::Clock + Copy>(
-    alloc: Global,
-    rt: R,
-    stream: TcpStream,
-) -> io::Result<(ReadEnd<TcpStream>, WriteEnd<TcpStream>, PeerClock<R>)> {
-    stream.set_nodelay(true)?;
-    let reader = stream.try_clone()?;
-    let peer = stream.try_clone()?;
-    let clock = PeerClock::new(rt, peer);
-    Ok((ReadEnd::new(reader), WriteEnd::new(alloc, stream), clock))
 }
