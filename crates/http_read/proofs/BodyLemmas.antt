@@ -1,5 +1,5 @@
 -- Bodies, and the requests that they end.
-use Rattle.std.proofs.Common.{◌≡◌, ℕ, ◌-◌, ◌<◌, ◌≤◌, Bool, true, false, List, [], ◌∷◌, ◌++◌, length, take, drop, sym, ap, subst, ◌∙◌, arith, append_assoc, append-nil, min, ◌⊎◌, eq-zero-or-pos, length-append, length-take, take-append-drop, inl, inr, cond, codes, ◌==◌, nat_le, take_at, drop_at}
+use Rattle.std.proofs.Common.{◌≡◌, refl, ℕ, ◌-◌, ◌<◌, ◌≤◌, Bool, true, false, List, [], ◌∷◌, ◌++◌, length, take, drop, sym, ap, subst, ◌∙◌, arith, append_assoc, append-nil, min, ◌⊎◌, eq-zero-or-pos, length-append, length-take, take-append-drop, inl, inr, cond, codes, ◌==◌, nat_le, take_at, drop_at}
 use Rattle.std.specs.Prelude.{Option, None, Some, Result, Ok, Err}
 use Rattle.std.proofs.lemmas.List.{drop_all, drop-append-le, nil_from_length}
 use borrow.Rule.Slice.PartMut.{post_of}
@@ -145,7 +145,7 @@ no-head bytes spans left f f' BodyTooLong p = absurd p
 no-head bytes spans left f f' NeedsLength p = absurd p
 no-head bytes spans left f f' CutShort p = (inl p.0, p.1)
 no-head bytes spans left f f' ReadFault p = (p.0, elim p.1 [ inl none ↦ inl none | inr ends ↦ inr (inl ends) ])
-no-head bytes spans left f f' Memory p = absurd p
+no-head bytes spans left f f' Memory p = refl
 
 -- a whole request
 pub reads-one : (bytes : List ℕ) (h : RequestHead) (after body kept : List ℕ) (req : Req)

@@ -59,7 +59,7 @@ refuses-head bytes spans left f f' BodyTooLong h = h
 refuses-head bytes spans left f f' NeedsLength h = h
 refuses-head bytes spans left f f' CutShort h = absurd h
 refuses-head bytes spans left f f' ReadFault h = absurd h
-refuses-head bytes spans left f f' Memory h = h
+refuses-head bytes spans left f f' Memory h = absurd h
 
 -- a length that is said twice is refused
 pub said-twice : {X B : Type 0} (f : X → FieldText) (method name : List ℕ) (xs : List X) (i : ℕ) (d : X) (now : B → List ℕ) (found : Option B)

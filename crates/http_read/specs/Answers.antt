@@ -3,7 +3,7 @@ use Rattle.std.specs.Prelude.{◌≡◌, ℕ, List, [], ◌++◌, Option, None, 
 use Rattle.edge_io.specs.Told.{IsExhausted, prepended}
 use Rattle.edge_io.specs.Counts.{Rose}
 use Rattle.http_read.specs.Readers.{ReaderState}
-use Rattle.http_read.specs.Requests.{ReadsOne, IsRefused, IsCutShort, IsUnfinished, StandsHead}
+use Rattle.http_read.specs.Requests.{ReadsOne, IsRefused, IsCutShort, IsUnfinished}
 use Rattle.http_read.specs.declared.request.Req.{Req}
 use Rattle.http_read.specs.declared.refusal.ReqNo.{ReqNo}
 use Rattle.http_read.specs.declared.refusal.ReqNo.TheVariants.{Malformed, HeadTooLong, TooManyHeaders, BodyTooLong, NeedsLength, CutShort, ReadFault, Memory}
@@ -13,7 +13,7 @@ abbrev pub ReadsNext : List ℕ → Result (Option Req) ReqNo → List ℕ → O
 ReadsNext bytes (Ok (Some req)) kept left old_faults new_faults = ReadsOne bytes req kept
 ReadsNext bytes (Ok None) kept left old_faults new_faults = (bytes ≡ []) × IsExhausted left × (kept ≡ [])
 ReadsNext bytes (Err ReadFault) kept left old_faults new_faults = Rose old_faults new_faults × IsUnfinished bytes
-ReadsNext bytes (Err Memory) kept left old_faults new_faults = (kept ≡ bytes) × StandsHead bytes
+ReadsNext bytes (Err Memory) kept left old_faults new_faults = kept ≡ bytes
 ReadsNext bytes (Err CutShort) kept left old_faults new_faults = IsCutShort bytes × IsExhausted left
 ReadsNext bytes (Err Malformed) kept left old_faults new_faults = IsRefused bytes Malformed
 ReadsNext bytes (Err HeadTooLong) kept left old_faults new_faults = IsRefused bytes HeadTooLong

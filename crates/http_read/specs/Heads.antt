@@ -14,13 +14,15 @@ use Rattle.http_read.specs.declared.request.Upgrade.{Upgrade}
 use Rattle.http_read.specs.declared.refusal.ReqNo.{ReqNo}
 use Rattle.http_read.specs.declared.refusal.ReqNo.TheVariants.{Malformed, BodyTooLong, NeedsLength}
 
--- the most bytes of a head, of a body, and the most fields of a head
+-- the most bytes of a head, with the empty line that ends it; one that goes on beyond them is refused
 abbrev pub most_head : ℕ
 most_head = 16384
 
+-- the most bytes of a body, 1 MiB; a request that announces more is refused
 abbrev pub most_body : ℕ
 most_body = 1048576
 
+-- the most fields of a head, where each of several fields with one name counts
 abbrev pub most_fields : ℕ
 most_fields = 64
 
@@ -69,7 +71,7 @@ length_value value = if is_length value then Some (digits_value 10 value) else N
 abbrev pub needs_length : List ℕ → Bool
 needs_length method = bytes_eq method (codes "POST") || bytes_eq method (codes "PUT")
 
--- a body of that length, if it isn't too long
+-- the length that a Content-Length field gives, where it gives one and the body isn't too long
 abbrev pub within_most : Option ℕ → Result ℕ ReqNo
 within_most None = Err Malformed
 within_most (Some n) = if nat_le n most_body then Ok n else Err BodyTooLong
@@ -93,7 +95,7 @@ body_length minor method fields =
 abbrev pub text_of : Option (List ℕ) → Option (List ℕ)
 text_of value = option_map utf8_lossy value
 
--- the value, empty where there is none
+-- a value as text, empty where there is none
 abbrev pub text_or_empty : Option (List ℕ) → List ℕ
 text_or_empty value = unwrap_or (text_of value) []
 

@@ -2,6 +2,7 @@ pub mod Pieces
 pub mod Queries
 pub mod Places
 pub mod Heads
+pub mod Sites
 pub mod Requests
 pub mod Steps
 pub mod Readers

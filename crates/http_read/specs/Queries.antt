@@ -7,10 +7,11 @@ use Rattle.std.specs.Option.{option_map}
 use Rattle.percent_encoding.specs.Percent.{percent_decode}
 use Rattle.form_urlencoded.specs.Form.{split, raw_pairs, decode}
 
--- `/` and `?`
+-- the byte `/`, behind which each segment of a path begins
 abbrev pub slash : ℕ
 slash = 47
 
+-- the byte `?`, at whose first place a target's path ends and its query begins
 abbrev pub question_mark : ℕ
 question_mark = 63
 
@@ -39,7 +40,7 @@ query_pairs query = map pair_text (raw_pairs query)
 abbrev pub query_of : List ℕ → List ℕ
 query_of target = after_first (λ b. b == question_mark) target
 
--- the first value of a name
+-- the value of the first of the pairs that has this name
 abbrev pub first_value : List ℕ → List (List ℕ × List ℕ) → Option (List ℕ)
 first_value name pairs = option_map (λ pair. pair.1) (find (λ pair. bytes_eq pair.0 name) pairs)
 

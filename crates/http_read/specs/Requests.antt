@@ -4,6 +4,7 @@ use Rattle.httparse.specs.Grammar.{RequestHead, print_request, ReadsRequest, Has
 use Rattle.httparse.specs.Spans.{RequestOverflows, RequestExceeds}
 use Rattle.http_read.specs.Queries.{path_of, query_of, query_pairs}
 use Rattle.http_read.specs.Heads.{FieldText, most_head, most_fields, fields_of, body_length, connection_has, value_of, text_of, upgrade_of}
+use Rattle.http_read.specs.Sites.{is_foreign}
 use Rattle.http_read.specs.declared.request.Req.{Req}
 use Rattle.http_read.specs.declared.refusal.ReqNo.{ReqNo}
 use Rattle.http_read.specs.declared.refusal.ReqNo.TheVariants.{Malformed, HeadTooLong, TooManyHeaders, BodyTooLong, NeedsLength, CutShort, ReadFault, Memory}
@@ -16,6 +17,7 @@ request_with method target fields body = record {
   params = query_pairs (query_of target);
   body = body;
   close = connection_has (codes "close") fields;
+  foreign = is_foreign fields;
   accept = text_of (value_of (codes "accept") fields);
   upgrade = upgrade_of method fields;
 }
@@ -66,19 +68,17 @@ RefusesBody bytes why = (h : RequestHead) × (after : List ℕ) × HasHead bytes
 abbrev pub IsRefused : List ℕ → ReqNo → Type 0
 IsRefused bytes why = RefusesHead bytes why ⊎ RefusesBody bytes why
 
--- the bytes begin with a whole head that isn't refused, so that a request was to be made of it
-abbrev pub StandsHead : List ℕ → Type 0
-StandsHead bytes = (h : RequestHead) × (after : List ℕ) × (n : ℕ) × HasHead bytes h after × (head_answer h ≡ Ok n)
-
--- the bytes end inside a request: in its head, which more bytes could go on, or in its body
+-- the bytes end inside the head of a request: there are some, fewer than a head may have, and more could make it whole
 abbrev pub EndsInHead : List ℕ → Type 0
 EndsInHead bytes =
     (0 < length bytes) × (length bytes < most_head) × HasNoRequest bytes × MayBecomeRequest bytes
 
+-- the bytes end inside the body of a request: its head is whole and accepted, and fewer bytes follow it than it says
 abbrev pub EndsInBody : List ℕ → Type 0
 EndsInBody bytes =
     (h : RequestHead) × (after : List ℕ) × (n : ℕ) × HasHead bytes h after × (head_answer h ≡ Ok n) × (length after < n)
 
+-- the bytes end inside a request, in its head or in its body; where input ends so, the request isn't answered
 abbrev pub IsCutShort : List ℕ → Type 0
 IsCutShort bytes = EndsInHead bytes ⊎ EndsInBody bytes
 
@@ -102,7 +102,7 @@ abbrev pub ReadsRequests : List ℕ → List Req → Ending → Type 0
 ReadsRequests bytes [] ending = EndsAs bytes ending
 ReadsRequests bytes (req ∷ reqs) ending = (rest : List ℕ) × ReadsOne bytes req rest × ReadsRequests rest reqs ending
 
--- the same of bytes that are read so far: whole requests, and what is left
+-- whole requests, one after the other, stand in front of the bytes, and `left` is what follows them
 abbrev pub ReadsSome : List ℕ → List Req → List ℕ → Type 0
 ReadsSome bytes [] left = bytes ≡ left
 ReadsSome bytes (req ∷ reqs) left = (rest : List ℕ) × ReadsOne bytes req rest × ReadsSome rest reqs left

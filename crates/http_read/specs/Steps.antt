@@ -1,5 +1,5 @@
 -- The steps in which a reader reads one request.
-use Rattle.std.specs.Prelude.{◌≡◌, ℕ, ◌<◌, ◌≤◌, ◌⊎◌, List, [], ◌++◌, length, take, map, Option, None, Some, Result, Ok, Err}
+use Rattle.std.specs.Prelude.{◌≡◌, ℕ, ◌<◌, ◌≤◌, ◌⊎◌, List, [], ◌++◌, length, take, map, Option, None, Some, Result, Ok, Err, ⊤}
 use Rattle.httparse.specs.Grammar.{RequestHead, HasNoRequest, MayBecomeRequest}
 use Rattle.httparse.specs.Spans.{IsRequestAt, IsRequestWithin, header_bytes, span_bytes}
 use Rattle.httparse.specs.declared.spans.HeaderSpan.{HeaderSpan}
@@ -9,8 +9,16 @@ use Rattle.edge_io.specs.Counts.{Rose}
 use Rattle.http_read.specs.Heads.{FieldText, most_head, most_fields}
 use Rattle.http_read.specs.Requests.{front, RefusesHead, EndsInHead, request_with}
 use Rattle.http_read.specs.declared.request.Req.{Req}
+use Rattle.http_read.specs.declared.unread.FillNo.{FillNo}
+use Rattle.http_read.specs.declared.unread.FillNo.TheVariants.{Fault}
+use Rattle.http_read.specs.declared.unread.FillNo.TheVariants as fill_no
 use Rattle.http_read.specs.declared.refusal.ReqNo.{ReqNo}
 use Rattle.http_read.specs.declared.refusal.ReqNo.TheVariants.{Malformed, HeadTooLong, TooManyHeaders, BodyTooLong, NeedsLength, CutShort, ReadFault, Memory}
+
+-- why no bytes were read: a fault, which was counted, or want of memory, which is none
+abbrev pub FillsNot : FillNo → ℕ → ℕ → Type 0
+FillsNot Fault old_faults new_faults = Rose old_faults new_faults
+FillsNot fill_no.Memory old_faults new_faults = new_faults ≡ old_faults
 
 -- the spans are those of a whole head in the front of the bytes
 pub record FindsHead (bytes : List ℕ) (spans : List HeaderSpan) (found : RequestSpans) : Type 0 where
@@ -46,7 +54,7 @@ ReadsHead bytes spans left old_faults new_faults (Err HeadTooLong) = RefusesHead
 ReadsHead bytes spans left old_faults new_faults (Err TooManyHeaders) = RefusesHead bytes TooManyHeaders
 ReadsHead bytes spans left old_faults new_faults (Err BodyTooLong) = ⊥
 ReadsHead bytes spans left old_faults new_faults (Err NeedsLength) = ⊥
-ReadsHead bytes spans left old_faults new_faults (Err Memory) = ⊥
+ReadsHead bytes spans left old_faults new_faults (Err Memory) = ⊤
 
 -- what the reading of a body answers: `kept` and `taken` came, and the body is filled from them; or they are too few
 abbrev pub FillsBody : List ℕ → List ℕ → List ℕ → Option (List ℕ) → ℕ → ℕ → Result (Unit {0}) ReqNo → Type 0

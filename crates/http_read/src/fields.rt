@@ -23,8 +23,8 @@ pub(crate) fn is_same(text: &[u8], other: &[u8]) -> bool
     text.eq_ignore_ascii_case(other)
 }
 
-// Whether a field has this name.
-fn is_named(bytes: &[u8], field: &HeaderSpan, name: &[u8]) -> bool
+/// Whether a field has this name, without regard to ASCII case.
+pub fn is_named(bytes: &[u8], field: &HeaderSpan, name: &[u8]) -> bool
     requires { IsHeaderWithin (length bytes.now) field.now }
     ensures { result ≡ head.is_named name.now (header_bytes bytes.now field.now) }
 {
@@ -44,7 +44,7 @@ pub(crate) fn value_of<'b>(bytes: &'b [u8], fields: &[HeaderSpan], name: &[u8]) 
     None
 }
 
-/// Whether a field has this name.
+/// Whether some field has this name.
 pub(crate) fn has_field(bytes: &[u8], fields: &[HeaderSpan], name: &[u8]) -> bool
     requires { All (IsHeaderWithin (length bytes.now)) fields.now }
     ensures { result ≡ head.has_field name.now (map (header_bytes bytes.now) fields.now) }

@@ -13,13 +13,14 @@ ghost use Rattle.http_read.specs.Steps.{FindsHead, LooksAtHead, ReadsHead, field
 
 use crate::body::Body;
 use crate::fields::{asks_websocket, connection_asks, value_of};
-use crate::kept::Kept;
 use crate::params::Params;
 use crate::pieces::cut;
 use crate::plain::{is_plain, text};
 use crate::refusal::ReqNo;
 use crate::request::{Req, Upgrade};
 use crate::segments::Segments;
+use crate::sites::is_foreign;
+use crate::unread::{FillNo, Unread};
 use edge_io::Source;
 use httparse::spans::{HeaderSpan, RequestSpans, parse_request};
 use httparse::{Error, Status};
@@ -27,13 +28,13 @@ use kube_meta::{Memory, Text};
 use std::alloc::Global;
 
 /// The most bytes of a head.
-pub(crate) const MOST_HEAD: usize = 16_384;
+pub const MOST_HEAD: usize = 16_384;
 
 /// The most fields of a head.
-pub(crate) const MOST_FIELDS: usize = 64;
+pub const MOST_FIELDS: usize = 64;
 
-// The part of the bytes in which a head has to end.
-pub(crate) fn front_of(bytes: &[u8]) -> &[u8]
+/// The part of the bytes in which a head has to end.
+pub fn front_of(bytes: &[u8]) -> &[u8]
     ensures { result.now ≡ front bytes.now }
 {
     &bytes[..bytes.len().min(MOST_HEAD)]
@@ -55,7 +56,7 @@ fn look(bytes: &[u8], spans: &mut [HeaderSpan]) -> Result<Option<RequestSpans>, 
 
 /// Reads on until there is a whole head in front of the bytes. `None` means that the input ended and there is no byte.
 pub(crate) fn read_head<S: Source>(
-    kept: &mut Kept,
+    kept: &mut Unread,
     source: &mut S,
     spans: &mut [HeaderSpan],
 ) -> Result<Option<RequestSpans>, ReqNo>
@@ -76,7 +77,8 @@ pub(crate) fn read_head<S: Source>(
             Ok(0) if kept.is_empty() => return Ok(None),
             Ok(0) => return Err(ReqNo::CutShort),
             Ok(_) => {}
-            Err(_) => return Err(ReqNo::ReadFault),
+            Err(FillNo::Fault) => return Err(ReqNo::ReadFault),
+            Err(FillNo::Memory) => return Err(ReqNo::Memory),
         }
     }
 }
@@ -182,6 +184,7 @@ pub(crate) fn make_request(
         params,
         body: Body::from_vec(Vec::new(alloc)),
         close: asked.close,
+        foreign: is_foreign(bytes, fields),
         accept,
         upgrade,
     })

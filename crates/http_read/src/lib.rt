@@ -5,7 +5,6 @@
 mod body;
 mod fields;
 mod head;
-mod kept;
 mod laws;
 mod params;
 mod pieces;
@@ -15,11 +14,16 @@ mod reader;
 mod refusal;
 mod request;
 mod segments;
+mod sites;
+mod unread;
 
 pub use body::Body;
+pub use fields::is_named;
+pub use head::{MOST_FIELDS, MOST_HEAD, front_of};
 pub use laws::{endings_are_determined, requests_agree, requests_are_read_in_one_way};
 pub use params::Params;
 pub use reader::Reader;
 pub use refusal::ReqNo;
 pub use request::{Req, Upgrade};
 pub use segments::Segments;
+pub use unread::{FillNo, Unread};

@@ -11,9 +11,9 @@ ghost use Rattle.http_read.specs.Requests.{front, head_answer, request_of, IsUnf
 use crate::body::Body;
 use crate::fields::body_length;
 use crate::head::{MOST_FIELDS, front_of, make_request, read_head};
-use crate::kept::Kept;
 use crate::refusal::ReqNo;
 use crate::request::Req;
+use crate::unread::Unread;
 use edge_io::Source;
 use httparse::spans::{EMPTY_HEADER_SPAN, HeaderSpan, RequestSpans};
 use kube_meta::Memory;
@@ -40,7 +40,7 @@ fn read_rest<S: Source>(source: &mut S, body: &mut [u8]) -> Result<(), ReqNo>
 }
 
 // Fills `body` from the bytes that are kept, and then from a source.
-fn read_body<S: Source>(kept: &mut Kept, source: &mut S, body: &mut [u8]) -> Result<(), ReqNo>
+fn read_body<S: Source>(kept: &mut Unread, source: &mut S, body: &mut [u8]) -> Result<(), ReqNo>
     ensures reads { (taken : List ℕ) × (S.left source.old ≡ prepended taken (S.left source.new))
         × FillsBody (kept.old ++ taken) body.new kept.new (S.left source.new) (S.faults source.old) (S.faults source.new) result
         × (length body.old ≤ length kept.old → taken ≡ []) }
@@ -67,27 +67,24 @@ fn zeros(alloc: Global, n: usize) -> Result<Vec<u8>, Memory>
 /// and the refusal that it keeps.
 #[derive(Debug, Drop)]
 pub struct Reader {
-    kept: Kept,
+    kept: Unread,
     refusal: Option<ReqNo>,
-    // where the fields of the last head were, kept so that they needn't be cleared for each head
+    // where the fields of the last head were, kept so that they needn't be cleared for each head; none at first
     spans: Vec<HeaderSpan>,
 }
 
 impl Model for Reader {
-    ghost use Rattle.std.specs.Prelude.{◌≡◌, length};
     ghost use Rattle.http_read.specs.Readers.{ReaderState};
 
     ghost Value = { ReaderState };
 
     ghost view = { λ reader. record { kept = reader.kept; refusal = reader.refusal } };
-
-    ghost invariant = { λ reader. length reader.spans.items ≡ 64 };
 }
 
 // Reads the body of a request whose head was found in the bytes that are kept. Memory is asked for before a byte is
 // let go.
 fn read_found<S: Source>(
-    kept: &mut Kept,
+    kept: &mut Unread,
     source: &mut S,
     spans: &[HeaderSpan],
     found: RequestSpans,
@@ -157,11 +154,10 @@ fn request_in(
 
 // Reads the next request, behind the bytes that are kept.
 fn read_next<S: Source>(
-    kept: &mut Kept,
+    kept: &mut Unread,
     source: &mut S,
-    spans: &mut [HeaderSpan],
+    spans: &mut Vec<HeaderSpan>,
 ) -> Result<Option<Req>, ReqNo>
-    requires { length spans.old ≡ 64 }
     ensures reads { (taken : List ℕ) × (S.left source.old ≡ prepended taken (S.left source.new))
         × ReadsNext (kept.old ++ taken) result kept.new (S.left source.new) (S.faults source.old) (S.faults source.new)
         × ((IsUnfinished kept.old → ⊥) → taken ≡ []) }
@@ -169,8 +165,11 @@ fn read_next<S: Source>(
     ensures quiet { UnlessFault result (S.faults source.new ≡ S.faults source.old) }
     ensures never_falls { S.faults source.old ≤ S.faults source.new }
 {
-    match read_head(kept, source, spans) {
-        Ok(Some(found)) => read_found(kept, source, spans, found),
+    if spans.resize(MOST_FIELDS, EMPTY_HEADER_SPAN).is_err() {
+        return Err(ReqNo::Memory);
+    }
+    match read_head(kept, source, spans.as_mut_slice()) {
+        Ok(Some(found)) => read_found(kept, source, spans.as_slice(), found),
         Ok(None) => Ok(None),
         Err(why) => Err(why),
     }
@@ -187,17 +186,23 @@ fn refusal_of(answer: &Result<Option<Req>, ReqNo>) -> Option<ReqNo>
     }
 }
 
+// Whether a request that asks for a watch was read. Its client mostly asks for nothing behind it.
+fn asks_to_watch(answer: &Result<Option<Req>, ReqNo>) -> bool {
+    match answer {
+        Ok(Some(req)) => req.params.truth("watch") == Some(true),
+        _ => false,
+    }
+}
+
 impl Reader {
-    /// A reader that took nothing yet.
+    /// A reader that took nothing yet. Its memory is asked for as it reads.
     pub fn new(alloc: Global) -> Result<Reader, Memory>
         ensures { IfOk result (λ reader. reader ≡ record { kept = []; refusal = None }) }
     {
-        let mut spans = Vec::new(alloc);
-        spans.resize(MOST_FIELDS, EMPTY_HEADER_SPAN)?;
         Ok(Reader {
-            kept: Kept::new(alloc)?,
+            kept: Unread::new(alloc),
             refusal: None,
-            spans,
+            spans: Vec::new(alloc),
         })
     }
 
@@ -207,7 +212,8 @@ impl Reader {
     /// one request and waits is answered.
     ///
     /// After a refusal the reader has failed, and each later call answers that refusal again. After [`ReqNo::Memory`]
-    /// what was taken is kept, and a later call goes on; it comes only where a whole head stands that isn't refused.
+    /// what was taken is kept, and a later call goes on. Behind a request that asks for a watch the reader gives its
+    /// memory back.
     pub fn next_request<S: Source>(&mut self, source: &mut S) -> Result<Option<Req>, ReqNo>
         ensures repeats { IfSome self.old.refusal (Repeats self.old self.new source.old source.new result) }
         ensures reads { IsNone self.old.refusal → AnswersNext self.old self.new (S.left source.old) (S.left source.new)
@@ -219,8 +225,20 @@ impl Reader {
         if let Some(why) = self.refusal {
             return Err(why);
         }
-        let answer = read_next(&mut self.kept, source, self.spans.as_mut_slice());
+        let answer = read_next(&mut self.kept, source, &mut self.spans);
         self.refusal = refusal_of(&answer);
+        self.rest_behind(&answer);
         answer
+    }
+
+    // Gives the memory back in which no bytes are kept, behind a request that asks for a watch.
+    fn rest_behind(&mut self, answer: &Result<Option<Req>, ReqNo>)
+        ensures { self.new ≡ self.old }
+    {
+        if asks_to_watch(answer) {
+            let alloc = self.kept.allocator();
+            self.kept.rest();
+            self.spans = Vec::new(alloc);
+        }
     }
 }

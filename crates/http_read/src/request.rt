@@ -27,6 +27,9 @@ pub struct Req {
     pub body: Body,
     /// Whether the client wants the connection to end with the reply: Connection has `close`.
     pub close: bool,
+    /// Whether a browser made it, and not for the server's own site: Origin or Sec-Fetch-Site is there, and either of
+    /// them tells another site, or Host isn't a loopback name or address.
+    pub foreign: bool,
     /// The first Accept field.
     pub accept: Option<Text>,
     /// The upgrade to a WebSocket that is asked for.

@@ -3,6 +3,8 @@ use Rattle.std.specs.Prelude.{ℕ, ◌++◌, List, [], ◌∷◌, length, Bool, 
 use Rattle.std.specs.List.{concat}
 use Rattle.std.specs.Fmt.{digits}
 use Rattle.http.specs.StatusCode.{reason_phrase}
+use Rattle.http_send.specs.declared.replies.ContentType.{ContentType}
+use Rattle.http_send.specs.declared.replies.ContentType.TheVariants.{Json, PlainText}
 
 -- the end of a line
 abbrev pub crlf : List ℕ
@@ -16,21 +18,34 @@ phrase code = if nat_le 100 code && nat_lt code 1000 then unwrap_or (reason_phra
 abbrev pub text_where : Bool → List ℕ → List ℕ
 text_where flag text = if flag then text else []
 
--- the head of a reply whose body has `n` bytes: the status line and the field lines, each ended by the line end that the
--- next one begins with, and the empty line
-abbrev pub reply_head_text : ℕ → Bool → Bool → ℕ → List ℕ
-reply_head_text code retry close n =
+-- the line that says what a body is
+abbrev pub content_type_line : ContentType → List ℕ
+content_type_line Json = codes "\r\nContent-Type: application/json"
+content_type_line PlainText = codes "\r\nContent-Type: text/plain; charset=utf-8"
+
+-- the head of a reply whose body is of this kind and has `n` bytes: the status line and the field lines, each ended by
+-- the line end that the next one begins with, and the empty line
+abbrev pub typed_head_text : ContentType → ℕ → Bool → Bool → ℕ → List ℕ
+typed_head_text kind code retry close n =
     concat
     (codes "HTTP/1.1 " ∷ decimal code ∷ codes " " ∷ phrase code
-    ∷ codes "\r\nContent-Type: application/json"
+    ∷ content_type_line kind
     ∷ codes "\r\nContent-Length: " ∷ decimal n
     ∷ text_where retry (codes "\r\nRetry-After: 1")
     ∷ text_where close (codes "\r\nConnection: close")
     ∷ codes "\r\n\r\n" ∷ [])
 
--- a whole reply
+-- the head of a reply whose body has `n` bytes of JSON
+abbrev pub reply_head_text : ℕ → Bool → Bool → ℕ → List ℕ
+reply_head_text code retry close n = typed_head_text Json code retry close n
+
+-- a whole reply whose body is of this kind
+abbrev pub typed_reply_text : ContentType → ℕ → Bool → Bool → List ℕ → List ℕ
+typed_reply_text kind code retry close body = typed_head_text kind code retry close (length body) ++ body
+
+-- a whole reply of JSON
 abbrev pub reply_text : ℕ → Bool → Bool → List ℕ → List ℕ
-reply_text code retry close body = reply_head_text code retry close (length body) ++ body
+reply_text code retry close body = typed_reply_text Json code retry close body
 
 -- the head of a reply whose body is sent in chunks until the connection ends
 abbrev pub stream_head_text : List ℕ

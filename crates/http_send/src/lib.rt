@@ -7,4 +7,7 @@ mod pieces;
 mod replies;
 
 pub use pieces::{SendNo, part, parts};
-pub use replies::{begin_chunk, begin_reply, begin_stream, end_chunk, end_stream, send_chunk};
+pub use replies::{
+    ContentType, begin_chunk, begin_reply, begin_stream, begin_typed_reply, end_chunk, end_stream,
+    send_chunk,
+};

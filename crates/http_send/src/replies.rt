@@ -4,13 +4,23 @@ ghost use Rattle.std.specs.Prelude.{◌≡◌, ◌<◌, ◌≤◌, ◌^◌, OnOk
 ghost use Rattle.std.specs.List.{flat_map};
 ghost use Rattle.edge_io.specs.Told.{appended, AppendedSome};
 ghost use Rattle.edge_io.specs.Counts.{Rose};
-ghost use Rattle.http_send.specs.Replies.{reply_head_text, stream_head_text, chunk_head_text, chunk_text, stream_end_text, crlf, text_where, phrase};
+ghost use Rattle.http_send.specs.Replies as lines;
+ghost use Rattle.http_send.specs.Replies.{reply_head_text, typed_head_text, stream_head_text, chunk_head_text, chunk_text, stream_end_text, crlf, text_where, phrase};
 
 use crate::hexadecimal::hexadecimal_text;
 use crate::pieces::{SendNo, part, parts};
 use edge_io::{Sink, length_of};
 use http::StatusCode;
 use itoa::Buffer;
+
+/// What the body of a reply is.
+#[derive(Clone, Copy, Debug, PartialEq, Eq)]
+pub enum ContentType {
+    /// `application/json`.
+    Json,
+    /// `text/plain`, in UTF-8.
+    PlainText,
+}
 
 // The standard reason phrase of a status code, empty where it has none.
 fn phrase_of(code: u16) -> &'static str
@@ -29,6 +39,16 @@ fn piece_where(flag: bool, piece: &'static [u8]) -> &'static [u8]
     if flag { piece } else { b"" }
 }
 
+// The line of the field that says what a body is, from the line end before it on.
+fn content_type_line(kind: ContentType) -> &'static [u8]
+    ensures { result.now ≡ lines.content_type_line kind }
+{
+    match kind {
+        ContentType::Json => b"\r\nContent-Type: application/json",
+        ContentType::PlainText => b"\r\nContent-Type: text/plain; charset=utf-8",
+    }
+}
+
 /// Writes the head of a reply, up to and with its empty line, for a body of `length` bytes of JSON. `retry` says that
 /// the client may ask again after a second, and `close` that the connection ends with this reply.
 pub fn begin_reply<K: Sink>(
@@ -44,14 +64,33 @@ pub fn begin_reply<K: Sink>(
     ensures counted { OnErr result (Rose (K.faults sink.old) (K.faults sink.new)) }
     ensures never_falls { K.faults sink.old ≤ K.faults sink.new }
 {
+    begin_typed_reply(sink, ContentType::Json, code, retry, close, length)
+}
+
+/// Writes the head of a reply, as [`begin_reply`] does, for a body of this kind.
+pub fn begin_typed_reply<K: Sink>(
+    sink: &mut K,
+    kind: ContentType,
+    code: u16,
+    retry: bool,
+    close: bool,
+    length: u64,
+) -> Result<(), SendNo>
+    ensures sent { OnOk result (K.written sink.new ≡ appended (K.written sink.old) (typed_head_text kind code retry close length)) }
+    ensures broken { OnErr result (AppendedSome (K.written sink.old) (K.written sink.new) (typed_head_text kind code retry close length)) }
+    ensures quiet { OnOk result (K.faults sink.new ≡ K.faults sink.old) }
+    ensures counted { OnErr result (Rose (K.faults sink.old) (K.faults sink.new)) }
+    ensures never_falls { K.faults sink.old ≤ K.faults sink.new }
+{
     let mut code_digits = Buffer::new();
     let mut length_digits = Buffer::new();
-    let pieces: [&[u8]; 9] = [
+    let pieces: [&[u8]; 10] = [
         b"HTTP/1.1 ",
         code_digits.format(code).as_bytes(),
         b" ",
         phrase_of(code).as_bytes(),
-        b"\r\nContent-Type: application/json\r\nContent-Length: ",
+        content_type_line(kind),
+        b"\r\nContent-Length: ",
         length_digits.format(length).as_bytes(),
         piece_where(retry, b"\r\nRetry-After: 1"),
         piece_where(close, b"\r\nConnection: close"),

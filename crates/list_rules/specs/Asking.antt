@@ -11,7 +11,7 @@ use Rattle.list_rules.specs.declared.options.Options.{Options}
 use Rattle.list_rules.specs.Options.{Pairs, given, text_of, options_of, first_fault, means, limit_of}
 use Rattle.list_rules.specs.Tokens.{token_read}
 
--- with no token: the first page, at a revision of that meaning
+-- what a list with no token asks for: its first page, at a revision of the meaning that its options have
 abbrev pub first_page : Selection → Options → List ℕ → List ℕ → ListAsk
 first_page s o label field = record {
   selection = s;
@@ -27,7 +27,7 @@ abbrev pub refused_token : TokenNo → AskNo
 refused_token token_no.Memory = Memory
 refused_token fault = BadContinue fault
 
--- with one: the page after the token's key, at the token's revision alone
+-- what a list with a token asks for: the page behind the token's key, at the token's revision alone
 abbrev pub later_page : Selection → Options → List ℕ → List ℕ → Result (ℕ × List ℕ) TokenNo → Result ListAsk AskNo
 later_page s o label field (Err fault) = Err (refused_token fault)
 later_page s o label field (Ok place) = Ok (record {
@@ -39,14 +39,17 @@ later_page s o label field (Ok place) = Ok (record {
   field_text = field;
 })
 
+-- which page a list asks for: the one that its `continue` token names, or the first where it has none
 abbrev pub page_by : Selection → Options → List ℕ → List ℕ → Option (List ℕ) → Result ListAsk AskNo
 page_by s o label field None = Ok (first_page s o label field)
 page_by s o label field (Some token) = later_page s o label field (token_read token s label field)
 
+-- what is answered to options that may have a fault: it comes before all that is said of the token
 abbrev pub unless_fault : Option AskNo → Result ListAsk AskNo → Result ListAsk AskNo
 unless_fault (Some fault) answer = Err fault
 unless_fault None answer = answer
 
+-- what a query asks for as a list of this selection, or the first reason for which it is refused
 abbrev pub ask_of : Selection → Pairs → Result ListAsk AskNo
 ask_of s pairs =
     unless_fault (first_fault (options_of pairs))

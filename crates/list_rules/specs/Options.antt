@@ -21,10 +21,11 @@ Pairs = List (List ℕ × List ℕ)
 abbrev pub given : List ℕ → Pairs → Option (List ℕ)
 given name pairs = unless_empty (first_value name pairs)
 
--- its text, empty where it is unset
+-- what a parameter says, as a text that is empty where it is unset
 abbrev pub text_of : List ℕ → Pairs → List ℕ
 text_of name pairs = unwrap_or (given name pairs) []
 
+-- the parameter has a value; whether an empty one counts is decided where it is looked up
 abbrev pub is_set : Option (List ℕ) → Bool
 is_set None = false
 is_set (Some text) = true
@@ -36,17 +37,19 @@ abbrev pub number_read : Result ℕ RevNo → Number
 number_read (Ok n) = Is n
 number_read (Err fault) = Refused
 
+-- what a parameter of a number says: nothing, a number, or a text that is none
 abbrev pub number_of : Option (List ℕ) → Number
 number_of None = Unset
 number_of (Some text) = number_read (revision_of text)
 
+-- what `resourceVersionMatch` says, where capitals count; any text but the API's two is `Other`, which is refused
 abbrev pub match_of : Option (List ℕ) → Match
 match_of None = Absent
 match_of (Some text) =
     if bytes_eq text (codes "Exact") then Exactly else
     (if bytes_eq text (codes "NotOlderThan") then NotOlderThan else Other)
 
--- `sendInitialEvents` is set also where it is empty
+-- the options of a list, as its query gives them; `sendInitialEvents` is set also where it is empty
 abbrev pub options_of : Pairs → Options
 options_of pairs = record {
   revision = number_of (given (codes "resourceVersion") pairs);
@@ -58,33 +61,39 @@ options_of pairs = record {
 
 -- ---- what may be said of one
 
+-- the parameter isn't given, or its text is empty
 abbrev pub is_unset : Number → Bool
 is_unset Unset = true
 is_unset Refused = false
 is_unset (Is n) = false
 
+-- the parameter is given, and its text is no number
 abbrev pub is_refused : Number → Bool
 is_refused Unset = false
 is_refused Refused = true
 is_refused (Is n) = false
 
+-- the parameter says 0, which as a revision stands for any
 abbrev pub is_zero : Number → Bool
 is_zero Unset = false
 is_zero Refused = false
 is_zero (Is n) = n == 0
 
+-- no match is asked for, so that the revision and the limit decide how the revision is meant
 abbrev pub is_absent : Match → Bool
 is_absent Absent = true
 is_absent Exactly = false
 is_absent NotOlderThan = false
 is_absent Other = false
 
+-- the match asks for the given revision alone
 abbrev pub is_exactly : Match → Bool
 is_exactly Absent = false
 is_exactly Exactly = true
 is_exactly NotOlderThan = false
 is_exactly Other = false
 
+-- the match is none of those that the API has
 abbrev pub is_other : Match → Bool
 is_other Absent = false
 is_other Exactly = false
@@ -93,11 +102,12 @@ is_other Other = true
 
 -- ---- the faults, each with exactly where it holds
 
+-- the first of the refusals whose condition holds; nothing where none does
 abbrev pub first_of : List (Bool × AskNo) → Option AskNo
 first_of [] = None
 first_of (row ∷ rows) = if row.0 then Some row.1 else first_of rows
 
--- in this order
+-- each reason for which options are refused, beside where it holds; they are told in this order
 abbrev pub faults : Options → List (Bool × AskNo)
 faults o =
     (is_refused o.revision, BadRevision)
@@ -110,13 +120,13 @@ faults o =
     ∷ (is_refused o.limit, BadLimit)
     ∷ []
 
--- the first that holds is answered
+-- why options are refused, by the first reason that holds; nothing where they are accepted
 abbrev pub first_fault : Options → Option AskNo
 first_fault o = first_of (faults o)
 
 -- ---- the meaning, where there is no fault
 
--- 0 is no limit
+-- the most rows of a page; 0, as where none is given, is no limit
 abbrev pub limit_of : Number → ℕ
 limit_of Unset = 0
 limit_of Refused = 0
@@ -134,7 +144,7 @@ means Exactly (Is r) limit = Exact r
 means NotOlderThan (Is r) limit = of_revision r 0
 means given_match number limit = MostRecent
 
--- of a get: the revision alone speaks
+-- at which revision a get may be answered: its `resourceVersion` alone speaks
 abbrev pub of_get : Number → Result Meaning AskNo
 of_get Unset = Ok MostRecent
 of_get Refused = Err BadRevision

@@ -13,7 +13,7 @@ abbrev pub next_of : ℕ → List RowData → Option (List ℕ)
 next_of zero rows = None
 next_of (suc n) rows = if nat_lt (suc n) (length rows) then option_map key_of (slice_get rows n) else None
 
--- how many of them are left behind the page
+-- how many of the rows from where a page begins are left behind it; without a limit none are
 abbrev pub left_of : ℕ → List RowData → ℕ
 left_of zero rows = 0
 left_of (suc n) rows = length rows - suc n
@@ -22,7 +22,7 @@ left_of (suc n) rows = length rows - suc n
 abbrev pub is_unrestricted : Selection → Bool
 is_unrestricted s = (length s.labels == 0) && (length s.fields == 0)
 
--- what is told of their number: nothing where the selection has a requirement
+-- the `remainingItemCount` of a page with so many rows behind it; none is told where the selection has a requirement
 abbrev pub remaining_of : Selection → ℕ → Option ℕ
 remaining_of s left = if is_unrestricted s then Some left else None
 

@@ -12,6 +12,7 @@ use Rattle.select_all.specs.declared.selection.Selection.{Selection}
 use Rattle.list_rules.specs.declared.refusal.TokenNo.{TokenNo}
 use Rattle.list_rules.specs.declared.refusal.TokenNo.TheVariants.{NotToken, OtherList, Memory}
 
+-- the byte that ends each text of a token but the last
 abbrev pub is_line_feed : ℕ → Bool
 is_line_feed b = b == 10
 
@@ -34,12 +35,13 @@ abbrev pub token_lines : Selection → List ℕ → List ℕ → ℕ → List �
 token_lines s label field rev key =
     line (codes "1") (line (decimal rev) (line (plural_of s.resource) (line (list_namespace s.ns) (line key (line (spaced label) field)))))
 
+-- the `continue` text that a client is given to ask for the page behind `key`, at the same revision
 unfoldable pub token_text : Selection → List ℕ → List ℕ → ℕ → List ℕ → List ℕ
 token_text s label field rev key = encode_of url_safe_no_pad (token_lines s label field rev key)
 
 -- ---- reading
 
--- the seven texts
+-- the seven texts of a token: its form, where the next page begins, and which list it is of
 pub record TokenTexts : Type 0 where
   pub version : List ℕ
   pub revision : List ℕ
@@ -60,7 +62,7 @@ texts_of body =
     (λ f. record { version = a.0; revision = b.0; resource = c.0; namespace = d.0; key = e.0; label = f.0; field = f.1 })
     (line_of e.1)) (line_of d.1)) (line_of c.1)) (line_of b.1)) (line_of a.1)) (line_of body)
 
--- a revision is at least 1
+-- the revision that a token's text was read as; it has to be at least 1
 abbrev pub revision_read : Result ℕ RevNo → Option ℕ
 revision_read (Ok n) = if n == 0 then None else Some n
 revision_read (Err fault) = None
@@ -70,16 +72,16 @@ abbrev pub revision_in : TokenTexts → Option ℕ
 revision_in t =
     if bytes_eq t.version (codes "1") && is_some (of_plural t.resource) then revision_read (revision_of t.revision) else None
 
--- the key in them
+-- the key in a token's texts, if it has a namespace and a name as objects have them
 abbrev pub key_in : TokenTexts → Option (List ℕ)
 key_in t = if is_key t.key then Some t.key else None
 
--- those of a token of this list
+-- the texts are of this list: of its resource, its namespace and its two selectors, each as it was written
 abbrev pub is_of_list : TokenTexts → Selection → List ℕ → List ℕ → Bool
 is_of_list t s label field =
     bytes_eq t.resource (plural_of s.resource) && (bytes_eq t.namespace (list_namespace s.ns) && (bytes_eq t.label (spaced label) && bytes_eq t.field field))
 
--- a token has both, and is of the list
+-- where the next page begins: at a token's revision and behind its key, if it has both and is of the list
 abbrev pub place_of : Option ℕ → Option (List ℕ) → Bool → Result (ℕ × List ℕ) TokenNo
 place_of (Some rev) (Some key) of_list = if of_list then Ok (rev, key) else Err OtherList
 place_of rev key of_list = Err NotToken
@@ -93,6 +95,7 @@ texts_read (Some t) s label field = place_of (revision_in t) (key_in t) (is_of_l
 unfoldable pub token_body : List ℕ → Option (List ℕ)
 token_body text = result_ok (decode_of url_safe_no_pad text)
 
+-- at which revision and behind which key a `continue` text lets this list go on, or why it is refused
 abbrev pub token_read : List ℕ → Selection → List ℕ → List ℕ → Result (ℕ × List ℕ) TokenNo
 token_read text s label field = texts_read (option_and_then texts_of (token_body text)) s label field
 

@@ -61,11 +61,11 @@ opened at rows = record { at = at; rows = rows; pieces = []; loss = None }
 abbrev pub initial : RowData → TransitionData
 initial row = record { kind = Added; obj = row.obj; rev = row.rev }
 
--- the initial events
+-- the lines of the initial events, one for each row that stood at the start, in their order
 abbrev pub initial_lines : List RowData → List Line
 initial_lines rows = map (λ row. Told (initial row)) rows
 
--- they, and the bookmark that ends them where one is asked for
+-- the first lines of a watch: its initial events, and the bookmark at their revision where one is asked for to end them
 abbrev pub opening_lines : WatchAsk → ℕ → List RowData → List Line
 opening_lines ask at rows = initial_lines rows ++ (if ask.closing then Closing at ∷ [] else [])
 

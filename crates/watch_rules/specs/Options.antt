@@ -20,23 +20,29 @@ Query = List (List ℕ × List ℕ)
 
 -- ---- what is set; an empty value counts as none, except for the two truth parameters
 
+-- `resourceVersion`, by which the start is chosen; an empty one counts as unset
 abbrev pub revision_text : Query → Option (List ℕ)
 revision_text query = unless_empty (first_value (codes "resourceVersion") query)
 
+-- `resourceVersionMatch`, which a watch has with `sendInitialEvents` alone; an empty one counts as unset
 abbrev pub match_text : Query → Option (List ℕ)
 match_text query = unless_empty (first_value (codes "resourceVersionMatch") query)
 
+-- `timeoutSeconds`, after which the server ends the watch; an empty one counts as unset
 abbrev pub timeout_text : Query → Option (List ℕ)
 timeout_text query = unless_empty (first_value (codes "timeoutSeconds") query)
 
+-- `sendInitialEvents`: whether the objects that stand are told as events first (KEP-3157); nothing where it isn't given
 abbrev pub initial_events : Query → Option Bool
 initial_events query = option_map is_truth (first_value (codes "sendInitialEvents") query)
 
+-- `allowWatchBookmarks`: whether bookmarks may come (KEP-956); they may not where it isn't given
 abbrev pub allows_bookmarks : Query → Bool
 allows_bookmarks query = option_map_or is_truth (first_value (codes "allowWatchBookmarks") query) false
 
 -- ---- what the texts say; numbers are written as revisions are
 
+-- the number that a text says, in digits with no leading zero, up to 2^62; nothing where it says none
 abbrev pub number_of : List ℕ → Option ℕ
 number_of text = result_ok (revision_of text)
 
@@ -44,24 +50,27 @@ number_of text = result_ok (revision_of text)
 abbrev pub seconds_of : List ℕ → Option ℕ
 seconds_of text = option_and_then (λ number. if nat_le number 1000000 then Some number else None) (number_of text)
 
+-- the match asks for a state at the given revision or a newer one, as the initial events of a watch must be asked for
 abbrev pub is_not_older_than : List ℕ → Bool
 is_not_older_than text = bytes_eq text (codes "NotOlderThan")
 
 -- ---- the refusals
 
--- where each of them holds
+-- there is this reason for refusing the query, be there others or not
 abbrev pub holds : Query → WatchNo → Bool
 holds query BadRevision = option_map_or (λ text. is_none (number_of text)) (revision_text query) false
 holds query MatchWithoutInitial = is_some (match_text query) && is_none (initial_events query)
 holds query InitialNeedsNotOlder = is_some (initial_events query) && not (option_map_or is_not_older_than (match_text query) false)
 holds query BadTimeout = option_map_or (λ text. is_none (seconds_of text)) (timeout_text query) false
 
--- the first of them that holds, in this order
+-- why a query is refused: the first reason that holds, in this order; nothing where it is accepted
 abbrev pub first_fault : Query → Option WatchNo
 first_fault query = find (holds query) (BadRevision ∷ MatchWithoutInitial ∷ InitialNeedsNotOlder ∷ BadTimeout ∷ [])
 
 -- ---- the start, by sendInitialEvents and the revision
 
+-- where a watch starts, by `sendInitialEvents` and a revision, of which 0 is any (API concepts, "Semantics for watch"):
+-- with the events of a state, or with the changes since a state or since the revision
 abbrev pub start_of : Option Bool → Option ℕ → Start
 start_of None None = FromState MostRecent
 start_of None (Some zero) = FromState Any

@@ -10,10 +10,11 @@ length_text n =
     else if nat_lt n 65536 then 126 ∷ to_be_bytes w16 n
     else 127 ∷ to_be_bytes w64 n
 
--- the first bytes of frames: the last fragment of a text (128 and the opcode 1), or a close (128 and the opcode 8)
+-- the first byte of a text message: 128 for its last fragment, which is its only one, and the opcode 1 (section 5.2)
 abbrev pub text_byte : ℕ
 text_byte = 129
 
+-- the first byte of a close: 128, as it is in one piece, and the opcode 8 (section 5.5.1)
 abbrev pub close_byte : ℕ
 close_byte = 136
 
@@ -21,7 +22,7 @@ close_byte = 136
 abbrev pub message_head_text : ℕ → List ℕ
 message_head_text n = text_byte ∷ length_text n
 
--- a text message
+-- a line as a text message, in one frame: its head, and the bytes of the line as they are
 abbrev pub message_text : List ℕ → List ℕ
 message_text line = message_head_text (length line) ++ line
 

@@ -9,6 +9,7 @@ returns c =
       c.in_ok-path.ensures.1,
       c.from_vec.ensures ∙ c.new.ensures.items,
       c.connection_asks-asked.ensures.close,
+      c.is_foreign.ensures,
       c.in_ok-accept.ensures,
       c.in_ok-upgrade.ensures,
     )

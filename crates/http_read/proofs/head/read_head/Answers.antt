@@ -33,8 +33,13 @@ returns-in-Ok-eq0-2-clause-idle g c = λ finished.
     absurd (finished (unfinished-before c.bytes.result.now c.loop-found.kept c.args.kept.now c.bytes.ensures
     (rw c.in-Ok-None.field-0-is at c.in-Ok-None.ensures) c.loop-found.invariant.idle))
 
-pub returns-in-Err-fill-clause-idle : goal.returns-in-Err-fill-clause-idle
-returns-in-Err-fill-clause-idle g c = λ finished.
+pub returns-in-Err-Fault-clause-idle : goal.returns-in-Err-Fault-clause-idle
+returns-in-Err-Fault-clause-idle g c = λ finished.
+    absurd (finished (unfinished-before c.bytes.result.now c.loop-found.kept c.args.kept.now c.bytes.ensures
+    (rw c.in-Ok-None.field-0-is at c.in-Ok-None.ensures) c.loop-found.invariant.idle))
+
+pub returns-in-Err-Memory-clause-idle : goal.returns-in-Err-Memory-clause-idle
+returns-in-Err-Memory-clause-idle g c = λ finished.
     absurd (finished (unfinished-before c.bytes.result.now c.loop-found.kept c.args.kept.now c.bytes.ensures
     (rw c.in-Ok-None.field-0-is at c.in-Ok-None.ensures) c.loop-found.invariant.idle))
 

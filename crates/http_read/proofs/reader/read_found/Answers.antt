@@ -88,22 +88,8 @@ returns-in-Err-read_body-clause-idle g c = λ finished.
 
 pub returns-in-Err-request_in-clause-reads : goal.returns-in-Err-request_in-clause-reads
 returns-in-Err-request_in-clause-reads g c =
-    let kept = c.args.kept.now in
-    let f = c.requires in
-    let at = subst (λ b. IsRequestAt (front b) c.args.spans.now c.args.found f.head) (sym c.bytes.ensures) f.at in (
-      [],
-      sym (prepended-nil _),
-      (sym (append-nil kept), (f.head, drop c.args.found.len kept ++ [], c.in-Ok.length, has-head kept [] c.args.spans.now c.args.found f, sym (c.in-Ok.ensures f.head at))),
-      λ finished. refl,
-    )
+    ([], sym (prepended-nil _), sym (append-nil c.args.kept.now), λ finished. refl)
 
 pub returns-in-Err-zeros-clause-reads : goal.returns-in-Err-zeros-clause-reads
 returns-in-Err-zeros-clause-reads g c =
-    let kept = c.args.kept.now in
-    let f = c.requires in
-    let at = subst (λ b. IsRequestAt (front b) c.args.spans.now c.args.found f.head) (sym c.bytes.ensures) f.at in (
-      [],
-      sym (prepended-nil _),
-      (sym (append-nil kept), (f.head, drop c.args.found.len kept ++ [], c.in-Ok.length, has-head kept [] c.args.spans.now c.args.found f, sym (c.in-Ok.ensures f.head at))),
-      λ finished. refl,
-    )
+    ([], sym (prepended-nil _), sym (append-nil c.args.kept.now), λ finished. refl)

@@ -1,6 +1,6 @@
 use Rattle.std.proofs.Common.{◌∙◌, ap, drop}
 use Rattle.http_read.proofs.WindowLemmas.{window-consume, window-length}
-use Rattle.http_read.proofs.kept.Kept.consume.Goals as goal
+use Rattle.http_read.proofs.unread.Unread.consume.Goals as goal
 
 pub returns-else-self : goal.returns-else-self
 returns-else-self c =

@@ -1,5 +1,5 @@
 use Rattle.std.proofs.Common.{◌∙◌}
-use Rattle.http_send.proofs.replies.begin_reply.Goals as goal
+use Rattle.http_send.proofs.replies.begin_typed_reply.Goals as goal
 
 pub returns-clause-sent : goal.returns-clause-sent
 returns-clause-sent g c =
@@ -7,6 +7,7 @@ returns-clause-sent g c =
       ← c.as_bytes.ensures.value ∙ c.format.ensures.text,
       ← c.as_bytes-2.ensures.value ∙ c.phrase_of.ensures,
       ← c.as_bytes-3.ensures.value ∙ c.format-2.ensures.text,
+      ← c.content_type_line.ensures,
       ← c.piece_where.ensures,
       ← c.piece_where-2.ensures,
     )
@@ -18,6 +19,7 @@ returns-clause-broken g c =
       ← c.as_bytes.ensures.value ∙ c.format.ensures.text,
       ← c.as_bytes-2.ensures.value ∙ c.phrase_of.ensures,
       ← c.as_bytes-3.ensures.value ∙ c.format-2.ensures.text,
+      ← c.content_type_line.ensures,
       ← c.piece_where.ensures,
       ← c.piece_where-2.ensures,
     )
