@@ -1,8 +1,10 @@
 -- The index and the map of lanes agree, and numbers that were not given out are free.
 use Rattle.std.proofs.Common.{◌≡◌, ◌==◌, ℕ, ◌≤◌, ◌<◌, Bool, true, false, cond, eqb-true, List, [], ◌∷◌, map, Option, Some, None, nat_lt, not, ◌&&◌, option_map, refl, sym, ap, ◌∙◌, subst, arith}
 use Rattle.std.specs.Prelude.{IsTrue, ◌||◌}
-use Rattle.std.specs.Map.{lookup}
+use Rattle.std.specs.Map.{lookup, set_value}
+use Rattle.std.specs.Map.Calls.{RetainsPairs}
 use Rattle.std.specs.Ordering.{is_eq, nat_cmp}
+use Rattle.std.proofs.lemmas.Map.Steps.{set_value_same}
 use Rattle.kube_meta.specs.declared.objects.Obj.{Obj}
 use Rattle.select_all.specs.declared.selection.Selection.{Selection}
 use Rattle.select_all.specs.Selecting.{holds}
@@ -137,3 +139,19 @@ untold index lanes all ids event old new indexed same was is listed q other =
 pub object_is : {A : Type 0} (row : A → RowData) (x : Option A) → option_map (λ s. (row s).obj) x ≡ object_of (option_map row x)
 object_is row None = refl
 object_is row (Some s) = refl
+
+-- what `retain` leaves where its closure always answers `true` and writes g of each value, as long as something holds of what it captures
+pub mapped_pairs : {F K X : Type 0} (T : F → K → X → Bool → X → F → Type 0) (g : X → X) (I : F → Type 0) →
+    ((f : F) (k : K) (v : X) (b : Bool) (w : X) (f' : F) → I f → T f k v b w f' → (b ≡ true) × (w ≡ g v) × I f') →
+    (f : F) (es kept : List (K × X)) → I f → RetainsPairs T f es kept → kept ≡ map (λ e. (e.0, g e.1)) es
+mapped_pairs T g I each f [] kept holds r = r
+mapped_pairs T g I each f (e ∷ es) kept holds r =
+    let a = each f e.0 e.1 r.0 r.1 r.2 holds r.4 in
+    let rest = mapped_pairs T g I each r.2 es r.3 a.2 r.5 in
+    r.6 ∙ ap (λ b. cond b ((e.0, r.1) ∷ r.3) r.3) a.0 ∙ (λ i. (e.0, a.1 i) ∷ rest i)
+
+-- a lane that was lent and given back as it was leaves all lanes as they were
+pub kept_entries : (id : ℕ) (lanes : List (ℕ × OpenLaneData)) (lane later : OpenLaneData) (new : List (ℕ × OpenLaneData)) → later ≡ lane → lookup (λ other. is_eq (nat_cmp id other)) lanes ≡ Some lane →
+    new ≡ set_value (λ other. is_eq (nat_cmp id other)) lanes later → new ≡ lanes
+kept_entries id lanes lane later new same found written =
+    written ∙ set_value_same (λ other. is_eq (nat_cmp id other)) lanes later (found ∙ ap (λ (x : OpenLaneData). Some x) (sym same))

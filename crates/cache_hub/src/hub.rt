@@ -15,12 +15,14 @@ ghost use Rattle.cache_hub.specs.declared.catching.CatchNo.TheVariants.{Lost};
 
 use crate::catching::{CatchNo, Caught, first_lines};
 use crate::lanes::Lanes;
+use bells::Bell;
 use cache_core::{AtNo, Cache};
 use kube_meta::{Memory, Resource};
 use obj_tree::Snapshot;
 use select_all::Selection;
 use std::alloc::Global;
 use std::marker::Model;
+use std::sync::Arc;
 use up_api::{Held, History, LogFacts, Pass, Polled, Settings};
 use watch_lane::LaneOut;
 
@@ -119,6 +121,22 @@ impl<N: LogFacts> Hub<N> {
         ensures stands { (log : Log) → StandsFor log self.old → StandsFor log self.new }
     {
         self.lanes.close(id);
+    }
+
+    /// Rings the watcher of a lane, if it is open, by this bell from now on, or not at all. Whoever opens a lane calls
+    /// this before anything else is done with the cache, or the watcher isn't called for what came in between.
+    pub fn ring_by(&mut self, id: u64, bell: Option<Arc<Bell>>)
+        ensures { self.new ≡ self.old }
+    {
+        self.lanes.ring_by(id, bell);
+    }
+
+    /// Puts the bells of all lanes that were told or fell behind since the last such call behind those in `calls`, for
+    /// the caller to ring once it has let the cache's lock go. Where there is no memory for one it is rung at once.
+    pub fn take_calls(&mut self, calls: &mut Vec<Arc<Bell>>)
+        ensures { self.new ≡ self.old }
+    {
+        self.lanes.take_calls(calls);
     }
 
     /// What a watch of this selection is told that stands at a position, from the events that the cache holds: the

@@ -1,24 +1,28 @@
 //! The lanes of a cache.
 
-ghost use Rattle.std.specs.Prelude.{◌≡◌, ◌≤◌, ℕ, Bool, [], ◌++◌, None, Some, option_map, unwrap_or, IfOk, OnOk, OnErr};
+ghost use Rattle.std.specs.Prelude.{◌≡◌, ◌≤◌, ℕ, Bool, true, [], ◌++◌, None, Some, option_map, unwrap_or, IfOk, OnOk, OnErr};
 ghost use Rattle.rev_front.specs.Passes.{end_from};
 ghost use Rattle.up_api.specs.Sections.{log_of};
 ghost use Rattle.cache_hub.specs.Due.{AddsEach, AddsTo, AllDue, AreReady, AreWaiting, IsWaiting, due_at, lines_at, missed};
 ghost use Rattle.cache_hub.specs.OpenLanes.{OpenLaneData, LaneCaughtUp, SetsLane, AreChanged, AreTold, told_lane, caught_up, left_behind, newly_open, open_at};
 
+use crate::calling::{hand_over_all, hang, strike};
 use crate::due::{Waiting, put_line};
 use crate::open_lane::{OpenLane, object};
+use bells::Bell;
 use event_ring::Event;
 use kube_meta::Memory;
 use select_all::Selection;
 use std::alloc::Global;
 use std::collections::BTreeMap;
 use std::marker::Model;
+use std::sync::Arc;
 use up_api::{LogFacts, Pass};
 use watch_lane::{LaneIndex, LaneOut, Line, lane};
 
 /// The lanes of a cache under their numbers, which are never used again, and the index that finds those which a
-/// change may concern. It is on the first listed field; of a resource that has none, all lanes are looked at.
+/// change may concern. It is on the first listed field; of a resource that has none, all lanes are looked at. Beside
+/// them stand the numbers of the lanes whose watchers are called, each once.
 #[derive(Drop)]
 pub(crate) struct Lanes<N: LogFacts> {
     alloc: Global,
@@ -26,6 +30,7 @@ pub(crate) struct Lanes<N: LogFacts> {
     next: u64,
     lanes: BTreeMap<u64, OpenLane<N>>,
     index: LaneIndex,
+    called: Vec<u64>,
 }
 
 impl<N: LogFacts> Model for Lanes<N> {
@@ -55,6 +60,7 @@ impl<N: LogFacts> Lanes<N> {
             next: 0,
             lanes: BTreeMap::new(alloc),
             index: LaneIndex::new(alloc, 0),
+            called: Vec::new(alloc),
         }
     }
 
@@ -105,8 +111,23 @@ impl<N: LogFacts> Lanes<N> {
         ensures closed { SetsLane self.old.all self.new.all id None }
         ensures room { self.new.room ≡ self.old.room }
     {
-        self.lanes.remove(&id);
+        let lane = self.lanes.remove(&id);
         self.index.drop_lane(id);
+        strike(&mut self.called, id, lane);
+    }
+
+    /// Calls the watcher of a lane, if it is open, by this bell from now on, or nobody.
+    pub fn ring_by(&mut self, id: u64, bell: Option<Arc<Bell>>)
+        ensures { self.new ≡ self.old }
+    {
+        hang(&mut self.lanes, id, bell);
+    }
+
+    /// Hands the bells of all watchers that are called to who rings.
+    pub fn take_calls(&mut self, calls: &mut Vec<Arc<Bell>>)
+        ensures { self.new ≡ self.old }
+    {
+        hand_over_all(&mut self.lanes, &mut self.called, calls);
     }
 
     /// Takes note that a watcher has caught up to a revision of a cache with this end.
@@ -131,7 +152,7 @@ impl<N: LogFacts> Lanes<N> {
         ensures behind { AreChanged left_behind self.old.all self.new.all }
         ensures room { self.new.room ≡ self.old.room }
     {
-        lag_all(&mut self.lanes);
+        lag_all(&mut self.lanes, &mut self.called);
     }
 
     /// Tells the lanes of events up to `end`: each one that an event concerns and that isn't behind gets one batch,
@@ -194,7 +215,14 @@ impl<N: LogFacts> Lanes<N> {
         ensures lanes { AreTold (log_of N.base told.old) end self.old.all self.new.all }
         ensures room { self.new.room ≡ self.old.room }
     {
-        send_all(&mut self.lanes, self.alloc, waiting, end, told);
+        send_all(
+            &mut self.lanes,
+            self.alloc,
+            waiting,
+            end,
+            told,
+            &mut self.called,
+        );
     }
 
     // Leaves those behind that the events concern.
@@ -202,7 +230,7 @@ impl<N: LogFacts> Lanes<N> {
         ensures missed { AreChanged (missed events.now) self.old.all self.new.all }
         ensures room { self.new.room ≡ self.old.room }
     {
-        miss_all(&mut self.lanes, events);
+        miss_all(&mut self.lanes, events, &mut self.called);
     }
 }
 
@@ -222,6 +250,7 @@ fn send_all<N: LogFacts>(
     waiting: Waiting,
     end: u64,
     told: &mut Pass<N>,
+    called: &mut Vec<u64>,
 )
     requires within { end ≤ end_from told.old.first told.old.seen }
     requires waiting { AreWaiting (log_of N.base told.old) end waiting.entries lanes.old.entries }
@@ -231,7 +260,7 @@ fn send_all<N: LogFacts>(
     let mut waiting = waiting;
     let _number = waiting.len();
     while let Some((id, lines)) = waiting.pop_first() {
-        send_to(lanes, alloc, id, lines.lines, end, told);
+        send_to(lanes, alloc, id, lines.lines, end, told, called);
     }
 }
 
@@ -243,6 +272,7 @@ fn send_to<N: LogFacts>(
     lines: Vec<Line>,
     end: u64,
     told: &mut Pass<N>,
+    called: &mut Vec<u64>,
 )
     requires within { end ≤ end_from told.old.first told.old.seen }
     requires waiting { IsWaiting (log_of N.base told.old) end lines.items (open_at lanes.old.entries id) }
@@ -250,24 +280,39 @@ fn send_to<N: LogFacts>(
     ensures lane { (falls : Bool) × SetsLane lanes.old.entries lanes.new.entries id (option_map (told_lane (log_of N.base told.old) end falls) (open_at lanes.old.entries id)) }
 {
     if let Some(lane) = lanes.get_mut(&id) {
-        lane.take(alloc, lines, end, told);
+        lane.take(alloc, lines, end, told, called);
     }
 }
 
-fn lag_all<N: LogFacts>(lanes: &mut BTreeMap<u64, OpenLane<N>>)
+fn lag_all<N: LogFacts>(lanes: &mut BTreeMap<u64, OpenLane<N>>, called: &mut Vec<u64>)
     ensures { AreChanged left_behind lanes.old.entries lanes.new.entries }
 {
-    lanes.retain(|_, lane| {
-        lane.lag();
-        true
-    });
+    lanes.retain(
+        |_, lane|
+            ensures stays { result ≡ true }
+            ensures lane { lane.new ≡ left_behind lane.old }
+        {
+            lane.lag(called);
+            true
+        },
+    );
 }
 
-fn miss_all<N: LogFacts>(lanes: &mut BTreeMap<u64, OpenLane<N>>, events: &[Event])
+fn miss_all<N: LogFacts>(
+    lanes: &mut BTreeMap<u64, OpenLane<N>>,
+    events: &[Event],
+    called: &mut Vec<u64>,
+)
     ensures { AreChanged (missed events.now) lanes.old.entries lanes.new.entries }
 {
-    lanes.retain(|_, lane| {
-        lane.miss(events);
-        true
-    });
+    lanes.retain(
+        |_, lane|
+            ensures stays { result ≡ true }
+            ensures lane { lane.new ≡ missed events.entry.now lane.old }
+            ensures events { events.exit.now ≡ events.entry.now }
+        {
+            lane.miss(events, called);
+            true
+        },
+    );
 }

@@ -2,11 +2,13 @@
 //! and whoever falls behind catches up from the cache's last events.
 #![tactic(auto)]
 
+mod calling;
 mod catching;
 mod due;
 mod hub;
 mod lanes;
 mod open_lane;
+mod sleeper;
 
 pub use catching::{CatchNo, Caught};
 pub use hub::Hub;

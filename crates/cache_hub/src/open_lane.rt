@@ -8,6 +8,8 @@ ghost use Rattle.cache_world.specs.Lanes.{unsent, opened_lane, batch_between};
 ghost use Rattle.cache_hub.specs.Due.{IsWaiting, due, missed, transition_of};
 ghost use Rattle.cache_hub.specs.OpenLanes.{batch_of, told_lane, left_behind, caught_up};
 
+use crate::sleeper::Sleeper;
+use bells::Bell;
 use encode_once::Shown;
 use event_ring::Event;
 use kube_meta::{Memory, Obj};
@@ -19,13 +21,14 @@ use up_api::{LogFacts, Pass};
 use watch_lane::{Batch, LaneIn, Line};
 
 /// A watcher's selection, the revision up to which it was told everything, whether it is behind and so gets nothing
-/// until it has caught up, and the end of its queue.
+/// until it has caught up, the end of its queue, and whom to call, if anybody may rest at the lane.
 #[derive(Drop)]
 pub(crate) struct OpenLane<N: LogFacts> {
     selection: Selection,
     mark: u64,
     behind: bool,
     queue: LaneIn<N>,
+    sleeper: Option<Sleeper>,
 }
 
 impl<N: LogFacts> Model for OpenLane<N> {
@@ -42,11 +45,38 @@ impl<N: LogFacts> OpenLane<N> {
     pub fn new(selection: Selection, at: u64, end: u64, queue: LaneIn<N>) -> OpenLane<N>
         ensures { result ≡ record { lane = opened_lane selection at end; room = queue.capacity; sent = map batch_of queue.sent } }
     {
+        let behind = at < end;
+        queue.set_behind(behind);
         OpenLane {
             selection,
             mark: at,
-            behind: at < end,
+            behind,
             queue,
+            sleeper: None,
+        }
+    }
+
+    /// Calls its watcher by this bell from now on, or nobody. `id` is the lane's number.
+    pub fn ring_by(&mut self, id: u64, bell: Option<Arc<Bell>>)
+        ensures { self.new ≡ self.old }
+    {
+        self.sleeper = bell.map(|bell| Sleeper::new(id, bell));
+    }
+
+    /// Whether its watcher is called.
+    pub fn is_called(&self) -> bool {
+        match &self.sleeper {
+            Some(sleeper) => sleeper.is_called(),
+            None => false,
+        }
+    }
+
+    /// Hands the bell of its watcher to who rings.
+    pub fn hand_over(&mut self, calls: &mut Vec<Arc<Bell>>)
+        ensures { self.new ≡ self.old }
+    {
+        if let Some(sleeper) = &mut self.sleeper {
+            sleeper.hand_over(calls);
         }
     }
 
@@ -61,20 +91,34 @@ impl<N: LogFacts> OpenLane<N> {
     }
 
     /// Sends what waits for the lane, if anything does.
-    pub fn take(&mut self, alloc: Global, lines: Vec<Line>, end: u64, told: &mut Pass<N>)
+    pub fn take(
+        &mut self,
+        alloc: Global,
+        lines: Vec<Line>,
+        end: u64,
+        told: &mut Pass<N>,
+        called: &mut Vec<u64>,
+    )
         requires within { end ≤ end_from told.old.first told.old.seen }
         requires waiting { IsWaiting (log_of N.base told.old) end lines.items (Some self.old) }
         ensures told { told.new ≡ told.old }
         ensures sent { (falls : Bool) × (self.new ≡ told_lane (log_of N.base told.old) end falls self.old) }
     {
         if !lines.is_empty() {
-            self.send(alloc, lines, end, told);
+            self.send(alloc, lines, end, told, called);
         }
     }
 
     // Sends what came up to `end` as one batch. Where the queue is full, or there is no memory for the batch, the
     // lane is behind.
-    fn send(&mut self, alloc: Global, lines: Vec<Line>, end: u64, told: &mut Pass<N>)
+    fn send(
+        &mut self,
+        alloc: Global,
+        lines: Vec<Line>,
+        end: u64,
+        told: &mut Pass<N>,
+        called: &mut Vec<u64>,
+    )
         requires within { end ≤ end_from told.old.first told.old.seen }
         requires in_step { self.old.lane.behind ≡ false }
         requires lines { lines.items ≡ unsent (log_of N.base told.old) end self.old.lane }
@@ -83,8 +127,8 @@ impl<N: LogFacts> OpenLane<N> {
         ensures sent { (falls : Bool) × (self.new ≡ told_lane (log_of N.base told.old) end falls self.old) }
     {
         match self.batch(alloc, lines, end, told) {
-            Ok(batch) => self.push(batch, end),
-            Err(Memory) => self.behind = true,
+            Ok(batch) => self.push(batch, end, called),
+            Err(Memory) => self.fall_behind(called),
         }
     }
 
@@ -107,22 +151,53 @@ impl<N: LogFacts> OpenLane<N> {
         Ok(Batch::new(self.mark, end, selection, lines, note))
     }
 
-    // Pushes a batch that goes to `end`, which is the mark then; or, where the queue is full, the lane is behind.
-    fn push(&mut self, batch: Batch<N>, end: u64)
+    // Pushes a batch that goes to `end`, which is the mark then; or, where the queue is full, the lane is behind. All
+    // that is pushed is pushed here. The watcher is called behind the push: one that is rung earlier could find
+    // nothing, rest again and sleep beside its batch.
+    fn push(&mut self, batch: Batch<N>, end: u64, called: &mut Vec<u64>)
         ensures { (self.new ≡ record self.old { lane = record self.old.lane { mark = end }; sent = self.old.sent ++ batch_of batch ∷ [] }) ⊎ (self.new ≡ left_behind self.old) }
     {
         match self.queue.push(batch) {
-            Ok(()) => self.mark = end,
-            Err(_) => self.behind = true,
+            Ok(()) => {
+                self.mark = end;
+                self.call(called);
+            }
+            Err(_) => self.fall_behind(called),
+        }
+    }
+
+    // Is behind. Each lane that is left behind is so by this function. Its watcher is called behind the sign: one that
+    // is rung earlier could take its lane for one that has told all, rest again, and be told nothing any more.
+    fn fall_behind(&mut self, called: &mut Vec<u64>)
+        ensures { self.new ≡ left_behind self.old }
+    {
+        self.set_behind(true);
+        self.call(called);
+    }
+
+    // Whether the lane is behind, for those who have the cache's lock, and by the sign for its watcher, who hasn't.
+    fn set_behind(&mut self, behind: bool)
+        ensures { self.new ≡ record self.old { lane = record self.old.lane { behind = behind } } }
+    {
+        self.behind = behind;
+        self.queue.set_behind(behind);
+    }
+
+    // Calls the watcher, if it may rest.
+    fn call(&mut self, called: &mut Vec<u64>)
+        ensures { self.new ≡ self.old }
+    {
+        if let Some(sleeper) = &mut self.sleeper {
+            sleeper.call(called);
         }
     }
 
     /// Is behind, if one of the events concerns it.
-    pub fn miss(&mut self, events: &[Event])
+    pub fn miss(&mut self, events: &[Event], called: &mut Vec<u64>)
         ensures { self.new ≡ missed events.now self.old }
     {
         if self.is_concerned(events) {
-            self.behind = true;
+            self.fall_behind(called);
         }
     }
 
@@ -144,10 +219,10 @@ impl<N: LogFacts> OpenLane<N> {
     }
 
     /// Is behind.
-    pub fn lag(&mut self)
+    pub fn lag(&mut self, called: &mut Vec<u64>)
         ensures { self.new ≡ left_behind self.old }
     {
-        self.behind = true;
+        self.fall_behind(called);
     }
 
     /// Takes note that the watcher has caught up to a revision. At the cache's end it isn't behind any longer.
@@ -156,7 +231,7 @@ impl<N: LogFacts> OpenLane<N> {
     {
         if end <= to {
             self.mark = to;
-            self.behind = false;
+            self.set_behind(false);
         }
     }
 }

@@ -34,6 +34,7 @@ pub record LoadsEnd (p q : Pass RevisionData) : Type 0 where
 
 -- ---- reads change nothing
 
+-- nothing was written: the log, its floor and its generation are as they were, and each load gave the log's end
 pub record IsSoleRead (p q : Pass RevisionData) : Type 0 where
   pub same : known q ≡ known p
   pub loads : LoadsEnd p q
@@ -50,30 +51,30 @@ SoleTake p (Err memory) q = q.seen ≡ p.seen
 
 -- ---- writes are done exactly where nothing refuses them
 
--- after want of memory: nothing was done, or the write was
+-- the write was done although want of memory came before its answer: nothing refused it, and the log ends with it
 pub record IsDoneUnheard (base : List RowData) (mirror : Bool) (p : Pass RevisionData) (ask : WriteAsk) (q : Pass RevisionData) : Type 0 where
   pub unrefused : refusal_of mirror (log_of base p) ask ≡ None
   pub done : q.seen ≡ p.seen ++ write_of (log_of base p) ask ∷ []
 
--- a write
+-- what a write makes of the log, as it answers; after want of memory the log is as it was or with the write
 abbrev pub SoleWrite : List RowData → Bool → ℕ → Pass RevisionData → WriteAsk → Result Written WriteNo → Pass RevisionData → Type 0
 SoleWrite base mirror history p ask (Err write_no.Memory) q = (q.seen ≡ p.seen) ⊎ IsDoneUnheard base mirror p ask q
 SoleWrite base mirror history p ask answer q = IsWriteAnswer base mirror history ask (known p) (known q) answer × LoadsEnd p q
 
--- the log with a transaction's revision
+-- a transaction was done: nothing refused it, and the log ends with its revision, which has all its writes
 pub record IsTxDone (base : List RowData) (mirror : Bool) (history : ℕ) (p : Pass RevisionData) (asks : List WriteAsk) (w : Whole RevisionData) : Type 0 where
   pub revision : RevisionData
   pub unrefused : tx_refusal_of mirror (log_of base p) asks ≡ None
   pub revision_is : IsRevisionOf (log_of base p) asks revision
   pub done : w ≡ accepted history (known p) revision
 
--- after want of memory: the transaction was done
+-- the transaction was done although want of memory came before its answer
 pub record IsTxDoneUnheard (base : List RowData) (mirror : Bool) (history : ℕ) (p : Pass RevisionData) (asks : List WriteAsk) (q : Pass RevisionData) : Type 0 where
   pub after : Whole RevisionData
   pub is_done : IsTxDone base mirror history p asks after
   pub seen : q.seen ≡ after.log
 
--- a transaction
+-- what a transaction makes of the log, as it answers; after want of memory the log is as it was or with all of it
 abbrev pub SoleTransact : List RowData → Bool → ℕ → Pass RevisionData → List WriteAsk → Result (List Written) TxWriteNo → Pass RevisionData → Type 0
 SoleTransact base mirror history p asks (Ok answers) q =
     IsTxDone base mirror history p asks (known q) × AreWritten (log_of base p) asks answers × LoadsEnd p q
@@ -91,7 +92,7 @@ IsSoleOperation Cut w answer after = IsCutAnswer w after answer
 IsSoleOperation (Compact at) w answer after = IsCompactionAnswer at w after answer
 IsSoleOperation Restart w answer after = after ≡ w
 
--- an operation
+-- what an operation makes of the log, as it answers; after want of memory no more is said than that the log is the same
 abbrev pub SoleOperate : Pass RevisionData → Operate → Result ℕ OpNo → Pass RevisionData → Type 0
 SoleOperate p ask (Err op_no.Memory) q = q.seen ≡ p.seen
 SoleOperate p ask answer q = IsSoleOperation ask (known p) answer (known q) × LoadsEnd p q

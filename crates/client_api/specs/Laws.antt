@@ -70,19 +70,19 @@ ListsAgree =
 
 -- ---- watches
 
--- what is written of a turn
+-- the lines of a turn: its events; none where it is quiet; or the error of a loss
 abbrev pub turn_lines : Took → List Line
 turn_lines (Events from upto lines) = map Told lines.items
 turn_lines (Quiet upto reached) = []
 turn_lines (Lost at floor) = LostLine at floor ∷ []
 
--- the position after it
+-- the position of a watch after a turn: the revision up to which all is told
 abbrev pub position_after : Took → ℕ → ℕ
 position_after (Events from upto lines) position = upto
 position_after (Quiet upto reached) position = upto
 position_after (Lost at floor) position = position
 
--- the watch isn't lost by it
+-- the turn leaves the watch standing: it isn't lost
 abbrev pub IsLasting : Took → Type 0
 IsLasting (Events from upto lines) = Unit {0}
 IsLasting (Quiet upto reached) = Unit {0}

@@ -23,7 +23,7 @@ more_at ask rev left key = record {
   left = remaining_of ask.selection left;
 }
 
--- there is one exactly where, of the rows from where this page begins, some are left
+-- what is told of a next page: there is one exactly where some rows are left of those from where this page begins
 abbrev pub more_of : ListAsk → ℕ → List RowData → Option More
 more_of ask rev rows = option_map (more_at ask rev (left_of ask.limit rows)) (next_of ask.limit rows)
 

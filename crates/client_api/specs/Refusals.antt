@@ -15,7 +15,7 @@ revision_named Any = None
 revision_named (NotOlder asked) = Some asked
 revision_named (Exact asked) = Some asked
 
--- it is above what the log had reached as it was loaded in this call
+-- the revision that the meaning names is above what the log had reached as it was loaded in this call
 pub record IsTooLarge (p : Pass RevisionData) (meaning : Meaning) (asked current : ℕ) (q : Pass RevisionData) : Type 0 where
   pub named : revision_named meaning ≡ Some asked
   pub loaded : HasLoaded p q

@@ -33,12 +33,12 @@ pub record IsWatchStart (base : List RowData) (p : Pass RevisionData) (ask : Wat
   pub fresh : IfSome (meaning_of ask.start) (λ meaning. IsFresh p meaning begun.at q)
   pub opening : IsOpening (log_of base q) ask.selection ask.start begun.at begun.rows
 
--- it can't begin where it asks for a revision that isn't reached
+-- a watch can't begin with a state, or from one, that isn't older than a revision that isn't reached
 pub record StartsTooLarge (p : Pass RevisionData) (ask : WatchAsk) (asked current : ℕ) (q : Pass RevisionData) : Type 0 where
   pub asks : meaning_of ask.start ≡ Some (NotOlder asked)
   pub too_large : IsTooLarge p (NotOlder asked) asked current q
 
--- nor from a revision behind which the changes may not all be kept
+-- a watch can't begin from a revision behind which the changes may not all be kept
 pub record StartsLost (base : List RowData) (window : ℕ) (p : Pass RevisionData) (ask : WatchAsk) (asked floor : ℕ) (q : Pass RevisionData) : Type 0 where
   pub loaded : HasLoaded p q
   pub from : ask.start ≡ FromRevision asked

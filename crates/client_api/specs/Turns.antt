@@ -35,7 +35,7 @@ pub record IsLost (base : List RowData) (window : ℕ) (watched : Watched) (at f
   pub stood : at ≡ watched.position
   pub evicted : IsEvicted (log_of base q) q.floor window watched.selection.resource watched.position floor
 
--- what a turn gives
+-- what a turn of a watch gives: events, nothing new, or that the watch is lost
 abbrev pub IsTurn : List RowData → ℕ → Pass RevisionData → Watched → Took → Pass RevisionData → Type 0
 IsTurn base window p watched (Events from upto lines) q = GivesEvents base watched from upto lines.items q
 IsTurn base window p watched (Quiet upto reached) q = IsQuiet base p watched upto reached q

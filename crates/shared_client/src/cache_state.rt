@@ -19,6 +19,7 @@ ghost use Rattle.shared_client.specs.Watching.{IsLostAt, IsTold};
 
 use crate::reads::kept_at;
 use crate::resources::OfResource;
+use bells::Bell;
 use cache_answers::{both, revision_alone};
 use cache_core::AtNo;
 use cache_hub::{CatchNo, Caught, Hub};
@@ -29,7 +30,7 @@ use reflect_core::{Pumped, Reflector};
 use select_all::{Meaning, Selection};
 use std::alloc::Global;
 use std::marker::{Model, PhantomData};
-use std::sync::Wait;
+use std::sync::{Arc, Wait};
 use up_api::{Held, LogFacts, Pass, Settings, Upstream};
 use up_store::StoreDoor;
 use watch_lane::LaneOut;
@@ -69,7 +70,8 @@ impl<N: LogFacts, One: OfResource> Model for CacheState<N, One> {
 }
 
 impl<N: LogFacts, One: OfResource> CacheState<N, One> {
-    /// The cache that upstream's history of the resource makes, without lanes. `pass` is given to it.
+    /// The cache that upstream's history of the resource makes, without lanes. `pass` is given to it. It asks upstream
+    /// for as many changes at a time as the settings say.
     pub fn new<R: Wait + Copy>(
         alloc: Global,
         up: &mut StoreDoor<N, R>,
@@ -78,6 +80,7 @@ impl<N: LogFacts, One: OfResource> CacheState<N, One> {
     ) -> Result<CacheState<N, One>, Memory>
         requires settings { AreInRange settings.now }
         requires window { N.window ≡ settings.now.window }
+        ensures batch { IfOk result (λ cache. cache.reflector.batch ≡ settings.now.batch) }
     {
         let mut pass = pass;
         let hub = hub_of(alloc, up, &mut pass, One::resource(), settings);
@@ -227,12 +230,33 @@ impl<N: LogFacts, One: OfResource> CacheState<N, One> {
         self.hub.tick(ms);
     }
 
-    /// The objects at the cache's end, once it was brought to all that the caller was shown, and a lane there.
+    /// Brings the cache to a revision that the caller was shown, as far as there is memory, and gives the bells of the
+    /// lanes that were told, or fell behind, since this was last called.
+    pub(crate) fn feed<R: Wait + Copy>(
+        &mut self,
+        up: &mut StoreDoor<N, R>,
+        told: &mut Pass<N>,
+        until: u64,
+        calls: &mut Vec<Arc<Bell>>,
+    ) -> Result<(), Memory>
+        requires until { until ≤ told.old.shown }
+        ensures extends { Extends told.old told.new }
+        ensures reached { OnOk result (until ≤ self.new.hub.cache.end) }
+    {
+        let pumped = self.pump(up, told, until);
+        self.take_calls(calls);
+        pumped?;
+        Ok(())
+    }
+
+    /// The objects at the cache's end, once it was brought to all that the caller was shown, and a lane there, whose
+    /// watcher is rung by this bell.
     pub(crate) fn start_at_end<R: Wait + Copy>(
         &mut self,
         up: &mut StoreDoor<N, R>,
         told: &mut Pass<N>,
         selection: &Selection,
+        bell: Option<Arc<Bell>>,
     ) -> Result<(u64, Snapshot, (u64, LaneOut<N>)), ListNo>
         requires resource { selection.now.resource ≡ One.resource }
         ensures learns { Learns told.old told.new }
@@ -241,16 +265,19 @@ impl<N: LogFacts, One: OfResource> CacheState<N, One> {
     {
         let (at, state) = self.serve(up, told, Meaning::Any)?;
         let (state, lane) = both(Ok(state), self.lane(selection, at))?;
+        self.ring_by(lane.0, bell);
         Ok((at, state, lane))
     }
 
-    /// A lane at a position, once the cache was brought to all that the caller was shown.
+    /// A lane at a position, once the cache was brought to all that the caller was shown. Its watcher is rung by this
+    /// bell.
     pub(crate) fn start_from<R: Wait + Copy>(
         &mut self,
         up: &mut StoreDoor<N, R>,
         told: &mut Pass<N>,
         selection: &Selection,
         at: u64,
+        bell: Option<Arc<Bell>>,
     ) -> Result<(u64, LaneOut<N>), CatchNo>
         requires resource { selection.now.resource ≡ One.resource }
         ensures learns { Learns told.old told.new }
@@ -258,7 +285,9 @@ impl<N: LogFacts, One: OfResource> CacheState<N, One> {
     {
         let shown = told.shown();
         self.pump(up, told, shown)?;
-        self.open(told, selection, at)
+        let lane = self.open(told, selection, at)?;
+        self.ring_by(lane.0, bell);
+        Ok(lane)
     }
 
     /// What a watch at a position is told, once the cache was brought to all that the caller was shown.
@@ -369,6 +398,21 @@ impl<N: LogFacts, One: OfResource> CacheState<N, One> {
             Err(AtNo::Below { .. }) => kept_at(self.alloc, One::resource(), up, told, at),
             Err(AtNo::Memory) => Err(ListNo::Memory),
         }
+    }
+
+    // Rings the watcher of a lane that was just opened by this bell. Between the two the cache stays locked, so that
+    // nothing comes to the lane before it has its bell.
+    fn ring_by(&mut self, id: u64, bell: Option<Arc<Bell>>)
+        ensures { self.new ≡ self.old }
+    {
+        self.hub.ring_by(id, bell);
+    }
+
+    // Puts the bells of the lanes that have to be rung behind those in `calls`.
+    fn take_calls(&mut self, calls: &mut Vec<Arc<Bell>>)
+        ensures { self.new ≡ self.old }
+    {
+        self.hub.take_calls(calls);
     }
 
     // A lane at a position.

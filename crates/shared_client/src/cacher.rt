@@ -1,18 +1,20 @@
 //! The caches of a log, for many threads.
 
 ghost use Rattle.std.specs.Prelude.{◌≡◌, ◌≤◌, None, IfOk};
-ghost use Rattle.rev_front.specs.Passes.{Extends, Whole, pass_from};
+ghost use Rattle.rev_front.specs.Passes.{Extends, IsPass, Whole, pass_from};
 ghost use Rattle.rev_log.specs.Changes.{RevisionData};
+ghost use Rattle.rev_log.specs.Logs.{Fits};
 ghost use Rattle.up_api.specs.Sections.{Learns};
 ghost use Rattle.up_api.specs.Settings.{AreInRange};
 
 use crate::cache_state::CacheState;
 use crate::client::SharedClient;
 use crate::resources::{OfConfigMaps, OfDeployments, OfPods, OfResource};
+use bells::Bell;
 use cache_answers::both;
 use kube_meta::Memory;
 use std::alloc::Global;
-use std::sync::{Mutex, Wait};
+use std::sync::{Arc, Mutex, Wait};
 use up_api::{LogFacts, Pass, Settings};
 use up_store::StoreDoor;
 
@@ -66,6 +68,7 @@ impl<N: LogFacts, R: Wait + Copy> Cacher<N, R> {
     pub fn client(&self) -> Result<SharedClient<'_, N, R>, Memory>
         ensures idle { IfOk result (λ client. (client.watch ≡ None) × (client.heard ≡ 0)) }
         ensures pass { IfOk result (λ client. (whole : Whole RevisionData) × (client.told ≡ pass_from whole client.told.seat)) }
+        ensures lawful { IfOk result (λ client. IsPass Fits client.told) }
     {
         SharedClient::new(self)
     }
@@ -77,29 +80,45 @@ impl<N: LogFacts, R: Wait + Copy> Cacher<N, R> {
         self.door.pass()
     }
 
-    /// Loads the revision that the log has reached, and brings each cache there.
-    pub fn pump_all(&self, told: &mut Pass<N>) -> Result<(), Memory>
+    /// Loads the revision that the log has reached, brings each cache there, and gives the bells of the lanes that
+    /// were told, or fell behind, since this was last called, for the caller to ring: no lock is held then. Want of
+    /// memory of one cache is answered once the others were brought there.
+    pub fn feed(&self, told: &mut Pass<N>, calls: &mut Vec<Arc<Bell>>) -> Result<(), Memory>
         ensures extends { Extends told.old told.new }
     {
         let until = told.look();
         let mut door = self.door.again()?;
-        self.pump_each(&mut door, told, until)
+        self.feed_each(&mut door, told, until, calls)
     }
 
-    // Brings each cache to a revision that was shown.
-    fn pump_each(
+    // The same for a revision that was shown.
+    fn feed_each(
         &self,
         door: &mut StoreDoor<N, R>,
         told: &mut Pass<N>,
         until: u64,
+        calls: &mut Vec<Arc<Bell>>,
     ) -> Result<(), Memory>
         requires until { until ≤ told.old.shown }
         ensures extends { Extends told.old told.new }
     {
-        self.pods.lock(&self.rt).pump(door, told, until)?;
-        self.config_maps.lock(&self.rt).pump(door, told, until)?;
-        self.deployments.lock(&self.rt).pump(door, told, until)?;
-        Ok(())
+        let pods = self.pods.lock(&self.rt).feed(door, told, until, calls);
+        let config_maps = self
+            .config_maps
+            .lock(&self.rt)
+            .feed(door, told, until, calls);
+        let deployments = self
+            .deployments
+            .lock(&self.rt)
+            .feed(door, told, until, calls);
+        pods.and(config_maps).and(deployments)
+    }
+
+    /// Tells each cache the time, in milliseconds, by which the age of its events is judged. It never goes back.
+    pub fn tick(&self, ms: u64) {
+        self.pods.lock(&self.rt).tick(ms);
+        self.config_maps.lock(&self.rt).tick(ms);
+        self.deployments.lock(&self.rt).tick(ms);
     }
 
     /// Builds each cache anew, and answers the compaction floor from which the last one was built. After want of memory

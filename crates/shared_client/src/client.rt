@@ -1,8 +1,9 @@
 //! The shared client.
 
 ghost use Rattle.std.specs.Prelude.{◌≡◌, ◌≤◌, None, IfOk, IfErr};
-ghost use Rattle.rev_front.specs.Passes.{Whole, pass_from};
+ghost use Rattle.rev_front.specs.Passes.{IsPass, Whole, pass_from};
 ghost use Rattle.rev_log.specs.Changes.{RevisionData};
+ghost use Rattle.rev_log.specs.Logs.{Fits};
 ghost use Rattle.rev_log.specs.States.{IsStateAt};
 ghost use Rattle.up_api.specs.Sections.{log_of};
 ghost use Rattle.up_store.specs.Replies.{IsOperationReply};
@@ -14,25 +15,27 @@ ghost use Rattle.shared_client.specs.Serving.{IsRefused};
 use crate::cacher::Cacher;
 use crate::reads::reach;
 use crate::watching::{Watch, begin, stand, turn};
+use bells::Bell;
 use cache_answers::{both, found, listed};
 use client_api::{Begun, Client, Got, ListNo, Listed, Took};
 use kube_meta::{Memory, Resource};
 use list_rules::{GetAsk, ListAsk};
 use obj_tree::Snapshot;
 use select_all::Meaning;
-use std::sync::Wait;
+use std::sync::{Arc, Wait};
 use up_api::{LogFacts, Pass};
 use up_store::{OpNo, Operate, StoreDoor, Transaction, TxWriteNo, WriteAsk, WriteNo, Written};
 use watch_rules::WatchAsk;
 
 /// One of many clients of a log. It answers from the caches of its `Cacher`, which it shares with the others, and has a
-/// pass and a door to the store of its own.
+/// pass and a door to the store of its own, and the bell that ends the rests of its watches, if there is one.
 ///
 /// Its lane is closed when its watch ends, and when it is let go.
 #[derive(Drop)]
 pub struct SharedClient<'a, N: LogFacts, R: Wait + Copy> {
     cacher: &'a Cacher<N, R>,
     door: StoreDoor<N, R>,
+    bell: Option<Arc<Bell>>,
     pub(crate) told: Pass<N>,
     pub(crate) watch: Option<Watch<'a, N, R>>,
     pub(crate) heard: u64,
@@ -43,15 +46,51 @@ impl<'a, N: LogFacts, R: Wait + Copy> SharedClient<'a, N, R> {
     pub(crate) fn new(cacher: &'a Cacher<N, R>) -> Result<SharedClient<'a, N, R>, Memory>
         ensures idle { IfOk result (λ client. (client.watch ≡ None) × (client.heard ≡ 0)) }
         ensures pass { IfOk result (λ client. (whole : Whole RevisionData) × (client.told ≡ pass_from whole client.told.seat)) }
+        ensures lawful { IfOk result (λ client. IsPass Fits client.told) }
     {
         let (door, told) = both(cacher.door.again(), cacher.door.pass())?;
+        let _known = told.shown();
         Ok(SharedClient {
             cacher,
             door,
+            bell: None,
             told,
             watch: None,
             heard: 0,
         })
+    }
+
+    /// The client, whose watches are rung by this bell once they have something to tell. It is the bell of the lanes
+    /// that it opens from now on.
+    pub fn heard_by(self, bell: Option<Arc<Bell>>) -> SharedClient<'a, N, R>
+        ensures watch { result.watch ≡ self.entry.watch }
+        ensures heard { result.heard ≡ self.entry.heard }
+        ensures told { result.told ≡ self.entry.told }
+    {
+        let SharedClient {
+            cacher,
+            door,
+            bell: _,
+            told,
+            watch,
+            heard,
+        } = self;
+        SharedClient {
+            cacher,
+            door,
+            bell,
+            told,
+            watch,
+            heard,
+        }
+    }
+}
+
+// The same bell once more.
+fn shared(bell: &Option<Arc<Bell>>) -> Result<Option<Arc<Bell>>, Memory> {
+    match bell {
+        Some(bell) => Ok(Some(Arc::try_clone(bell)?)),
+        None => Ok(None),
     }
 }
 
@@ -106,7 +145,8 @@ impl<N: LogFacts, R: Wait + Copy> Client for SharedClient<'_, N, R> {
     }
 
     fn watch(&mut self, ask: &WatchAsk) -> Result<Begun, ListNo> {
-        let (begun, watch) = begin(self.cacher, &mut self.door, &mut self.told, ask)?;
+        let bell = shared(&self.bell)?;
+        let (begun, watch) = begin(self.cacher, &mut self.door, &mut self.told, ask, bell)?;
         self.watch = Some(watch);
         Ok(begun)
     }

@@ -2,8 +2,11 @@
 //!
 //! A [`Cacher`] has the caches, and gives out clients. Under a cache's lock a client only brings the cache up to date
 //! and takes a snapshot, or catches up; it selects, pages and writes outside of it. A turn of a watch asks its lane
-//! first, which takes no lock. A thread locks a cache and, inside, the store; never the other way round, and never two
-//! caches.
+//! first, and takes no lock where that gives something, or where the log stands at the watch's position. A thread
+//! locks a cache and, inside, the store; never the other way round, and never two caches.
+//!
+//! A watcher that rests is rung by the bell of its client. Whoever feeds the caches ([`Cacher::feed`]) gets the bells
+//! of the lanes that were told or fell behind, whichever thread did that, and rings them once it holds no lock.
 #![tactic(auto)]
 
 mod cache_state;

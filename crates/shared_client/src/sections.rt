@@ -8,12 +8,13 @@ ghost use Rattle.shared_client.specs.Watching.{IsLostAt, IsTold};
 
 use crate::cache_state::Turn;
 use crate::cacher::Cacher;
+use bells::Bell;
 use cache_hub::{CatchNo, Caught};
 use client_api::ListNo;
 use kube_meta::Resource;
 use obj_tree::Snapshot;
 use select_all::{Meaning, Selection};
-use std::sync::Wait;
+use std::sync::{Arc, Wait};
 use up_api::{LogFacts, Pass};
 use up_store::StoreDoor;
 use watch_lane::LaneOut;
@@ -39,37 +40,43 @@ impl<N: LogFacts, R: Wait + Copy> Cacher<N, R> {
         }
     }
 
-    /// The objects of the selection's resource at the end of its cache, and a lane there.
+    /// The objects of the selection's resource at the end of its cache, and a lane there, whose watcher is rung by this
+    /// bell.
     pub(crate) fn start_at_end(
         &self,
         door: &mut StoreDoor<N, R>,
         told: &mut Pass<N>,
         selection: &Selection,
+        bell: Option<Arc<Bell>>,
     ) -> Result<(u64, Snapshot, (u64, LaneOut<N>)), ListNo>
         ensures learns { Learns told.old told.new }
         ensures served { IfOk result (λ r. IsServed N.base selection.now.resource Any told.old.shown told.new r.0 r.1) }
         ensures refused { IfErr result (λ no. no ≡ ListNo.Memory) }
     {
         match selection.resource {
-            Resource::Pods => self.pods.lock(&self.rt).start_at_end(door, told, selection),
+            Resource::Pods => self
+                .pods
+                .lock(&self.rt)
+                .start_at_end(door, told, selection, bell),
             Resource::ConfigMaps => self
                 .config_maps
                 .lock(&self.rt)
-                .start_at_end(door, told, selection),
+                .start_at_end(door, told, selection, bell),
             Resource::Deployments => self
                 .deployments
                 .lock(&self.rt)
-                .start_at_end(door, told, selection),
+                .start_at_end(door, told, selection, bell),
         }
     }
 
-    /// A lane for a watch that stands at a position.
+    /// A lane for a watch that stands at a position, whose watcher is rung by this bell.
     pub(crate) fn start_from(
         &self,
         door: &mut StoreDoor<N, R>,
         told: &mut Pass<N>,
         selection: &Selection,
         at: u64,
+        bell: Option<Arc<Bell>>,
     ) -> Result<(u64, LaneOut<N>), CatchNo>
         ensures learns { Learns told.old told.new }
         ensures lost { IfErr result (IsLostAt N.base N.window selection.now at told.new) }
@@ -78,15 +85,15 @@ impl<N: LogFacts, R: Wait + Copy> Cacher<N, R> {
             Resource::Pods => self
                 .pods
                 .lock(&self.rt)
-                .start_from(door, told, selection, at),
+                .start_from(door, told, selection, at, bell),
             Resource::ConfigMaps => self
                 .config_maps
                 .lock(&self.rt)
-                .start_from(door, told, selection, at),
+                .start_from(door, told, selection, at, bell),
             Resource::Deployments => self
                 .deployments
                 .lock(&self.rt)
-                .start_from(door, told, selection, at),
+                .start_from(door, told, selection, at, bell),
         }
     }
 

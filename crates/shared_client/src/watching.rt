@@ -1,11 +1,12 @@
 //! Watches: where they begin, their lanes, and what their turns give.
 
-ghost use Rattle.std.specs.Prelude.{◌≡◌, ◌≤◌, ℕ, [], IfOk, IfErr, IfSome, Err, option_and_then};
-ghost use Rattle.rev_front.specs.Passes.{IsPass, Pass as PassData};
+ghost use Rattle.std.specs.Prelude.{◌≡◌, ◌≤◌, ℕ, [], IfOk, IfErr, IfSome, Err, nat_le, option_and_then};
+ghost use Rattle.rev_front.specs.Passes.{IsPass, Pass as PassData, end_from};
 ghost use Rattle.rev_log.specs.Changes.{RevisionData};
 ghost use Rattle.rev_log.specs.Logs.{Fits};
 ghost use Rattle.up_api.specs.Sections.{Learns};
 ghost use Rattle.watch_lane.specs.Batches.{IsBatch};
+ghost use Rattle.client_api.specs.declared.answers.Took.TheVariants.{Quiet};
 ghost use Rattle.client_api.specs.Facts.{IsOnward};
 ghost use Rattle.client_api.specs.Starts.{IsWatchAnswer, IsWatchStart};
 ghost use Rattle.client_api.specs.Turns.{IsTurn, watch_after};
@@ -15,13 +16,14 @@ ghost use Rattle.shared_client.specs.Watching.{BeginsAtEnd, IsStartLost, none_of
 
 use crate::cache_state::Turn;
 use crate::cacher::Cacher;
+use bells::Bell;
 use cache_answers::{bare, both, opened, took, unreached};
 use cache_hub::{CatchNo, Caught};
 use client_api::{Begun, ListNo, Took};
 use kube_meta::{Memory, Resource};
 use select_all::Selection;
 use std::marker::Model;
-use std::sync::Wait;
+use std::sync::{Arc, Wait};
 use up_api::{LogFacts, Pass};
 use up_store::StoreDoor;
 use watch_lane::{Batch, LaneOut};
@@ -66,12 +68,14 @@ impl<'a, N: LogFacts, R: Wait + Copy> Model for Watch<'a, N, R> {
     ghost view = { λ w. record { selection = w.selection; position = w.position } };
 }
 
-/// Where a watch begins, and the watch. Its lane is opened in the same section that gives its start.
+/// Where a watch begins, and the watch. Its lane is opened in the same section that gives its start, and is rung by
+/// this bell.
 pub fn begin<'a, N: LogFacts, R: Wait + Copy>(
     cacher: &'a Cacher<N, R>,
     door: &mut StoreDoor<N, R>,
     told: &mut Pass<N>,
     ask: &WatchAsk,
+    bell: Option<Arc<Bell>>,
 ) -> Result<(Begun, Watch<'a, N, R>), ListNo>
     ensures onward { IsOnward told.old told.new }
     ensures started { IfOk result (λ r. IsWatchStart N.base told.old ask.now r.0 told.new) }
@@ -84,9 +88,9 @@ pub fn begin<'a, N: LogFacts, R: Wait + Copy>(
         return Err(no);
     }
     match ask.start {
-        Start::FromState(_) => begin_from_state(cacher, door, told, &ask.selection),
-        Start::FromHere(_) => begin_from_here(cacher, door, told, &ask.selection),
-        Start::FromRevision(asked) => begin_from(cacher, door, told, &ask.selection, asked),
+        Start::FromState(_) => begin_from_state(cacher, door, told, &ask.selection, bell),
+        Start::FromHere(_) => begin_from_here(cacher, door, told, &ask.selection, bell),
+        Start::FromRevision(asked) => begin_from(cacher, door, told, &ask.selection, asked, bell),
     }
 }
 
@@ -96,6 +100,7 @@ fn begin_from_state<'a, N: LogFacts, R: Wait + Copy>(
     door: &mut StoreDoor<N, R>,
     told: &mut Pass<N>,
     wanted: &Selection,
+    bell: Option<Arc<Bell>>,
 ) -> Result<(Begun, Watch<'a, N, R>), ListNo>
     ensures learns { Learns told.old told.new }
     ensures lawful { IsPass Fits told.new }
@@ -103,7 +108,7 @@ fn begin_from_state<'a, N: LogFacts, R: Wait + Copy>(
     ensures watch { IfOk result (λ r. r.1 ≡ record { selection = wanted.now; position = r.0.at }) }
     ensures refused { IfErr result (λ no. no ≡ ListNo.Memory) }
 {
-    let started = cacher.start_at_end(door, told, wanted);
+    let started = cacher.start_at_end(door, told, wanted, bell);
     let _known = told.shown();
     let (position, state, lane) = started?;
     let begun = opened(cacher.alloc, wanted, position, &state);
@@ -116,6 +121,7 @@ fn begin_from_here<'a, N: LogFacts, R: Wait + Copy>(
     door: &mut StoreDoor<N, R>,
     told: &mut Pass<N>,
     wanted: &Selection,
+    bell: Option<Arc<Bell>>,
 ) -> Result<(Begun, Watch<'a, N, R>), ListNo>
     ensures learns { Learns told.old told.new }
     ensures lawful { IsPass Fits told.new }
@@ -123,7 +129,7 @@ fn begin_from_here<'a, N: LogFacts, R: Wait + Copy>(
     ensures watch { IfOk result (λ r. r.1 ≡ record { selection = wanted.now; position = r.0.at }) }
     ensures refused { IfErr result (λ no. no ≡ ListNo.Memory) }
 {
-    let started = cacher.start_at_end(door, told, wanted);
+    let started = cacher.start_at_end(door, told, wanted, bell);
     let _known = told.shown();
     let (position, _, lane) = started?;
     let watch = watch_at(cacher, wanted, position, lane)?;
@@ -137,6 +143,7 @@ fn begin_from<'a, N: LogFacts, R: Wait + Copy>(
     told: &mut Pass<N>,
     wanted: &Selection,
     position: u64,
+    bell: Option<Arc<Bell>>,
 ) -> Result<(Begun, Watch<'a, N, R>), ListNo>
     ensures learns { Learns told.old told.new }
     ensures lawful { IsPass Fits told.new }
@@ -144,7 +151,7 @@ fn begin_from<'a, N: LogFacts, R: Wait + Copy>(
     ensures watch { IfOk result (λ r. r.1 ≡ record { selection = wanted.now; position = position }) }
     ensures refused { IfErr result (IsStartLost N.base N.window wanted.now position told.new) }
 {
-    let started = cacher.start_from(door, told, wanted, position);
+    let started = cacher.start_from(door, told, wanted, position, bell);
     let _known = told.shown();
     match started {
         Ok(lane) => {
@@ -180,8 +187,9 @@ fn watch_at<'a, N: LogFacts, R: Wait + Copy>(
     })
 }
 
-/// A turn of a watch. Its lane is asked first, which takes no lock; where that gives nothing, the revision that the log
-/// has reached is loaded, and the cache is asked.
+/// A turn of a watch. Its lane is asked first, which takes no lock; where that gives nothing, the revision that the
+/// log has reached is loaded. Where it is at the watch's position the turn is quiet, and takes no lock either; else
+/// the cache is asked.
 pub fn turn<N: LogFacts, R: Wait + Copy>(
     door: &mut StoreDoor<N, R>,
     told: &mut Pass<N>,
@@ -247,7 +255,7 @@ fn received<N: LogFacts>(told: &mut Pass<N>, batch: Batch<N>) -> Took
     }
 }
 
-// A turn that the cache answers.
+// A turn at which the lane gave nothing.
 fn caught_up<N: LogFacts, R: Wait + Copy>(
     door: &mut StoreDoor<N, R>,
     told: &mut Pass<N>,
@@ -259,7 +267,13 @@ fn caught_up<N: LogFacts, R: Wait + Copy>(
     ensures onward { IsOnward told.old told.new }
     ensures turn { IfOk result (λ took. IsTurn N.base N.window told.old watch.now took told.new) }
 {
-    let _loaded = told.look();
+    let loaded = told.look();
+    // The sign is read behind the count of rings on which the watcher rests then. So whatever leaves the lane behind
+    // later than this calls the watcher behind that count, and ends its rest. A lane that is behind already calls
+    // nobody any more: its watcher has to catch up under the lock, also where there is nothing to tell.
+    if !watch.lane.out.is_behind() && loaded <= watch.position && loaded <= told.end() {
+        return Ok(quiet(told, watch.position));
+    }
     let turn = Turn {
         lane: watch.lane.id,
         at: watch.position,
@@ -276,6 +290,18 @@ fn caught_up<N: LogFacts, R: Wait + Copy>(
         }
         Err(CatchNo::Lost { at, floor }) => Ok(Took::Lost { at, floor }),
         Err(CatchNo::Memory) => Err(Memory),
+    }
+}
+
+// A turn at which the watch stays where it is.
+fn quiet<N: LogFacts>(told: &Pass<N>, position: u64) -> Took
+    ensures stays { result ≡ Quiet position (nat_le position (end_from told.now.first told.now.seen)) }
+    ensures lawful { IsPass Fits told.now }
+{
+    let _known = told.shown();
+    Took::Quiet {
+        upto: position,
+        reached: position <= told.end(),
     }
 }
 

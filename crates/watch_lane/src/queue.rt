@@ -8,13 +8,16 @@ use kube_meta::Memory;
 use rtrb::{Consumer, Producer, PushError, RingBuffer};
 use std::alloc::Global;
 use std::marker::Model;
+use std::sync::Arc;
+use std::sync::atomic::{AtomicBool, Ordering};
 use up_api::LogFacts;
 
 /// The end of a lane at which the cache pushes. Contracts see its capacity and the batches that it
-/// has taken since the lane was made.
+/// has taken since the lane was made, and nothing of the sign that it shares with the other end.
 #[derive(Drop)]
 pub struct LaneIn<N: LogFacts> {
     ring: Producer<Batch<N>>,
+    behind: Arc<AtomicBool>,
 }
 
 impl<N: LogFacts> Model for LaneIn<N> {
@@ -34,16 +37,28 @@ impl<N: LogFacts> Model for LaneIn<N> {
 #[derive(Drop)]
 pub struct LaneOut<N: LogFacts> {
     ring: Consumer<Batch<N>>,
+    behind: Arc<AtomicBool>,
 }
 
-/// A lane with room for so many batches, and its two ends.
+/// A lane with room for so many batches, and its two ends, with no sign that it is behind.
 pub fn lane<N: LogFacts>(alloc: Global, capacity: usize) -> Result<(LaneIn<N>, LaneOut<N>), Memory>
     requires some { 1 ≤ capacity }
     requires bounded { capacity ≤ 1024 }
     ensures { IfOk result (λ ends. ends.0 ≡ record { capacity = capacity; sent = [] }) }
 {
+    let sign = Arc::new(alloc, AtomicBool::new(false))?;
+    let behind = Arc::try_clone(&sign)?;
     let (producer, consumer) = RingBuffer::new(alloc, capacity)?;
-    Ok((LaneIn { ring: producer }, LaneOut { ring: consumer }))
+    Ok((
+        LaneIn {
+            ring: producer,
+            behind: sign,
+        },
+        LaneOut {
+            ring: consumer,
+            behind,
+        },
+    ))
 }
 
 impl<N: LogFacts> LaneIn<N> {
@@ -60,6 +75,11 @@ impl<N: LogFacts> LaneIn<N> {
             Err(PushError::Full(batch)) => Err(batch),
         }
     }
+
+    /// Shows at the other end whether the lane is behind. No contract speaks of this sign.
+    pub fn set_behind(&self, behind: bool) {
+        self.behind.store(behind, Ordering::SeqCst);
+    }
 }
 
 impl<N: LogFacts> LaneOut<N> {
@@ -72,5 +92,11 @@ impl<N: LogFacts> LaneOut<N> {
             Ok(batch) => Some(batch),
             Err(_) => None,
         }
+    }
+
+    /// Whether the cache shows that the lane is behind: it gets no batches then until its watcher has
+    /// caught up. It takes no lock.
+    pub fn is_behind(&self) -> bool {
+        self.behind.load(Ordering::SeqCst)
     }
 }
