@@ -9,11 +9,13 @@ use Rattle.watch_rules.specs.declared.refusal.WatchNo.TheVariants as watch
 use Rattle.api_errors.specs.Failures.{bad, invalid}
 use Rattle.api_errors.specs.declared.failures.Failure.{Failure}
 
+-- why a `continue` text is refused: it is no token, or that of another list
 abbrev pub token_told : TokenNo → Option Failure
 token_told token.NotToken = bad (codes "continue: NotToken")
 token_told token.OtherList = bad (codes "continue: OtherList")
 token_told token.Memory = None
 
+-- why the options of a list or a get are refused, or the list's token, which is an option as well
 abbrev pub list_told : AskNo → Option Failure
 list_told ask.BadRevision = bad (codes "list option: BadRevision")
 list_told ask.BadMatch = invalid (codes "list option: BadMatch")
@@ -26,6 +28,7 @@ list_told ask.BadLimit = bad (codes "list option: BadLimit")
 list_told (ask.BadContinue fault) = token_told fault
 list_told ask.Memory = None
 
+-- why the options of a watch are refused
 abbrev pub watch_told : WatchNo → Option Failure
 watch_told watch.BadRevision = bad (codes "watch option: BadRevision")
 watch_told watch.MatchWithoutInitial = invalid (codes "watch option: MatchWithoutInitial")

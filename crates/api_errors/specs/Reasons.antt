@@ -1,10 +1,12 @@
 -- The reasons of failures, with the HTTP status of each (Kubernetes API reference, `Status`; RFC 9110, section 15).
 use Rattle.std.specs.Prelude.{ℕ, List, Bool, true, false, codes}
 use Rattle.api_errors.specs.declared.reasons.Reason.{Reason}
-use Rattle.api_errors.specs.declared.reasons.Reason.TheVariants.{BadRequest, NotFound, MethodNotAllowed, AlreadyExists, Conflict, Expired, LengthRequired, RequestEntityTooLarge, Invalid, InternalError, Timeout}
+use Rattle.api_errors.specs.declared.reasons.Reason.TheVariants.{BadRequest, Forbidden, NotFound, MethodNotAllowed, AlreadyExists, Conflict, Expired, LengthRequired, RequestEntityTooLarge, Invalid, InternalError, Timeout}
 
+-- the HTTP status code of a failure with this reason
 abbrev pub code_of : Reason → ℕ
 code_of BadRequest = 400
+code_of Forbidden = 403
 code_of NotFound = 404
 code_of MethodNotAllowed = 405
 code_of AlreadyExists = 409
@@ -16,8 +18,10 @@ code_of Invalid = 422
 code_of InternalError = 500
 code_of Timeout = 504
 
+-- the word that a Status has as its `reason`, by which clients tell failures apart
 abbrev pub text_of : Reason → List ℕ
 text_of BadRequest = codes "BadRequest"
+text_of Forbidden = codes "Forbidden"
 text_of NotFound = codes "NotFound"
 text_of MethodNotAllowed = codes "MethodNotAllowed"
 text_of AlreadyExists = codes "AlreadyExists"
@@ -32,6 +36,7 @@ text_of Timeout = codes "Timeout"
 -- to be asked again in a second: a resource version that isn't reached yet
 abbrev pub is_too_large : Reason → Bool
 is_too_large BadRequest = false
+is_too_large Forbidden = false
 is_too_large NotFound = false
 is_too_large MethodNotAllowed = false
 is_too_large AlreadyExists = false

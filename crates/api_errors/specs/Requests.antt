@@ -6,6 +6,7 @@ use Rattle.api_errors.specs.Failures.{say}
 use Rattle.api_errors.specs.declared.reasons.Reason.TheVariants.{BadRequest, LengthRequired, RequestEntityTooLarge}
 use Rattle.api_errors.specs.declared.failures.Failure.{Failure}
 
+-- why bytes are no request: 400, 411 where a length is missing, or 413 where something exceeds its limit
 abbrev pub request_told : ReqNo → Option Failure
 request_told Malformed = say BadRequest (codes "request: Malformed")
 request_told HeadTooLong = say RequestEntityTooLarge (codes "request: HeadTooLong")

@@ -9,9 +9,10 @@ use Rattle.route_req.specs.declared.transactions.TxTextNo.TheVariants as transac
 use Rattle.api_errors.specs.Options.{list_told, watch_told}
 use Rattle.api_errors.specs.Selectors.{selector_told}
 use Rattle.api_errors.specs.Failures.{say, bad, bad_at}
-use Rattle.api_errors.specs.declared.reasons.Reason.TheVariants.{NotFound, MethodNotAllowed}
+use Rattle.api_errors.specs.declared.reasons.Reason.TheVariants.{Forbidden, NotFound, MethodNotAllowed}
 use Rattle.api_errors.specs.declared.failures.Failure.{Failure}
 
+-- why a body holds no object that can be stored; what it was to be stored for isn't told
 abbrev pub object_told : ObjNo → Option Failure
 object_told object.NotJson = bad (codes "object: NotJson")
 object_told object.Float = bad (codes "object: Float")
@@ -20,6 +21,7 @@ object_told object.WrongKind = bad (codes "object: WrongKind")
 object_told object.BadMeta = bad (codes "object: BadMeta")
 object_told object.Memory = None
 
+-- why a body is no transaction, and in which of its items, counted from 0, where the fault is in one
 abbrev pub transaction_told : TxTextNo → Option Failure
 transaction_told transaction.NotJson = bad (codes "transaction: NotJson")
 transaction_told transaction.Float = bad (codes "transaction: Float")
@@ -32,7 +34,9 @@ transaction_told (transaction.BadObject index fault) = bad_at (codes "transactio
 transaction_told (transaction.Repeated index) = bad_at (codes "transaction: Repeated in item ") index
 transaction_told transaction.Memory = None
 
+-- why a request isn't tried: no such path, no such method there, or what is wrong with its options or its body
 abbrev pub route_told : RouteNo → Option Failure
+route_told route.ForeignSite = say Forbidden (codes "the server does not allow requests that a browser makes for another site")
 route_told route.NoPath = say NotFound (codes "the server could not find the requested resource")
 route_told route.NoMethod = say MethodNotAllowed (codes "the server does not allow this method on the requested resource")
 route_told (route.Selector fault) = selector_told fault

@@ -9,6 +9,7 @@ use Rattle.select_all.specs.declared.selection.SelNo.TheVariants as selection
 use Rattle.api_errors.specs.Failures.{bad, bad_at}
 use Rattle.api_errors.specs.declared.failures.Failure.{Failure}
 
+-- why the text of a label selector isn't one, and at which byte, counted from 0, unless it is too long
 abbrev pub label_told : LabelNo → Option Failure
 label_told (label.Syntax at) = bad_at (codes "labelSelector: Syntax at ") at
 label_told (label.BadKey at) = bad_at (codes "labelSelector: BadKey at ") at
@@ -17,12 +18,14 @@ label_told (label.EmptySet at) = bad_at (codes "labelSelector: EmptySet at ") at
 label_told label.TooLong = bad (codes "labelSelector: TooLong")
 label_told label.Memory = None
 
+-- why the text of a field selector isn't one of the resource, and at which byte, counted from 0, unless it is too long
 abbrev pub field_told : FieldNo → Option Failure
 field_told (field.Syntax at) = bad_at (codes "fieldSelector: Syntax at ") at
 field_told field.TooLong = bad (codes "fieldSelector: TooLong")
 field_told (field.UnknownField at) = bad_at (codes "fieldSelector: UnknownField at ") at
 field_told field.Memory = None
 
+-- why the selectors of a list or a watch are refused, by the one that is at fault
 abbrev pub selector_told : SelNo → Option Failure
 selector_told (selection.Label fault) = label_told fault
 selector_told (selection.Field fault) = field_told fault

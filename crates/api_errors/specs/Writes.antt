@@ -10,7 +10,7 @@ use Rattle.up_store.specs.declared.operations.OpNo.TheVariants as operation
 use Rattle.api_errors.specs.Failures.{already_exists, not_found, conflict, used_up, read_only, expired, too_large}
 use Rattle.api_errors.specs.declared.failures.Failure.{Failure}
 
--- of a write to the object of this name
+-- why the log refuses a write to the object of this name
 abbrev pub write_told : Resource → List ℕ → WriteNo → Option Failure
 write_told resource name (write.Exists at present) = Some (already_exists resource name)
 write_told resource name (write.Absent at) = Some (not_found resource name)
@@ -26,6 +26,7 @@ write_of (transaction.UsedUp at) = write.UsedUp at
 write_of (transaction.ReadOnly at) = write.ReadOnly at
 write_of transaction.Memory = write.Memory
 
+-- why an operation is refused: for its revision, or as the feeds can't be cut again
 abbrev pub operation_told : OpNo → Option Failure
 operation_told (operation.Compacted asked floor) = Some (expired asked floor)
 operation_told (operation.Future asked current) = Some (too_large asked current)

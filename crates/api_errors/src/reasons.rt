@@ -6,6 +6,7 @@ ghost use Rattle.std.specs.Prelude.{◌≡◌};
 #[derive(Clone, Copy, Debug, PartialEq, Eq)]
 pub enum Reason {
     BadRequest,
+    Forbidden,
     NotFound,
     MethodNotAllowed,
     AlreadyExists,
@@ -27,6 +28,7 @@ impl Reason {
     {
         match self {
             Reason::BadRequest => 400,
+            Reason::Forbidden => 403,
             Reason::NotFound => 404,
             Reason::MethodNotAllowed => 405,
             Reason::AlreadyExists | Reason::Conflict => 409,
@@ -45,6 +47,7 @@ impl Reason {
     {
         match self {
             Reason::BadRequest => "BadRequest",
+            Reason::Forbidden => "Forbidden",
             Reason::NotFound => "NotFound",
             Reason::MethodNotAllowed => "MethodNotAllowed",
             Reason::AlreadyExists => "AlreadyExists",

@@ -17,6 +17,11 @@ pub fn route_told(alloc: Global, fault: RouteNo) -> Result<Option<Failure>, Memo
     ensures { IfOk result (λ told. told ≡ spec.route_told fault) }
 {
     match fault {
+        RouteNo::ForeignSite => say(
+            alloc,
+            Reason::Forbidden,
+            "the server does not allow requests that a browser makes for another site",
+        ),
         RouteNo::NoPath => say(
             alloc,
             Reason::NotFound,

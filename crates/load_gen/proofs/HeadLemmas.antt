@@ -8,8 +8,10 @@ use Rattle.std.proofs.lemmas.List.Elements.{All-nil, All-cons, All-push, All-hea
 use Rattle.std.proofs.lemmas.List.Sums.{AllPass-from_list_all}
 use Rattle.httparse.specs.Grammar.{AllPass, is_token_byte, is_value_byte, is_ows, skip_ows, trim_ows, Field, IsField, IsResponseHead, print_field, print_response}
 use Rattle.httparse.proofs.TrimLemmas.{skip_ows_no, AllPass-reverse, trim_ows_space}
-use Rattle.http_send.specs.Replies.{text_where}
-use Rattle.load_gen.specs.Heads.{field, further, head_with}
+use Rattle.http_send.specs.Replies.{text_where, content_type_line}
+use Rattle.http_send.specs.declared.replies.ContentType.{ContentType}
+use Rattle.http_send.specs.declared.replies.ContentType.TheVariants.{Json, PlainText}
+use Rattle.load_gen.specs.Heads.{field, further, type_of, head_with}
 
 -- ---- digits
 
@@ -46,11 +48,11 @@ untrimmed xs pass = trim_ows_space xs (unskipped xs pass) (unskipped (reverse xs
 
 -- ---- heads
 
-abbrev head_text : List ℕ → List ℕ → List ℕ → Bool → Bool → List ℕ
-head_text code reason size retry close =
+abbrev head_text : ContentType → List ℕ → List ℕ → List ℕ → Bool → Bool → List ℕ
+head_text kind code reason size retry close =
     concat
     (codes "HTTP/1.1 " ∷ code ∷ codes " " ∷ reason
-    ∷ codes "\r\nContent-Type: application/json"
+    ∷ content_type_line kind
     ∷ codes "\r\nContent-Length: " ∷ size
     ∷ text_where retry (codes "\r\nRetry-After: 1")
     ∷ text_where close (codes "\r\nConnection: close")
@@ -62,8 +64,9 @@ ending = 13 ∷ 10 ∷ []
 abbrev front : List ℕ → List ℕ
 front text = codes "HTTP/1.1 " ++ text
 
-abbrev middle : List ℕ → List ℕ
-middle text = codes "Content-Type: application/json\r\nContent-Length: " ++ text
+abbrev middle : ContentType → List ℕ → List ℕ
+middle Json text = codes "Content-Type: application/json\r\nContent-Length: " ++ text
+middle PlainText text = codes "Content-Type: text/plain; charset=utf-8\r\nContent-Length: " ++ text
 
 seam : (code reason text : List ℕ) → ((code ++ (32 ∷ reason)) ++ ending) ++ text ≡ code ++ (32 ∷ (reason ++ (13 ∷ 10 ∷ text)))
 seam code reason text = append_assoc (code ++ (32 ∷ reason)) ending text ∙ append_assoc code (32 ∷ reason) (ending ++ text)
@@ -71,19 +74,23 @@ seam code reason text = append_assoc (code ++ (32 ∷ reason)) ending text ∙ a
 tail : (size more : List ℕ) → ((size ++ ending) ++ more) ++ ending ≡ size ++ (13 ∷ 10 ∷ (more ++ ending))
 tail size more = append_assoc (size ++ ending) more ending ∙ append_assoc size ending (more ++ ending)
 
-joined : (code reason size more : List ℕ) →
-    front (((code ++ (32 ∷ reason)) ++ ending) ++ middle (((size ++ ending) ++ more) ++ ending))
-    ≡ front (code ++ (32 ∷ (reason ++ (13 ∷ 10 ∷ middle (size ++ (13 ∷ 10 ∷ (more ++ ending)))))))
-joined code reason size more =
-    ap front (seam code reason (middle (((size ++ ending) ++ more) ++ ending)))
-    ∙ ap (λ (text : List ℕ). front (code ++ (32 ∷ (reason ++ (13 ∷ 10 ∷ middle text))))) (tail size more)
+joined : (kind : ContentType) (code reason size more : List ℕ) →
+    front (((code ++ (32 ∷ reason)) ++ ending) ++ middle kind (((size ++ ending) ++ more) ++ ending))
+    ≡ front (code ++ (32 ∷ (reason ++ (13 ∷ 10 ∷ middle kind (size ++ (13 ∷ 10 ∷ (more ++ ending)))))))
+joined kind code reason size more =
+    ap front (seam code reason (middle kind (((size ++ ending) ++ more) ++ ending)))
+    ∙ ap (λ (text : List ℕ). front (code ++ (32 ∷ (reason ++ (13 ∷ 10 ∷ middle kind text))))) (tail size more)
 
-pub printed : (code reason size : List ℕ) (retry close : Bool) → print_response (head_with code reason size retry close) ≡ head_text code reason size retry close
+pub printed : (kind : ContentType) (code reason size : List ℕ) (retry close : Bool) → print_response (head_with kind code reason size retry close) ≡ head_text kind code reason size retry close
 unfolding print_response
-printed code reason size true true = joined code reason size (flat_map print_field (further true true))
-printed code reason size true false = joined code reason size (flat_map print_field (further true false))
-printed code reason size false true = joined code reason size (flat_map print_field (further false true))
-printed code reason size false false = joined code reason size (flat_map print_field (further false false))
+printed Json code reason size true true = joined Json code reason size (flat_map print_field (further true true))
+printed Json code reason size true false = joined Json code reason size (flat_map print_field (further true false))
+printed Json code reason size false true = joined Json code reason size (flat_map print_field (further false true))
+printed Json code reason size false false = joined Json code reason size (flat_map print_field (further false false))
+printed PlainText code reason size true true = joined PlainText code reason size (flat_map print_field (further true true))
+printed PlainText code reason size true false = joined PlainText code reason size (flat_map print_field (further true false))
+printed PlainText code reason size false true = joined PlainText code reason size (flat_map print_field (further false true))
+printed PlainText code reason size false false = joined PlainText code reason size (flat_map print_field (further false false))
 
 token : (name : List ℕ) → list_all is_token_byte name ≡ true → AllPass is_token_byte name
 token name pass = AllPass-from_list_all is_token_byte name pass
@@ -91,10 +98,12 @@ token name pass = AllPass-from_list_all is_token_byte name pass
 value_of : (value : List ℕ) → list_all is_value_byte value ≡ true → AllPass is_value_byte value
 value_of value pass = AllPass-from_list_all is_value_byte value pass
 
-type_field : IsField (field (codes "Content-Type") (codes "application/json"))
+type_field : (kind : ContentType) → IsField (field (codes "Content-Type") (type_of kind))
 unfolding is_token_byte
-type_field =
+type_field Json =
     record { name = (search arith, token (codes "Content-Type") refl); raw = value_of (codes " application/json") refl }
+type_field PlainText =
+    record { name = (search arith, token (codes "Content-Type") refl); raw = value_of (codes " text/plain; charset=utf-8") refl }
 
 retry_field : IsField (field (codes "Retry-After") (codes "1"))
 unfolding is_token_byte
@@ -122,14 +131,14 @@ further_valid true false = All-cons IsField retry_line [] retry_field (All-nil I
 further_valid false true = All-cons IsField close_line [] close_field (All-nil IsField)
 further_valid false false = All-nil IsField
 
-pub valid : (code reason size : List ℕ) (retry close : Bool) → length code ≡ 3 → AllPass is_ascii_digit code →
-    AllPass is_value_byte reason → AllPass is_value_byte size → IsResponseHead (head_with code reason size retry close)
-valid code reason size retry close three digits seen sizes = record {
+pub valid : (kind : ContentType) (code reason size : List ℕ) (retry close : Bool) → length code ≡ 3 → AllPass is_ascii_digit code →
+    AllPass is_value_byte reason → AllPass is_value_byte size → IsResponseHead (head_with kind code reason size retry close)
+valid kind code reason size retry close three digits seen sizes = record {
   minor = omega arith;
   digits = (three, digits);
   reason = seen;
   fields =
-      All-cons IsField (field (codes "Content-Type") (codes "application/json")) (field (codes "Content-Length") size ∷ further retry close) type_field
+      All-cons IsField (field (codes "Content-Type") (type_of kind)) (field (codes "Content-Length") size ∷ further retry close) (type_field kind)
       (All-cons IsField (field (codes "Content-Length") size) (further retry close) (size_field size sizes) (further_valid retry close));
 }
 

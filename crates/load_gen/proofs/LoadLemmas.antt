@@ -31,8 +31,10 @@ use Rattle.client_api.specs.Facts.{Facts}
 use Rattle.client_api.specs.Fresh.{Meets}
 use Rattle.client_api.specs.Lists.{IsListed}
 use Rattle.local_client.specs.CachedLogs.{CachedLogData, IsNewLog, KnowsWhole, window_of}
-use Rattle.sess_reply.specs.Contents.{Content, refusal, refused}
-use Rattle.sess_reply.specs.Replies.{Reply, unrouted, wrote, transacted, got, listed, operated, unwatched, bad_upgrade, content_of, form_of, text_of}
+use Rattle.http_send.specs.declared.replies.ContentType.{ContentType}
+use Rattle.http_send.specs.declared.replies.ContentType.TheVariants.{Json}
+use Rattle.sess_reply.specs.Contents.{Content, refusal, refused, content_type_of}
+use Rattle.sess_reply.specs.Replies.{Reply, unrouted, wrote, transacted, got, listed, operated, described, unwatched, bad_upgrade, content_of, form_of, text_of}
 use Rattle.sess_serve.specs.Answers.{Answer, replied, streamed, is_stream}
 use Rattle.sess_serve.specs.Ends.{Ended}
 use Rattle.sess_serve.specs.Steps.{Exchange}
@@ -72,9 +74,9 @@ of_told (Some told) c e =
     let same : refused told ≡ c = cc in
     inr (inr (told.reason, sym (ap (λ (x : Content). x.code) same)))
 
-of_said : (code : ℕ) (json : List ℕ) (c : Content) → IsCode code → Some (record { code = code; retry = false; json = json }) ≡ Some c → IsCode c.code
-of_said code json c known e =
-    let same : record { code = code; retry = false; json = json } ≡ c = cc in
+of_said : (code : ℕ) (kind : ContentType) (text : List ℕ) (c : Content) → IsCode code → Some (record { code = code; retry = false; kind = kind; text = text }) ≡ Some c → IsCode c.code
+of_said code kind text c known e =
+    let same : record { code = code; retry = false; kind = kind; text = text } ≡ c = cc in
     subst IsCode (ap (λ (x : Content). x.code) same) known
 
 is_accepted : IsCode 200
@@ -83,18 +85,19 @@ is_accepted = inl refl
 -- what a reply says has one of the codes
 known_code : (form : Form) (reply : Reply) (c : Content) → content_of form reply ≡ Some c → IsCode c.code
 known_code form (unrouted fault) c e = of_told _ c e
-known_code form (wrote (write.Create resource obj) (Ok written)) c e = of_said 201 _ c (inr (inl refl)) e
-known_code form (wrote (write.Replace resource obj given) (Ok written)) c e = of_said 200 _ c is_accepted e
-known_code form (wrote (write.Remove resource key) (Ok written)) c e = of_said 200 _ c is_accepted e
+known_code form (wrote (write.Create resource obj) (Ok written)) c e = of_said 201 Json _ c (inr (inl refl)) e
+known_code form (wrote (write.Replace resource obj given) (Ok written)) c e = of_said 200 Json _ c is_accepted e
+known_code form (wrote (write.Remove resource key) (Ok written)) c e = of_said 200 Json _ c is_accepted e
 known_code form (wrote ask (Err fault)) c e = of_told _ c e
-known_code form (transacted asks (Ok answers)) c e = of_said 200 _ c is_accepted e
+known_code form (transacted asks (Ok answers)) c e = of_said 200 Json _ c is_accepted e
 known_code form (transacted asks (Err fault)) c e = of_told _ c e
-known_code form (got ask (Ok answer)) c e = of_said 200 _ c is_accepted e
+known_code form (got ask (Ok answer)) c e = of_said 200 Json _ c is_accepted e
 known_code form (got ask (Err fault)) c e = of_told _ c e
-known_code form (listed ask (Ok answer)) c e = of_said 200 _ c is_accepted e
+known_code form (listed ask (Ok answer)) c e = of_said 200 Json _ c is_accepted e
 known_code form (listed ask (Err fault)) c e = of_told _ c e
-known_code form (operated ask (Ok value)) c e = of_said 200 _ c is_accepted e
+known_code form (operated ask (Ok value)) c e = of_said 200 Json _ c is_accepted e
 known_code form (operated ask (Err fault)) c e = of_told _ c e
+known_code form (described document) c e = of_said 200 (content_type_of document) _ c is_accepted e
 known_code form (unwatched ask fault) c e = of_told _ c e
 known_code form (bad_upgrade ask) c e = of_told (Some errors.bad_upgrade) c e
 
@@ -103,7 +106,7 @@ one_more : (close : Bool) (content : Option Content) (others : List ℕ) (text :
     AreReplies others text → AreReplies (code_in content ++ others) (text_of close content ++ text)
 one_more close None others text known rest = rest
 one_more close (Some content) others text known rest =
-    (text_of close (Some content), text, refl, record { retry = content.retry; close = close; body = content.json ++ 10 ∷ []; text_is = refl; known = known content refl }, rest)
+    (text_of close (Some content), text, refl, record { kind = content.kind; retry = content.retry; close = close; body = content.text ++ 10 ∷ []; text_is = refl; known = known content refl }, rest)
 
 first_told : (t : Terms) (req : Req) (a : Answer) (others text : List ℕ) → is_stream a ≡ false → AreReplies others text → AreReplies (code_of req a ++ others) (answer_bytes t req a ++ text)
 first_told t req (replied reply) others text is rest =

@@ -8,8 +8,9 @@ use Rattle.std.proofs.lemmas.Fmt.{decimal_digit, decimal_step, decimal_is_IsNume
 use Rattle.std.proofs.lemmas.List.Sums.{AllPass-from_list_all}
 use Rattle.api_errors.specs.Reasons.{code_of as reason_code}
 use Rattle.api_errors.specs.declared.reasons.Reason.{Reason}
-use Rattle.api_errors.specs.declared.reasons.Reason.TheVariants.{BadRequest, NotFound, MethodNotAllowed, AlreadyExists, Conflict, Expired, LengthRequired, RequestEntityTooLarge, Invalid, InternalError, Timeout}
-use Rattle.http_send.specs.Replies.{phrase, reply_text, reply_head_text}
+use Rattle.api_errors.specs.declared.reasons.Reason.TheVariants.{BadRequest, Forbidden, NotFound, MethodNotAllowed, AlreadyExists, Conflict, Expired, LengthRequired, RequestEntityTooLarge, Invalid, InternalError, Timeout}
+use Rattle.http_send.specs.Replies.{phrase, typed_reply_text, typed_head_text}
+use Rattle.http_send.specs.declared.replies.ContentType.{ContentType}
 use Rattle.httparse.specs.Grammar.{AllPass, is_value_byte, print_response, ReadsResponse}
 use Rattle.httparse.specs.Spans.{header_bytes, IsResponseAt}
 use Rattle.httparse.specs.declared.spans.HeaderSpan.{HeaderSpan}
@@ -38,6 +39,7 @@ facts_at n low high pass = record { low = low; high = high; seen = visible n pas
 
 of_reason : (r : Reason) → CodeFacts (reason_code r)
 of_reason BadRequest = facts_at 400 (omega arith) (omega arith) refl
+of_reason Forbidden = facts_at 403 (omega arith) (omega arith) refl
 of_reason NotFound = facts_at 404 (omega arith) (omega arith) refl
 of_reason MethodNotAllowed = facts_at 405 (omega arith) (omega arith) refl
 of_reason AlreadyExists = facts_at 409 (omega arith) (omega arith) refl
@@ -61,33 +63,33 @@ code_facts code known =
 
 -- ---- heads
 
-reads-body : (code : ℕ) (retry close : Bool) (body rest text : List ℕ) → IsCode code → length body < 2 ^ 64 →
-    text ≡ reply_text code retry close body ++ rest → ReadsResponse text (head_of code retry close body) (body ++ rest)
-reads-body code retry close body rest text known small e =
+reads-body : (kind : ContentType) (code : ℕ) (retry close : Bool) (body rest text : List ℕ) → IsCode code → length body < 2 ^ 64 →
+    text ≡ typed_reply_text kind code retry close body ++ rest → ReadsResponse text (head_of kind code retry close body) (body ++ rest)
+reads-body kind code retry close body rest text known small e =
     let facts = code_facts code known in
-    let same : print_response (head_of code retry close body) ≡ reply_head_text code retry close (length body) =
-    printed (decimal code) (phrase code) (decimal (length body)) retry close in
-    let whole : text ≡ print_response (head_of code retry close body) ++ (body ++ rest) =
-    e ∙ append_assoc (reply_head_text code retry close (length body)) body rest ∙ ap (λ (x : List ℕ). x ++ (body ++ rest)) (sym same) in
-    (valid (decimal code) (phrase code) (decimal (length body)) retry close (three code facts.low facts.high) (digits_are code (omega arith)) facts.seen (digits_are_value (length body) small), whole)
+    let same : print_response (head_of kind code retry close body) ≡ typed_head_text kind code retry close (length body) =
+    printed kind (decimal code) (phrase code) (decimal (length body)) retry close in
+    let whole : text ≡ print_response (head_of kind code retry close body) ++ (body ++ rest) =
+    e ∙ append_assoc (typed_head_text kind code retry close (length body)) body rest ∙ ap (λ (x : List ℕ). x ++ (body ++ rest)) (sym same) in
+    (valid kind (decimal code) (phrase code) (decimal (length body)) retry close (three code facts.low facts.high) (digits_are code (omega arith)) facts.seen (digits_are_value (length body) small), whole)
 
 -- a body isn't longer than the text
-body_fits : (code : ℕ) (retry close : Bool) (body rest text : List ℕ) → text ≡ reply_text code retry close body ++ rest → length body ≤ length text
-body_fits code retry close body rest text e =
+body_fits : (kind : ContentType) (code : ℕ) (retry close : Bool) (body rest text : List ℕ) → text ≡ typed_reply_text kind code retry close body ++ rest → length body ≤ length text
+body_fits kind code retry close body rest text e =
     let l = ap length e in
-    let a = length-append (reply_text code retry close body) rest in
-    let b = length-append (reply_head_text code retry close (length body)) body in
+    let a = length-append (typed_reply_text kind code retry close body) rest in
+    let b = length-append (typed_head_text kind code retry close (length body)) body in
     omega arith
 
 pub reads : (code : ℕ) (first rest text : List ℕ) (r : IsReply code first) → length text < 2 ^ 64 → text ≡ first ++ rest →
-    ReadsResponse text (head_of code r.retry r.close r.body) (r.body ++ rest)
+    ReadsResponse text (head_of r.kind code r.retry r.close r.body) (r.body ++ rest)
 reads code first rest text r small e =
-    let whole : text ≡ reply_text code r.retry r.close r.body ++ rest = e ∙ ap (λ (x : List ℕ). x ++ rest) r.text_is in
-    let fits = body_fits code r.retry r.close r.body rest text whole in
-    reads-body code r.retry r.close r.body rest text r.known (omega arith) whole
+    let whole : text ≡ typed_reply_text r.kind code r.retry r.close r.body ++ rest = e ∙ ap (λ (x : List ℕ). x ++ rest) r.text_is in
+    let fits = body_fits r.kind code r.retry r.close r.body rest text whole in
+    reads-body r.kind code r.retry r.close r.body rest text r.known (omega arith) whole
 
-pub few_fields : (code : ℕ) (retry close : Bool) (body : List ℕ) → length (head_of code retry close body).fields ≤ 4
-few_fields code retry close body = let f = few retry close in omega arith
+pub few_fields : (kind : ContentType) (code : ℕ) (retry close : Bool) (body : List ℕ) → length (head_of kind code retry close body).fields ≤ 4
+few_fields kind code retry close body = let f = few retry close in omega arith
 
 -- ---- spans
 
@@ -110,14 +112,14 @@ pub record Found (code : ℕ) (first : List ℕ) (body : List ℕ) (text : List 
   pub size : (x : HeaderSpan) → slice_range text (get_or fields 1 x).value.start (get_or fields 1 x).value.end ≡ decimal (length body)
 
 pub found : (code : ℕ) (first text : List ℕ) (fields : List HeaderSpan) (spans : ResponseSpans) (r : IsReply code first) →
-    length first < 2 ^ 64 → IsResponseAt text fields spans (head_of code r.retry r.close r.body) → Found code first r.body text fields spans
+    length first < 2 ^ 64 → IsResponseAt text fields spans (head_of r.kind code r.retry r.close r.body) → Found code first r.body text fields spans
 found code first text fields spans r small at =
     let facts = code_facts code r.known in
     let value = decimal_is_IsNumeral code (omega arith) in
-    let same : print_response (head_of code r.retry r.close r.body) ≡ reply_head_text code r.retry r.close (length r.body) =
-    printed (decimal code) (phrase code) (decimal (length r.body)) r.retry r.close in
+    let same : print_response (head_of r.kind code r.retry r.close r.body) ≡ typed_head_text r.kind code r.retry r.close (length r.body) =
+    printed r.kind (decimal code) (phrase code) (decimal (length r.body)) r.retry r.close in
     let whole = ap length r.text_is in
-    let parts = length-append (reply_head_text code r.retry r.close (length r.body)) r.body in
+    let parts = length-append (typed_head_text r.kind code r.retry r.close (length r.body)) r.body in
     let head_len = ap length same in
     let trimmed = untrimmed (decimal (length r.body)) (digits_are (length r.body) (omega arith)) in
     let pair = λ (x : HeaderSpan). second (header_bytes text) fields spans.headers _ _ _ x at.fields in
@@ -131,9 +133,9 @@ found code first text fields spans r small at =
 -- a reply has some bytes
 pub some_bytes : (code : ℕ) (first : List ℕ) (r : IsReply code first) → 0 < length first
 some_bytes code first r =
-    let head = length-append (reply_head_text code r.retry r.close (length r.body)) r.body in
+    let head = length-append (typed_head_text r.kind code r.retry r.close (length r.body)) r.body in
     let size = ap length r.text_is in
-    let some : 0 < length (reply_head_text code r.retry r.close (length r.body)) = omega arith in
+    let some : 0 < length (typed_head_text r.kind code r.retry r.close (length r.body)) = omega arith in
     omega arith
 
 pub same_reply : (reply : Reply) (code size : ℕ) → Some reply ≡ Some (record { code = code; size = size }) → (reply.code ≡ code) × (reply.size ≡ size)

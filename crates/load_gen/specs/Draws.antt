@@ -1,7 +1,7 @@
 -- The draws of the generator: the high bits of the states of a linear congruential sequence modulo 2^64.
 use Rattle.std.specs.Prelude.{ℕ, zero, suc, ◌+◌, ◌*◌, ◌/◌, ◌%◌, ◌^◌}
 
--- the state behind another
+-- the state that follows another
 unfoldable pub next : ℕ → ℕ
 next state = (state * 6364136223846793005 + 1442695040888963407) % 2 ^ 64
 

@@ -30,7 +30,7 @@ pub record IsServed (terms : Terms) (whole : Type 0) (p : Pass RevisionData) (se
   pub served : IsSession terms whole p
       (record { taken = taken; written = written; readings = readings; read_fault = ⊥; write_fault = ⊥; left = Some left }) q Done
 
--- all pods of the namespace
+-- all pods of the namespace `load`, in which each request of a load is
 abbrev pub pods_of_load : Selection
 pods_of_load = record { resource = Pods; ns = Some (codes "load"); labels = []; fields = [] }
 

@@ -4,7 +4,8 @@ use Rattle.std.specs.List.{flat_map}
 use Rattle.api_errors.specs.Reasons.{code_of as reason_code}
 use Rattle.api_errors.specs.declared.reasons.Reason.{Reason}
 use Rattle.http_read.specs.declared.request.Req.{Req}
-use Rattle.http_send.specs.Replies.{reply_text}
+use Rattle.http_send.specs.Replies.{typed_reply_text}
+use Rattle.http_send.specs.declared.replies.ContentType.{ContentType}
 use Rattle.sess_reply.specs.Contents.{Content}
 use Rattle.sess_reply.specs.Replies.{content_of, form_of}
 use Rattle.sess_serve.specs.Answers.{Answer, replied, streamed}
@@ -15,6 +16,7 @@ abbrev pub code_in : Option Content → List ℕ
 code_in None = []
 code_in (Some content) = content.code ∷ []
 
+-- the status code of the reply to a request; a stream has none that counts
 abbrev pub code_of : Req → Answer → List ℕ
 code_of req (replied reply) = code_in (content_of (form_of req) reply)
 code_of req (streamed ask stream) = []
@@ -43,10 +45,11 @@ IsCode code = (code ≡ 200) ⊎ ((code ≡ 201) ⊎ ((reason : Reason) × (code
 
 -- a whole reply with this code
 pub record IsReply (code : ℕ) (text : List ℕ) : Type 0 where
+  pub kind : ContentType
   pub retry : Bool
   pub close : Bool
   pub body : List ℕ
-  pub text_is : text ≡ reply_text code retry close body
+  pub text_is : text ≡ typed_reply_text kind code retry close body
   pub known : IsCode code
 
 -- replies with these codes, one after the other

@@ -21,14 +21,15 @@ request_at from number = record {
 
 -- ---- texts
 
--- a request for pods of the namespace: its line, but for what stands behind the path, and the end of that line with the host
+-- how a request line begins: the method and the path of the pods of the namespace `load`
 abbrev pub start : List ℕ → List ℕ
 start method = method ++ codes " /api/v1/namespaces/load/pods"
 
+-- how a request line ends, behind its path and its query, and the Host field (RFC 9112, section 3)
 abbrev pub host : List ℕ
 host = codes " HTTP/1.1\r\nHost: load\r\n"
 
--- a text and a number
+-- a text, and behind it a number in decimal digits
 abbrev pub numbered : List ℕ → ℕ → List ℕ
 numbered text number = text ++ decimal number
 
@@ -41,23 +42,26 @@ object_text r =
 abbrev pub with_body : List ℕ → List ℕ
 with_body body = numbered (codes "Content-Length: ") (length body) ++ (codes "\r\n\r\n" ++ body)
 
--- the path of one object, and the query of a list, behind the path of all
+-- what stands behind the path of all pods in the path of one of them
 abbrev pub name_part : LoadRequest → List ℕ
 name_part r = numbered (codes "/p-") r.object
 
+-- the query of a list, for the pods of a group alone: `%3D` is the `=` of its label selector
 abbrev pub query_part : LoadRequest → List ℕ
 query_part r = numbered (codes "?labelSelector=g%3D") r.group
 
+-- the bytes of a request for this action: to create, replace or remove the drawn object, or to list the drawn group
 abbrev pub text_for : Action → LoadRequest → List ℕ
 text_for Create r = start (codes "POST") ++ (host ++ with_body (object_text r))
 text_for Replace r = start (codes "PUT") ++ (name_part r ++ (host ++ with_body (object_text r)))
 text_for Remove r = start (codes "DELETE") ++ (name_part r ++ (host ++ codes "\r\n"))
 text_for Listing r = start (codes "GET") ++ (query_part r ++ (host ++ codes "\r\n"))
 
+-- the bytes of a request that was drawn
 unfoldable pub request_text : LoadRequest → List ℕ
 request_text r = text_for r.action r
 
--- the last request lists all
+-- the last request of a load, which lists all pods of its namespace
 abbrev pub list_text : List ℕ
 list_text = start (codes "GET") ++ (host ++ codes "\r\n")
 

@@ -89,7 +89,7 @@ fn first_reply(text: &[u8]) -> Option<Reply>
 fn reply_with(text: &[u8], fields: &[HeaderSpan], head: &ResponseSpans) -> Option<Reply>
     requires { IsResponseWithin text.now fields.now head.now }
     ensures found { (code : ℕ) (first rest : List ℕ) → text.now ≡ first ++ rest → (r : IsReply code first) →
-        IsResponseAt text.now fields.now head.now (head_of code r.retry r.close r.body) →
+        IsResponseAt text.now fields.now head.now (head_of r.kind code r.retry r.close r.body) →
         result ≡ Some (record { code = code; size = length first }) }
     ensures within { IfSome result (λ reply. (0 < reply.size) × (reply.size ≤ length text.now)) }
 {

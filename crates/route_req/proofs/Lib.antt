@@ -6,3 +6,4 @@ pub mod PlainItems
 pub mod Readings
 pub mod Outcomes
 pub mod OneAnswer
+mod DocumentPaths

@@ -31,7 +31,7 @@ use Rattle.route_req.specs.Texts.{AsksItem, AskAll, IsList, AsksTransaction, ope
 use Rattle.route_req.specs.Asks.{is_watch, AsksList, AsksWatch, AsksCreate, AsksReplace, Asks}
 use Rattle.route_req.specs.Outcomes.{AnswersAgree}
 use Rattle.route_req.specs.declared.places.Action.{Action}
-use Rattle.route_req.specs.declared.places.Action.TheVariants.{Read, Create, Get, Replace, Remove, Cut, Compact, Restart, Transact}
+use Rattle.route_req.specs.declared.places.Action.TheVariants.{Describe, Read, Create, Get, Replace, Remove, Cut, Compact, Restart, Transact}
 use Rattle.route_req.specs.declared.transactions.Operation.{Operation}
 use Rattle.route_req.specs.declared.transactions.Operation.TheVariants as operation
 use Rattle.route_req.specs.declared.routing.Routed.{Routed}
@@ -124,6 +124,7 @@ create_form r ns body (routed.Watch ask) is = absurd is
 create_form r ns body (routed.List ask) is = absurd is
 create_form r ns body (routed.Operate ask) is = absurd is
 create_form r ns body (routed.Transact ask) is = absurd is
+create_form r ns body (routed.Describe text) is = absurd is
 
 -- a replacement's
 abbrev pub ReplaceForm : Resource → List ℕ → List ℕ → Routed → Type 0
@@ -140,6 +141,7 @@ replace_form r ns name body (routed.Watch ask) is = absurd is
 replace_form r ns name body (routed.List ask) is = absurd is
 replace_form r ns name body (routed.Operate ask) is = absurd is
 replace_form r ns name body (routed.Transact ask) is = absurd is
+replace_form r ns name body (routed.Describe text) is = absurd is
 
 -- ---- items
 
@@ -218,6 +220,7 @@ either_once false s params a b ha hb =
     x.1 ∙ ap (λ v. routed.List v) (same_Ok x.0 y.0 (sym x.2 ∙ y.2)) ∙ sym y.1
 
 acts_once : (action : Action) (req : Req) (a b : Routed) → Asks action req a → Asks action req b → a ≡ b
+acts_once (Describe text) req a b ha hb = ha ∙ sym hb
 acts_once (Read r ns) req a b ha hb =
     let same : hb.0 ≡ ha.0 = same_Ok hb.0 ha.0 (sym hb.1 ∙ ha.1) in
     either_once (is_watch req.params) ha.0 req.params a b ha.2 (subst (λ s. MatchBool (is_watch req.params) (AsksWatch s req.params b) (AsksList s req.params b)) same hb.2)
@@ -246,6 +249,6 @@ acts_once Transact req a b ha hb =
     x.1 ∙ ap (λ v. routed.Transact v) (one_transaction req.body x.0 y.0 x.2 y.2) ∙ sym y.1
 
 pub answers_agree : AnswersAgree
-answers_agree req a b ra rb =
+answers_agree req a b (own, ra) (own_too, rb) =
     let same : rb.1 ≡ ra.1 = same_Some rb.1 ra.1 (same_action req rb.0 ra.0 (Some rb.1) (Some ra.1) rb.2 ra.2 rb.3 ra.3) in
     acts_once ra.1 req a b ra.4 (subst (λ action. Asks action req b) same rb.4)

@@ -1,5 +1,5 @@
 -- A request has one outcome.
-use Rattle.std.proofs.Common.{◌≡◌, ◌≢◌, ℕ, Bool, true, false, List, Option, Some, None, Result, Ok, Err, refl, sym, ap, subst, ◌∙◌, inl, inr, ◌⊎◌, codes}
+use Rattle.std.proofs.Common.{◌≡◌, ◌≢◌, ℕ, Bool, true, false, List, Option, Some, None, Result, Ok, Err, refl, sym, ap, subst, ◌∙◌, inl, inr, ◌⊎◌, codes, cond, bytes_eq}
 use Rattle.std.specs.Bool.{MatchBool}
 use Rattle.std.proofs.lemmas.Option.{none-some, same_Some}
 use Rattle.serde_json.specs.Data.{Data}
@@ -23,19 +23,21 @@ use Rattle.json_obj.specs.declared.refusals.ObjNo.TheVariants as object_no
 use Rattle.up_store.specs.declared.writes.WriteAsk.{WriteAsk}
 use Rattle.up_store.specs.declared.writes.WriteAsk.TheVariants as write
 use Rattle.up_store.specs.declared.operations.Operate.TheVariants as operate
-use Rattle.route_req.specs.Places.{Names, action_at}
+use Rattle.route_req.specs.Places.{Names, action_at, takes_memory}
 use Rattle.route_req.specs.Texts.{AsksTransaction, RefusesText}
-use Rattle.route_req.specs.Asks.{is_watch, IsSelection, compacts_at, RefusesBody, AsksList, AsksWatch, AsksRead, AsksCreate, AsksReplace, AsksGet, AsksCompact, AsksTransact, Asks, RefusesList, RefusesWatch, RefusesRead, RefusesObject, RefusesGet, RefusesCompact, RefusesTransact, Refuses, IsRefusal}
+use Rattle.route_req.specs.Asks.{is_watch, IsSelection, compacts_at, RefusesBody, AsksList, AsksWatch, AsksRead, AsksCreate, AsksReplace, AsksGet, AsksCompact, AsksTransact, Asks, RefusesList, RefusesWatch, RefusesRead, RefusesObject, RefusesGet, RefusesCompact, RefusesTransact, Refuses, AsksAtPath, RefusesAtPath, IsRefusal}
 use Rattle.route_req.specs.Outcomes.{RoutesAreNotRefused, RefusalsAgree}
 use Rattle.route_req.specs.declared.places.Place.{Place}
+use Rattle.route_req.specs.declared.places.Place.TheVariants.{Described, Everywhere, Namespaced, Named, OfCut, OfCompact, OfRestart, OfTransaction}
 use Rattle.route_req.specs.declared.places.Action.{Action}
-use Rattle.route_req.specs.declared.places.Action.TheVariants.{Read, Create, Get, Replace, Remove, Cut, Compact, Restart, Transact}
+use Rattle.route_req.specs.declared.places.Action.TheVariants.{Describe, Read, Create, Get, Replace, Remove, Cut, Compact, Restart, Transact}
 use Rattle.route_req.specs.declared.transactions.TxTextNo.{TxTextNo}
 use Rattle.route_req.specs.declared.transactions.TxTextNo.TheVariants as text_no
 use Rattle.route_req.specs.declared.routing.Routed.{Routed}
 use Rattle.route_req.specs.declared.routing.Routed.TheVariants as routed
 use Rattle.route_req.specs.declared.routing.RouteNo.{RouteNo}
 use Rattle.route_req.specs.declared.routing.RouteNo.TheVariants as route_no
+use Rattle.route_req.proofs.DocumentPaths.{if_found}
 use Rattle.route_req.proofs.Paths.{one_place}
 use Rattle.route_req.proofs.Readings.{one_text, texts_agree, text_unrefused}
 
@@ -85,6 +87,7 @@ list_tells s params (route_no.List ask_no.InitialEventsOnList) is = inr (ask_no.
 list_tells s params (route_no.List ask_no.BadLimit) is = inr (ask_no.BadLimit, refl, is)
 list_tells s params (route_no.List (ask_no.BadContinue token)) is = inr (ask_no.BadContinue token, refl, is)
 list_tells s params (route_no.List ask_no.Memory) is = absurd is
+list_tells s params route_no.ForeignSite is = absurd is
 list_tells s params route_no.NoPath is = absurd is
 list_tells s params route_no.NoMethod is = absurd is
 list_tells s params (route_no.Selector why) is = absurd is
@@ -97,6 +100,7 @@ list_tells s params route_no.Memory is = inl refl
 watch_tells : (params : Pairs) (fault : RouteNo) → RefusesWatch params fault → Tells fault (λ why. route_no.Watch why) (λ why. first_fault params ≡ Some why)
 watch_tells params (route_no.Watch why) is = inr (why, refl, is)
 watch_tells params (route_no.List why) is = absurd is
+watch_tells params route_no.ForeignSite is = absurd is
 watch_tells params route_no.NoPath is = absurd is
 watch_tells params route_no.NoMethod is = absurd is
 watch_tells params (route_no.Selector why) is = absurd is
@@ -119,6 +123,7 @@ read_tells r ns params (route_no.List why) is = inr is
 read_tells r ns params (route_no.Watch why) is = inr is
 read_tells r ns params (route_no.Object why) is = inr is
 read_tells r ns params (route_no.Transaction why) is = inr is
+read_tells r ns params route_no.ForeignSite is = inr is
 read_tells r ns params route_no.NoPath is = inr is
 read_tells r ns params route_no.NoMethod is = inr is
 read_tells r ns params route_no.Operation is = inr is
@@ -132,6 +137,7 @@ body_tells r ns name body (route_no.Object object_no.TooDeep) is = inr (object_n
 body_tells r ns name body (route_no.Object object_no.WrongKind) is = inr (object_no.WrongKind, refl, is)
 body_tells r ns name body (route_no.Object object_no.BadMeta) is = inr (object_no.BadMeta, refl, is)
 body_tells r ns name body (route_no.Object object_no.Memory) is = absurd is
+body_tells r ns name body route_no.ForeignSite is = absurd is
 body_tells r ns name body route_no.NoPath is = absurd is
 body_tells r ns name body route_no.NoMethod is = absurd is
 body_tells r ns name body (route_no.Selector why) is = absurd is
@@ -153,6 +159,7 @@ get_tells params (route_no.List ask_no.InitialEventsOnList) is = inr (ask_no.Ini
 get_tells params (route_no.List ask_no.BadLimit) is = inr (ask_no.BadLimit, refl, is)
 get_tells params (route_no.List (ask_no.BadContinue token)) is = inr (ask_no.BadContinue token, refl, is)
 get_tells params (route_no.List ask_no.Memory) is = absurd is
+get_tells params route_no.ForeignSite is = absurd is
 get_tells params route_no.NoPath is = absurd is
 get_tells params route_no.NoMethod is = absurd is
 get_tells params (route_no.Selector why) is = absurd is
@@ -164,6 +171,7 @@ get_tells params route_no.Memory is = inl refl
 
 compact_tells : (params : Pairs) (fault : RouteNo) → RefusesCompact params fault → (fault ≡ route_no.Operation) × ((at : ℕ) → compacts_at params ≡ Some (Ok at) → ⊥)
 compact_tells params route_no.Operation is = (refl, is)
+compact_tells params route_no.ForeignSite is = absurd is
 compact_tells params route_no.NoPath is = absurd is
 compact_tells params route_no.NoMethod is = absurd is
 compact_tells params (route_no.Selector why) is = absurd is
@@ -188,6 +196,7 @@ text_tells body (route_no.Transaction (text_no.BadItem i)) is = inr (text_no.Bad
 text_tells body (route_no.Transaction (text_no.BadObject i why)) is = inr (text_no.BadObject i why, refl, (is, λ e. cc))
 text_tells body (route_no.Transaction (text_no.Repeated i)) is = inr (text_no.Repeated i, refl, (is, λ e. cc))
 text_tells body (route_no.Transaction text_no.Memory) is = absurd is
+text_tells body route_no.ForeignSite is = absurd is
 text_tells body route_no.NoPath is = absurd is
 text_tells body route_no.NoMethod is = absurd is
 text_tells body (route_no.Selector why) is = absurd is
@@ -240,6 +249,7 @@ list_asks s params (routed.Get ask) is = absurd is
 list_asks s params (routed.Watch ask) is = absurd is
 list_asks s params (routed.Operate ask) is = absurd is
 list_asks s params (routed.Transact ask) is = absurd is
+list_asks s params (routed.Describe text) is = absurd is
 
 pub watch_asks : (s : Selection) (params : Pairs) (answer : Routed) → AsksWatch s params answer → (ask : WatchAsk) × (answer ≡ routed.Watch ask) × MeansWatch s params ask
 watch_asks s params (routed.Watch ask) is = (ask, refl, is)
@@ -248,6 +258,7 @@ watch_asks s params (routed.Write ask) is = absurd is
 watch_asks s params (routed.Get ask) is = absurd is
 watch_asks s params (routed.Operate ask) is = absurd is
 watch_asks s params (routed.Transact ask) is = absurd is
+watch_asks s params (routed.Describe text) is = absurd is
 
 pub get_asks : (r : Resource) (ns name : List ℕ) (params : Pairs) (answer : Routed) → AsksGet r ns name params answer
     → (ask : GetAsk) × (answer ≡ routed.Get ask) × (ask.resource ≡ r) × (ask.key ≡ joined ns name) × (of_get (number_of (given (codes "resourceVersion") params)) ≡ Ok ask.meaning)
@@ -257,6 +268,7 @@ get_asks r ns name params (routed.List ask) is = absurd is
 get_asks r ns name params (routed.Write ask) is = absurd is
 get_asks r ns name params (routed.Operate ask) is = absurd is
 get_asks r ns name params (routed.Transact ask) is = absurd is
+get_asks r ns name params (routed.Describe text) is = absurd is
 
 -- a body that is stored: one text, that isn't refused
 abbrev pub IsStored : Resource → List ℕ → Option (List ℕ) → List ℕ → Type 0
@@ -271,6 +283,7 @@ create_asks r ns body (routed.Watch ask) is = absurd is
 create_asks r ns body (routed.List ask) is = absurd is
 create_asks r ns body (routed.Operate ask) is = absurd is
 create_asks r ns body (routed.Transact ask) is = absurd is
+create_asks r ns body (routed.Describe text) is = absurd is
 
 replace_asks : (r : Resource) (ns name body : List ℕ) (answer : Routed) → AsksReplace r ns name body answer → IsStored r ns (Some name) body
 replace_asks r ns name body (routed.Write (write.Replace resource obj given_rev)) is = (is.1, is.2, is.3)
@@ -281,6 +294,7 @@ replace_asks r ns name body (routed.Watch ask) is = absurd is
 replace_asks r ns name body (routed.List ask) is = absurd is
 replace_asks r ns name body (routed.Operate ask) is = absurd is
 replace_asks r ns name body (routed.Transact ask) is = absurd is
+replace_asks r ns name body (routed.Describe text) is = absurd is
 
 pub compact_asks : (params : Pairs) (answer : Routed) → AsksCompact params answer → (at : ℕ) × (answer ≡ routed.Operate (operate.Compact at)) × (compacts_at params ≡ Some (Ok at))
 compact_asks params (routed.Operate (operate.Compact at)) is = (at, refl, is)
@@ -291,14 +305,80 @@ compact_asks params (routed.Get ask) is = absurd is
 compact_asks params (routed.Watch ask) is = absurd is
 compact_asks params (routed.List ask) is = absurd is
 compact_asks params (routed.Transact ask) is = absurd is
+compact_asks params (routed.Describe text) is = absurd is
 
 pub text_asks : (body : List ℕ) (answer : Routed) → AsksTransact body answer → (asks : List WriteAsk) × (answer ≡ routed.Transact asks) × AsksTransaction body asks
 text_asks body (routed.Transact asks) is = (asks, refl, is)
 text_asks body (routed.Operate ask) is = absurd is
+text_asks body (routed.Describe text) is = absurd is
 text_asks body (routed.Write ask) is = absurd is
 text_asks body (routed.Get ask) is = absurd is
 text_asks body (routed.Watch ask) is = absurd is
 text_asks body (routed.List ask) is = absurd is
+
+-- ---- what an action refuses isn't refused for its path, its method or its site
+
+abbrev pub Placed : RouteNo → Type 0
+Placed route_no.ForeignSite = ⊥
+Placed route_no.NoPath = ⊥
+Placed route_no.NoMethod = ⊥
+Placed fault = Unit {0}
+
+tells_placed : {Why : Type 0} (fault : RouteNo) (wrap : Why → RouteNo) (Holds : Why → Type 0) → ((why : Why) → Placed (wrap why)) → Tells fault wrap Holds → Placed fault
+tells_placed fault wrap Holds each (inl e) = subst Placed (sym e) tt
+tells_placed fault wrap Holds each (inr x) = subst Placed (sym x.1) (each x.0)
+
+kind_placed : (kind : Bool) (s : Selection) (params : Pairs) (fault : RouteNo) → MatchBool kind (RefusesWatch params fault) (RefusesList s params fault) → Placed fault
+kind_placed true s params fault is = tells_placed fault (λ why. route_no.Watch why) _ (λ why. tt) (watch_tells params fault is)
+kind_placed false s params fault is = tells_placed fault (λ why. route_no.List why) _ (λ why. tt) (list_tells s params fault is)
+
+read_placed : (r : Resource) (ns : Option (List ℕ)) (params : Pairs) (fault : RouteNo) → ReadTells r ns params fault → Placed fault
+read_placed r ns params fault (inl tells) = tells_placed fault (λ why. route_no.Selector why) _ (λ why. tt) tells
+read_placed r ns params fault (inr x) = kind_placed (is_watch params) x.0 params fault x.2
+
+acts_placed : (action : Action) (req : Req) (fault : RouteNo) → Refuses action req fault → Placed fault
+acts_placed (Describe text) req fault is = absurd is
+acts_placed (Read r ns) req fault is = read_placed r ns req.params fault (read_tells r ns req.params fault is)
+acts_placed (Create r ns) req fault is = tells_placed fault (λ why. route_no.Object why) _ (λ why. tt) (body_tells r ns None req.body fault is)
+acts_placed (Get r ns name) req fault is = tells_placed fault (λ why. route_no.List why) _ (λ why. tt) (get_tells req.params fault is)
+acts_placed (Replace r ns name) req fault is = tells_placed fault (λ why. route_no.Object why) _ (λ why. tt) (body_tells r ns (Some name) req.body fault is)
+acts_placed (Remove r ns name) req fault is = subst Placed (sym is) tt
+acts_placed Cut req fault is = absurd is
+acts_placed Compact req fault is = subst Placed (sym (compact_tells req.params fault is).0) tt
+acts_placed Restart req fault is = absurd is
+acts_placed Transact req fault is = tells_placed fault (λ why. route_no.Transaction why) _ (λ why. tt) (text_tells req.body fault is)
+
+-- at a place whose requests take no memory, none is refused for want of it
+same_refuses : (req : Req) (own action : Action) (b : Bool) → cond b (Some own) None ≡ Some action → Refuses action req route_no.Memory → Refuses own req route_no.Memory
+same_refuses req own action b e refused =
+    let found = if_found b (Some own) action e in
+    subst (λ a. Refuses a req route_no.Memory) (sym (same_Some own action found.1)) refused
+
+memory_taken : (req : Req) (place : Place) (action : Action) → action_at place req.method ≡ Some action → Refuses action req route_no.Memory → takes_memory place ≡ true
+memory_taken req (Described text) action e refused = absurd (same_refuses req (Describe text) action (bytes_eq req.method (codes "GET")) e refused)
+memory_taken req (Everywhere r) action e refused = refl
+memory_taken req (Namespaced r ns) action e refused = refl
+memory_taken req (Named r ns name) action e refused = refl
+memory_taken req OfCut action e refused = absurd (same_refuses req Cut action (bytes_eq req.method (codes "POST")) e refused)
+memory_taken req OfCompact action e refused = absurd (same_refuses req Compact action (bytes_eq req.method (codes "POST")) e refused)
+memory_taken req OfRestart action e refused = absurd (same_refuses req Restart action (bytes_eq req.method (codes "POST")) e refused)
+memory_taken req OfTransaction action e refused = refl
+
+-- what an action refuses is refused at the path that names it
+pub refused_at_path : (req : Req) (place : Place) (action : Action) (fault : RouteNo) → Names req.path place → action_at place req.method ≡ Some action → Refuses action req fault → RefusesAtPath req fault
+refused_at_path req place action fault names at refused = by_fault fault (acts_placed action req fault refused) refused
+  where
+    by_fault : (fault : RouteNo) → Placed fault → Refuses action req fault → RefusesAtPath req fault
+    by_fault route_no.ForeignSite placed is = absurd placed
+    by_fault route_no.NoPath placed is = absurd placed
+    by_fault route_no.NoMethod placed is = absurd placed
+    by_fault (route_no.Selector why) placed is = (place, action, names, at, is)
+    by_fault (route_no.List why) placed is = (place, action, names, at, is)
+    by_fault (route_no.Watch why) placed is = (place, action, names, at, is)
+    by_fault (route_no.Object why) placed is = (place, action, names, at, is)
+    by_fault route_no.Operation placed is = (place, action, names, at, is)
+    by_fault (route_no.Transaction why) placed is = (place, action, names, at, is)
+    by_fault route_no.Memory placed is = (place, names, memory_taken req place action at is)
 
 -- ---- an answer beside a refusal
 
@@ -340,6 +420,7 @@ text_excludes body answer fault asked refused =
     told_memory (λ why. route_no.Transaction why) (TextFault body) fault (λ why bad. text_unrefused body ask.0 why ask.2 bad.0 bad.1) (text_tells body fault refused)
 
 acts_exclude : (action : Action) (req : Req) (answer : Routed) (fault : RouteNo) → Asks action req answer → Refuses action req fault → fault ≡ route_no.Memory
+acts_exclude (Describe text) req answer fault asked refused = absurd refused
 acts_exclude (Read r ns) req answer fault asked refused = read_excludes r ns req.params answer fault asked (read_tells r ns req.params fault refused)
 acts_exclude (Create r ns) req answer fault asked refused = body_excludes r ns None req.body fault (create_asks r ns req.body answer asked) refused
 acts_exclude (Get r ns name) req answer fault asked refused = get_excludes r ns name req.params answer fault asked refused
@@ -376,6 +457,7 @@ body_agrees r ns name body a b ha hb na nb =
     told_once (λ why. route_no.Object why) (RefusesBody r ns name body) a b (bodies_agree r ns name body) (body_tells r ns name body a ha) (body_tells r ns name body b hb) na nb
 
 acts_agree : (action : Action) (req : Req) (a b : RouteNo) → Refuses action req a → Refuses action req b → a ≢ route_no.Memory → b ≢ route_no.Memory → a ≡ b
+acts_agree (Describe text) req a b ha hb na nb = absurd ha
 acts_agree (Read r ns) req a b ha hb na nb = read_agrees r ns req.params a b (read_tells r ns req.params a ha) (read_tells r ns req.params b hb) na nb
 acts_agree (Create r ns) req a b ha hb na nb = body_agrees r ns None req.body a b ha hb na nb
 acts_agree (Get r ns name) req a b ha hb na nb =
@@ -400,7 +482,8 @@ PlaceTells req fault =
 abbrev pub Refusal : Req → RouteNo → Type 0
 Refusal req fault = ((fault ≡ route_no.NoPath) × ((place : Place) → Names req.path place → ⊥)) ⊎ ((fault ≡ route_no.Memory) ⊎ PlaceTells req fault)
 
-refusal_is : (req : Req) (fault : RouteNo) → IsRefusal req fault → Refusal req fault
+refusal_is : (req : Req) (fault : RouteNo) → RefusesAtPath req fault → Refusal req fault
+refusal_is req route_no.ForeignSite is = absurd is
 refusal_is req route_no.NoPath is = inl (refl, is)
 refusal_is req route_no.Memory is = inr (inl refl)
 refusal_is req route_no.NoMethod is = inr (inr (inl (refl, is.0, is.1, is.2)))
@@ -414,8 +497,26 @@ refusal_is req (route_no.Transaction why) is = inr (inr (inr is))
 pub same_action : (req : Req) (p q : Place) (a b : Option Action) → Names req.path p → Names req.path q → action_at p req.method ≡ a → action_at q req.method ≡ b → a ≡ b
 same_action req p q a b np nq ea eb = sym ea ∙ ap (λ place. action_at place req.method) (one_place req.path p q np nq) ∙ eb
 
-pub routes_are_not_refused : RoutesAreNotRefused
-routes_are_not_refused req answer fault route refused = by_refusal (refusal_is req fault refused)
+-- a refusal: of a browser's request for another site, or of what the path and the rest ask for
+sited : (req : Req) (fault : RouteNo) → IsRefusal req fault → ((fault ≡ route_no.ForeignSite) × (req.foreign ≡ true)) ⊎ ((req.foreign ≡ false) × RefusesAtPath req fault)
+sited req route_no.ForeignSite is = inl (refl, is)
+sited req route_no.NoPath is = inr is
+sited req route_no.NoMethod is = inr is
+sited req (route_no.Selector why) is = inr is
+sited req (route_no.List why) is = inr is
+sited req (route_no.Watch why) is = inr is
+sited req (route_no.Object why) is = inr is
+sited req route_no.Operation is = inr is
+sited req (route_no.Transaction why) is = inr is
+sited req route_no.Memory is = inr is
+
+-- a request isn't both
+own_or_not : {P : Type 0} (b : Bool) → b ≡ true → b ≡ false → P
+own_or_not true foreign own = absurd (cc)
+own_or_not false foreign own = absurd (cc)
+
+asked_excludes : (req : Req) (answer : Routed) (fault : RouteNo) → AsksAtPath req answer → RefusesAtPath req fault → fault ≡ route_no.Memory
+asked_excludes req answer fault route refused = by_refusal (refusal_is req fault refused)
   where
     by_refusal : Refusal req fault → fault ≡ route_no.Memory
     by_refusal (inl none) = absurd (none.1 route.0 route.2)
@@ -425,8 +526,14 @@ routes_are_not_refused req answer fault route refused = by_refusal (refusal_is r
         let same : act.1 ≡ route.1 = same_Some act.1 route.1 (same_action req act.0 route.0 (Some act.1) (Some route.1) act.2 route.2 act.3 route.3) in
         acts_exclude route.1 req answer fault route.4 (subst (λ action. Refuses action req fault) same act.4)
 
-pub refusals_agree : RefusalsAgree
-refusals_agree req a b ra rb na nb = by_refusals (refusal_is req a ra) (refusal_is req b rb)
+pub routes_are_not_refused : RoutesAreNotRefused
+routes_are_not_refused req answer fault (own, route) refused = elim (sited req fault refused) [
+  | inl other ↦ own_or_not req.foreign other.1 own
+  | inr at ↦ asked_excludes req answer fault route at.1
+]
+
+asked_agree : (req : Req) (a b : RouteNo) → RefusesAtPath req a → RefusesAtPath req b → a ≢ route_no.Memory → b ≢ route_no.Memory → a ≡ b
+asked_agree req a b ra rb na nb = by_refusals (refusal_is req a ra) (refusal_is req b rb)
   where
     places : PlaceTells req a → PlaceTells req b → a ≡ b
     places (inl x) (inl y) = x.0 ∙ sym y.0
@@ -451,3 +558,13 @@ refusals_agree req a b ra rb na nb = by_refusals (refusal_is req a ra) (refusal_
     by_refusals (inl x) (inr (inr y)) = let n = named_too y in absurd (x.1 n.0 n.1)
     by_refusals (inr (inr x)) (inl y) = let n = named x in absurd (y.1 n.0 n.1)
     by_refusals (inr (inr x)) (inr (inr y)) = places x y
+
+pub refusals_agree : RefusalsAgree
+refusals_agree req a b ra rb na nb = both (sited req a ra) (sited req b rb)
+  where
+    both : ((a ≡ route_no.ForeignSite) × (req.foreign ≡ true)) ⊎ ((req.foreign ≡ false) × RefusesAtPath req a)
+        → ((b ≡ route_no.ForeignSite) × (req.foreign ≡ true)) ⊎ ((req.foreign ≡ false) × RefusesAtPath req b) → a ≡ b
+    both (inl x) (inl y) = x.0 ∙ sym y.0
+    both (inl x) (inr y) = own_or_not req.foreign x.1 y.0
+    both (inr x) (inl y) = own_or_not req.foreign y.1 x.0
+    both (inr x) (inr y) = asked_agree req a b x.1 y.1 na nb

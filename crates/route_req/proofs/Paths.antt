@@ -1,27 +1,20 @@
 -- How a path is looked up, and the table of paths: what is found has that path, and what has a path is found.
-use Rattle.std.proofs.Common.{◌≡◌, ◌==◌, arith, length, ℕ, Bool, true, false, cond, ◌&&◌, ◌⊎◌, inl, inr, List, [], ◌∷◌, ◌++◌, codes, Option, Some, None, option_map, option_and_then, bytes_eq, refl, sym, ap, subst, ◌∙◌}
+use Rattle.std.proofs.Common.{◌≡◌, ◌==◌, arith, length, ℕ, true, cond, ◌&&◌, ◌⊎◌, inl, inr, List, [], ◌∷◌, ◌++◌, codes, Option, Some, None, option_map, option_and_then, bytes_eq, refl, sym, ap, subst, ◌∙◌}
 use Rattle.std.specs.Option.{option_map_or}
 use Rattle.std.proofs.lemmas.Bool.{and_parts, and_from, cond-true, cond-false, ne_eqb}
 use Rattle.std.proofs.lemmas.Option.{none-some, same_Some}
-use Rattle.std.proofs.lemmas.Slice.Eq.{bytes_eq-Decides}
 use Rattle.kube_meta.specs.Names.{is_namespace, is_object_name}
 use Rattle.kube_meta.specs.Resources.{plural_of, group_of, version_of, of_group}
 use Rattle.kube_meta.proofs.ResourceLemmas.{groups}
 use Rattle.kube_meta.specs.declared.resources.Resource.{Resource}
-use Rattle.route_req.specs.Places.{base_by, base_of, path_of, IsPlace, Names, NamesMaybe, PathsNameOnePlace, takes_memory, MayLackMemory}
-use Rattle.route_req.specs.Lookup.{behind, namespaced, named, own_word, own_place, place_behind, core_place, group_place, place_found}
+use Rattle.route_req.specs.Places.{base_by, base_of, path_of, document_path, Names, NamesMaybe, PathsNameOnePlace, takes_memory, MayLackMemory}
+use Rattle.route_req.specs.Lookup.{behind, namespaced, named, own_word, own_place, place_behind, core_place, group_place, api_place, before_slash, document_at, place_found}
+use Rattle.discovery.specs.declared.documents.Document.{Document}
+use Rattle.route_req.proofs.DocumentPaths.{if_found, first_found, same_text, text_found, slashed, text_at_path, text_at_slash, no_text_everywhere, no_text_namespaced, no_text_named}
 use Rattle.route_req.specs.declared.places.Place.{Place}
-use Rattle.route_req.specs.declared.places.Place.TheVariants.{Everywhere, Namespaced, Named, OfCut, OfCompact, OfRestart, OfTransaction}
+use Rattle.route_req.specs.declared.places.Place.TheVariants.{Described, Everywhere, Namespaced, Named, OfCut, OfCompact, OfRestart, OfTransaction}
 
 -- ---- what a look-up that found something looked at
-
-if_found : {A : Type 0} (b : Bool) (o : Option A) (y : A) → cond b o None ≡ Some y → (b ≡ true) × (o ≡ Some y)
-if_found true o y e = (refl, e)
-if_found false o y e = absurd (none-some y e)
-
-first_found : {A : Type 0} (b : Bool) (x : A) (o : Option A) (y : A) → cond b (Some x) o ≡ Some y → ((b ≡ true) × (x ≡ y)) ⊎ (o ≡ Some y)
-first_found true x o y e = inl (refl, same_Some x y e)
-first_found false x o y e = inr e
 
 map_found : {A B : Type 0} (f : A → B) (o : Option A) (y : B) → option_map f o ≡ Some y → (x : A) × (o ≡ Some x) × (f x ≡ y)
 map_found f None y e = absurd (none-some y e)
@@ -34,9 +27,6 @@ next_found f (Some x) y e = (x, refl, e)
 either_found : {A B : Type 0} (f : A → Option B) (o : Option A) (d : Option B) (y : B) → option_map_or f o d ≡ Some y → ((x : A) × (o ≡ Some x) × (f x ≡ Some y)) ⊎ (d ≡ Some y)
 either_found f None d y e = inr e
 either_found f (Some x) d y e = inl (x, refl, e)
-
-same_text : (a b : List ℕ) → bytes_eq a b ≡ true → a ≡ b
-same_text a b = (bytes_eq-Decides a b).0
 
 -- ---- the segments in front
 
@@ -51,7 +41,7 @@ behind_found word (first ∷ more) rest e =
 -- ---- the own paths
 
 moved : (path path' : List (List ℕ)) (p place : Place) → path' ≡ path → p ≡ place → Names path p → Names path' place
-moved path path' p place e f n = (e ∙ n.0 ∙ ap path_of f, subst IsPlace f n.1)
+moved path path' p place e f n = subst (Names path') f (subst (λ q. Names q p) (sym e) n)
 
 own_line : (word own : List ℕ) (p place : Place) → bytes_eq word own ≡ true → p ≡ place → Names (codes "watchcache" ∷ own ∷ []) p → Names (codes "watchcache" ∷ word ∷ []) place
 own_line word own p place same e n =
@@ -146,9 +136,8 @@ group_found (group ∷ []) place e = absurd (none-some place e)
 group_found ([] ∷ version ∷ rest) place e = absurd (none-some place e)
 group_found ((first ∷ more) ∷ version ∷ rest) place e = found_behind (first ∷ more) version rest place (sym (with_name first more (place_behind (first ∷ more) version rest)) ∙ e)
 
--- the place that is found has the path
-named_by : (path : List (List ℕ)) (place : Place) → place_found path ≡ Some place → Names path place
-named_by path place e =
+api_named_by : (path : List (List ℕ)) (place : Place) → api_place path ≡ Some place → Names path place
+api_named_by path place e =
     elim (either_found own_place (behind (codes "watchcache") path) _ place e) [
       | inl p ↦ subst (λ q. Names q place) (sym (behind_found (codes "watchcache") path p.0 p.1)) (own_found p.0 place p.2)
       | inr e1 ↦ elim (either_found core_place (behind (codes "api") path) _ place e1) [
@@ -159,30 +148,58 @@ named_by path place e =
       ]
     ]
 
+-- a text that describes the server is found by its path, which may have a slash behind it
+described_by : (path : List (List ℕ)) (text : Document) → document_at (before_slash path) ≡ Some text → Names path (Described text)
+described_by path text e =
+    let has = text_found (before_slash path) text e in
+    elim (slashed path) as (λ _. Names path (Described text)) [
+      | inl plain ↦ (inl (plain ∙ has.0), has.1)
+      | inr behind ↦ (inr (behind ∙ ap (λ p. p ++ [] ∷ []) has.0), has.1)
+    ]
+
+-- the place that is found has the path
+named_by : (path : List (List ℕ)) (place : Place) → place_found path ≡ Some place → Names path place
+named_by path place e =
+    elim (either_found (λ text. Some (Described text)) (document_at (before_slash path)) (api_place path) place e) [
+      | inl p ↦ subst (Names path) (same_Some (Described p.0) place p.2) (described_by path p.0 p.1)
+      | inr other ↦ api_named_by path place other
+    ]
+
 -- the place that has the path is found
-behind_base : (group version : List ℕ) (rest : List (List ℕ)) → place_found (base_by group version ++ rest) ≡ place_behind group version rest
+behind_base : (group version : List ℕ) (rest : List (List ℕ)) → api_place (base_by group version ++ rest) ≡ place_behind group version rest
 behind_base [] version rest = refl
 behind_base (first ∷ more) version rest = with_name first more (place_behind (first ∷ more) version rest)
 
 of_names : (r : Resource) → of_group (group_of r) (version_of r) (plural_of r) ≡ Some r
 of_names r = (groups (group_of r) (version_of r) (plural_of r) r).1 (refl, refl, refl)
 
-path_found : (place : Place) → IsPlace place → place_found (path_of place) ≡ Some place
-path_found (Everywhere r) h = behind_base (group_of r) (version_of r) (plural_of r ∷ []) ∙ ap (option_map (λ r. Everywhere r)) (of_names r)
-path_found (Namespaced r ns) h =
-    behind_base (group_of r) (version_of r) (codes "namespaces" ∷ ns ∷ plural_of r ∷ [])
-    ∙ ap (namespaced (codes "namespaces") ns) (of_names r) ∙ cond-true (is_namespace ns) (Some (Namespaced r ns)) None h
-path_found (Named r ns name) h =
-    behind_base (group_of r) (version_of r) (codes "namespaces" ∷ ns ∷ plural_of r ∷ name ∷ [])
-    ∙ ap (λ found. named (codes "namespaces") ns found name) (of_names r)
-    ∙ cond-true (is_namespace ns && is_object_name name) (Some (Named r ns name)) None (and_from (is_namespace ns) (is_object_name name) h.0 h.1)
-path_found OfCut h = refl
-path_found OfCompact h = refl
-path_found OfRestart h = refl
-path_found OfTransaction h = refl
+-- a path that is no text's is looked up as all else is
+not_text : (path : List (List ℕ)) (place : Place) → document_at (before_slash path) ≡ None → api_place path ≡ Some place → place_found path ≡ Some place
+not_text path place none e = ap (λ text. option_map_or (λ t. Some (Described t)) text (api_place path)) none ∙ e
 
 found_for : (path : List (List ℕ)) (place : Place) → Names path place → place_found path ≡ Some place
-found_for path place n = ap place_found n.0 ∙ path_found place n.1
+found_for path (Described text) (inl e, h) = ap place_found e ∙ ap (λ found. option_map_or (λ t. Some (Described t)) found (api_place (document_path text))) (text_at_path text h)
+found_for path (Described text) (inr e, h) =
+    ap place_found e ∙ ap (λ found. option_map_or (λ t. Some (Described t)) found (api_place (document_path text ++ [] ∷ []))) (text_at_slash text h)
+found_for path (Everywhere r) (e, h) =
+    ap place_found e
+    ∙ not_text (path_of (Everywhere r)) (Everywhere r) (no_text_everywhere r)
+    (behind_base (group_of r) (version_of r) (plural_of r ∷ []) ∙ ap (option_map (λ r. Everywhere r)) (of_names r))
+found_for path (Namespaced r ns) (e, h) =
+    ap place_found e
+    ∙ not_text (path_of (Namespaced r ns)) (Namespaced r ns) (no_text_namespaced r ns)
+    (behind_base (group_of r) (version_of r) (codes "namespaces" ∷ ns ∷ plural_of r ∷ [])
+    ∙ ap (namespaced (codes "namespaces") ns) (of_names r) ∙ cond-true (is_namespace ns) (Some (Namespaced r ns)) None h)
+found_for path (Named r ns name) (e, h) =
+    ap place_found e
+    ∙ not_text (path_of (Named r ns name)) (Named r ns name) (no_text_named r ns name)
+    (behind_base (group_of r) (version_of r) (codes "namespaces" ∷ ns ∷ plural_of r ∷ name ∷ [])
+    ∙ ap (λ found. named (codes "namespaces") ns found name) (of_names r)
+    ∙ cond-true (is_namespace ns && is_object_name name) (Some (Named r ns name)) None (and_from (is_namespace ns) (is_object_name name) h.0 h.1))
+found_for path OfCut (e, h) = ap place_found e
+found_for path OfCompact (e, h) = ap place_found e
+found_for path OfRestart (e, h) = ap place_found e
+found_for path OfTransaction (e, h) = ap place_found e
 
 looked_up : (path : List (List ℕ)) (found : Option Place) → place_found path ≡ found → NamesMaybe path found
 looked_up path None e = λ place n. none-some place (sym e ∙ found_for path place n)

@@ -35,7 +35,7 @@ use Rattle.json_obj.specs.declared.refusals.ObjNo.TheVariants as object_no
 use Rattle.route_req.specs.Texts as texts
 use Rattle.route_req.specs.Asks.{is_watch, of_selector, of_list, of_object, of_text, wraps_memory, RefusesList, RefusesWatch, RefusesRead, RefusesObject, RefusesGet, RefusesCompact, RefusesTransact, Refuses, IsRefusal}
 use Rattle.route_req.specs.declared.places.Action.{Action}
-use Rattle.route_req.specs.declared.places.Action.TheVariants.{Read, Create, Get, Replace, Remove, Cut, Compact, Restart, Transact}
+use Rattle.route_req.specs.declared.places.Action.TheVariants.{Describe, Read, Create, Get, Replace, Remove, Cut, Compact, Restart, Transact}
 use Rattle.route_req.specs.declared.transactions.TxTextNo.TheVariants as text_no
 use Rattle.route_req.specs.declared.routing.RouteNo.{RouteNo}
 use Rattle.route_req.specs.declared.routing.RouteNo.TheVariants as route_no
@@ -138,6 +138,7 @@ list_plain s params (route_no.List why) is = by_why why is
     by_why ask_no.BadLimit is = refl
     by_why (ask_no.BadContinue token) is = list_told s params (ask_no.BadContinue token) is (λ e. cc)
     by_why ask_no.Memory is = absurd is
+list_plain s params route_no.ForeignSite is = refl
 list_plain s params route_no.NoPath is = refl
 list_plain s params route_no.NoMethod is = refl
 list_plain s params (route_no.Selector why) is = absurd is
@@ -149,6 +150,7 @@ list_plain s params route_no.Memory is = refl
 
 watch_plain : (params : Pairs) (fault : RouteNo) → RefusesWatch params fault → wraps_memory fault ≡ false
 watch_plain params (route_no.Watch why) is = refl
+watch_plain params route_no.ForeignSite is = refl
 watch_plain params route_no.NoPath is = refl
 watch_plain params route_no.NoMethod is = refl
 watch_plain params (route_no.Selector why) is = absurd is
@@ -172,6 +174,7 @@ read_plain r ns params (route_no.List why) is = either_plain (is_watch params) i
 read_plain r ns params (route_no.Watch why) is = refl
 read_plain r ns params (route_no.Object why) is = either_plain (is_watch params) is.0 params (route_no.Object why) is.2
 read_plain r ns params (route_no.Transaction why) is = either_plain (is_watch params) is.0 params (route_no.Transaction why) is.2
+read_plain r ns params route_no.ForeignSite is = refl
 read_plain r ns params route_no.NoPath is = refl
 read_plain r ns params route_no.NoMethod is = refl
 read_plain r ns params route_no.Operation is = refl
@@ -184,6 +187,7 @@ body_plain r ns name body (route_no.Object object_no.TooDeep) is = refl
 body_plain r ns name body (route_no.Object object_no.WrongKind) is = refl
 body_plain r ns name body (route_no.Object object_no.BadMeta) is = refl
 body_plain r ns name body (route_no.Object object_no.Memory) is = absurd is
+body_plain r ns name body route_no.ForeignSite is = refl
 body_plain r ns name body route_no.NoPath is = refl
 body_plain r ns name body route_no.NoMethod is = refl
 body_plain r ns name body (route_no.Selector why) is = absurd is
@@ -207,6 +211,7 @@ get_plain params (route_no.List why) is = by_why why is
     by_why ask_no.BadLimit is = refl
     by_why (ask_no.BadContinue token) is = get_told (number_of (given (codes "resourceVersion") params)) (ask_no.BadContinue token) is
     by_why ask_no.Memory is = absurd is
+get_plain params route_no.ForeignSite is = refl
 get_plain params route_no.NoPath is = refl
 get_plain params route_no.NoMethod is = refl
 get_plain params (route_no.Selector why) is = absurd is
@@ -227,6 +232,7 @@ text_plain body (route_no.Transaction (text_no.BadItem i)) is = refl
 text_plain body (route_no.Transaction (text_no.BadObject i why)) is = item_told i why (object_told is.1 why is.4)
 text_plain body (route_no.Transaction (text_no.Repeated i)) is = refl
 text_plain body (route_no.Transaction text_no.Memory) is = absurd is
+text_plain body route_no.ForeignSite is = refl
 text_plain body route_no.NoPath is = refl
 text_plain body route_no.NoMethod is = refl
 text_plain body (route_no.Selector why) is = absurd is
@@ -238,6 +244,7 @@ text_plain body route_no.Memory is = refl
 
 compact_plain : (params : Pairs) (fault : RouteNo) → RefusesCompact params fault → wraps_memory fault ≡ false
 compact_plain params route_no.Operation is = refl
+compact_plain params route_no.ForeignSite is = refl
 compact_plain params route_no.NoPath is = refl
 compact_plain params route_no.NoMethod is = refl
 compact_plain params (route_no.Selector why) is = absurd is
@@ -248,6 +255,7 @@ compact_plain params (route_no.Transaction why) is = absurd is
 compact_plain params route_no.Memory is = refl
 
 pub act_plain : (action : Action) (req : Req) (fault : RouteNo) → Refuses action req fault → wraps_memory fault ≡ false
+act_plain (Describe text) req fault is = absurd is
 act_plain (Read r ns) req fault is = read_plain r ns req.params fault is
 act_plain (Create r ns) req fault is = body_plain r ns None req.body fault is
 act_plain (Get r ns name) req fault is = get_plain req.params fault is
@@ -259,12 +267,13 @@ act_plain Restart req fault is = absurd is
 act_plain Transact req fault is = text_plain req.body fault is
 
 pub refusals_are_plain : (req : Req) (fault : RouteNo) → IsRefusal req fault → wraps_memory fault ≡ false
+refusals_are_plain req route_no.ForeignSite is = refl
 refusals_are_plain req route_no.NoPath is = refl
 refusals_are_plain req route_no.NoMethod is = refl
 refusals_are_plain req route_no.Memory is = refl
 refusals_are_plain req route_no.Operation is = refl
 refusals_are_plain req (route_no.Watch why) is = refl
-refusals_are_plain req (route_no.Selector why) is = act_plain is.1 req (route_no.Selector why) is.4
-refusals_are_plain req (route_no.List why) is = act_plain is.1 req (route_no.List why) is.4
-refusals_are_plain req (route_no.Object why) is = act_plain is.1 req (route_no.Object why) is.4
-refusals_are_plain req (route_no.Transaction why) is = act_plain is.1 req (route_no.Transaction why) is.4
+refusals_are_plain req (route_no.Selector why) (own, is) = act_plain is.1 req (route_no.Selector why) is.4
+refusals_are_plain req (route_no.List why) (own, is) = act_plain is.1 req (route_no.List why) is.4
+refusals_are_plain req (route_no.Object why) (own, is) = act_plain is.1 req (route_no.Object why) is.4
+refusals_are_plain req (route_no.Transaction why) (own, is) = act_plain is.1 req (route_no.Transaction why) is.4

@@ -30,7 +30,7 @@ use Rattle.route_req.specs.Places.{Names, action_at, MayLackMemory}
 use Rattle.route_req.specs.Texts.{AsksTransaction, RefusesText}
 use Rattle.route_req.specs.declared.places.Place.{Place}
 use Rattle.route_req.specs.declared.places.Action.{Action}
-use Rattle.route_req.specs.declared.places.Action.TheVariants.{Read, Create, Get, Replace, Remove, Cut, Compact, Restart, Transact}
+use Rattle.route_req.specs.declared.places.Action.TheVariants.{Describe, Read, Create, Get, Replace, Remove, Cut, Compact, Restart, Transact}
 use Rattle.route_req.specs.declared.transactions.TxTextNo.{TxTextNo}
 use Rattle.route_req.specs.declared.transactions.TxTextNo.TheVariants as text_no
 use Rattle.route_req.specs.declared.routing.Routed.{Routed}
@@ -57,48 +57,58 @@ RefusesBody r ns name body fault = (d : Data) × IsTextOf body d × (refusal r n
 
 -- ---- what is asked for at a place that has the method
 
+-- a list of this selection, of the page and at the revision that the parameters ask for
 abbrev pub AsksList : Selection → Pairs → Routed → Type 0
 AsksList s params (routed.List ask) = ask_of s params ≡ Ok ask
 AsksList s params answer = ⊥
 
+-- a watch of this selection, which starts and ends as the parameters ask for
 abbrev pub AsksWatch : Selection → Pairs → Routed → Type 0
 AsksWatch s params (routed.Watch ask) = MeansWatch s params ask
 AsksWatch s params answer = ⊥
 
+-- a read of a resource's collection: a watch or a list of what its two selectors select there
 abbrev pub AsksRead : Resource → Option (List ℕ) → Pairs → Routed → Type 0
 AsksRead r ns params answer =
     (s : Selection) × IsSelection r ns params s
     × MatchBool (is_watch params) (AsksWatch s params answer) (AsksList s params answer)
 
+-- a create, in the path's namespace, of the object that the body holds: it has a name, and gives no revision
 abbrev pub AsksCreate : Resource → List ℕ → List ℕ → Routed → Type 0
 AsksCreate r ns body (routed.Write (write.Create resource obj)) =
     (resource ≡ r) × (d : Data) × IsTextOf body d × (refusal r ns None d ≡ None) × IsObjectOf r ns d obj
 AsksCreate r ns body answer = ⊥
 
+-- a replacement of the object that the path names by the one in the body, which may give the revision that was seen
 abbrev pub AsksReplace : Resource → List ℕ → List ℕ → List ℕ → Routed → Type 0
 AsksReplace r ns name body (routed.Write (write.Replace resource obj revision)) =
     (resource ≡ r) × (d : Data) × IsTextOf body d × (refusal r ns (Some name) d ≡ None) × Stores r ns d (obj, revision)
 AsksReplace r ns name body answer = ⊥
 
--- on one object `watch` and the body are ignored
+-- a get of the object that the path names, by `resourceVersion` alone; `watch` and the body are ignored
 abbrev pub AsksGet : Resource → List ℕ → List ℕ → Pairs → Routed → Type 0
 AsksGet r ns name params (routed.Get ask) =
     (ask.resource ≡ r) × (ask.key ≡ joined ns name)
     × (of_get (number_of (given (codes "resourceVersion") params)) ≡ Ok ask.meaning)
 AsksGet r ns name params answer = ⊥
 
+-- a compaction up to the revision in the parameter `revision`; the body is ignored
 abbrev pub AsksCompact : Pairs → Routed → Type 0
 AsksCompact params (routed.Operate (operate.Compact at)) = compacts_at params ≡ Some (Ok at)
 AsksCompact params answer = ⊥
 
+-- a transaction of the writes that the body lists
 abbrev pub AsksTransact : List ℕ → Routed → Type 0
 AsksTransact body (routed.Transact transaction) = AsksTransaction body transaction
 AsksTransact body answer = ⊥
 
+-- a removal of the object that the path names, whatever its revision; the parameters and the body are ignored
 abbrev pub AsksRemove : Resource → List ℕ → List ℕ → Routed → Type 0
 AsksRemove r ns name answer = answer ≡ routed.Write (write.Remove r (joined ns name))
 
+-- what a request is for, of which its path and its method have said the action already
 abbrev pub Asks : Action → Req → Routed → Type 0
+Asks (Describe text) req answer = answer ≡ routed.Describe text
 Asks (Read r ns) req answer = AsksRead r ns req.params answer
 Asks (Create r ns) req answer = AsksCreate r ns req.body answer
 Asks (Get r ns name) req answer = AsksGet r ns name req.params answer
@@ -124,17 +134,19 @@ abbrev pub refused_transaction : TxTextNo → RouteNo
 refused_transaction text_no.Memory = route_no.Memory
 refused_transaction fault = route_no.Transaction fault
 
+-- why a list of this selection is refused: for its options or its token, or for want of memory
 abbrev pub RefusesList : Selection → Pairs → RouteNo → Type 0
 RefusesList s params (route_no.List ask_no.Memory) = ⊥
 RefusesList s params (route_no.List fault) = ask_of s params ≡ Err fault
 RefusesList s params route_no.Memory = Unit {0}
 RefusesList s params fault = ⊥
 
+-- why a watch is refused: for the first fault of its options, whose reading takes no memory
 abbrev pub RefusesWatch : Pairs → RouteNo → Type 0
 RefusesWatch params (route_no.Watch fault) = first_fault params ≡ Some fault
 RefusesWatch params fault = ⊥
 
--- the selectors first, then the options of the watch or of the list
+-- why a read of a collection is refused: for its selectors first, then for the options of the watch or of the list
 abbrev pub RefusesRead : Resource → Option (List ℕ) → Pairs → RouteNo → Type 0
 RefusesRead r ns params (route_no.Selector select_no.Memory) = ⊥
 RefusesRead r ns params (route_no.Selector fault) =
@@ -149,30 +161,36 @@ abbrev pub refused_object : ObjNo → RouteNo
 refused_object object_no.Memory = route_no.Memory
 refused_object fault = route_no.Object fault
 
+-- why a create or a replacement isn't tried: its body holds no object for the path, or there was no memory
 abbrev pub RefusesObject : Resource → List ℕ → Option (List ℕ) → List ℕ → RouteNo → Type 0
 RefusesObject r ns name body (route_no.Object object_no.Memory) = ⊥
 RefusesObject r ns name body (route_no.Object fault) = RefusesBody r ns name body fault
 RefusesObject r ns name body route_no.Memory = Unit {0}
 RefusesObject r ns name body fault = ⊥
 
+-- why a get isn't tried: its `resourceVersion` is no revision, or there was no memory
 abbrev pub RefusesGet : Pairs → RouteNo → Type 0
 RefusesGet params (route_no.List ask_no.Memory) = ⊥
 RefusesGet params (route_no.List fault) = of_get (number_of (given (codes "resourceVersion") params)) ≡ Err fault
 RefusesGet params route_no.Memory = Unit {0}
 RefusesGet params fault = ⊥
 
--- the parameter is absent or is no revision
+-- why a compaction isn't tried: the parameter `revision` is absent or is no revision
 abbrev pub RefusesCompact : Pairs → RouteNo → Type 0
 RefusesCompact params route_no.Operation = (at : ℕ) → ¬ (compacts_at params ≡ Some (Ok at))
 RefusesCompact params fault = ⊥
 
+-- why a transaction isn't tried: the first fault of its text, or want of memory
 abbrev pub RefusesTransact : List ℕ → RouteNo → Type 0
 RefusesTransact body (route_no.Transaction text_no.Memory) = ⊥
 RefusesTransact body (route_no.Transaction fault) = RefusesText body fault
 RefusesTransact body route_no.Memory = Unit {0}
 RefusesTransact body fault = ⊥
 
+-- why a request is refused although its path and its method say an action; what describes the server, a cut and a restart
+-- never are
 abbrev pub Refuses : Action → Req → RouteNo → Type 0
+Refuses (Describe text) req fault = ⊥
 Refuses (Read r ns) req fault = RefusesRead r ns req.params fault
 Refuses (Create r ns) req fault = RefusesObject r ns None req.body fault
 Refuses (Get r ns name) req fault = RefusesGet req.params fault
@@ -183,39 +201,55 @@ Refuses Compact req fault = RefusesCompact req.params fault
 Refuses Restart req fault = ⊥
 Refuses Transact req fault = RefusesTransact req.body fault
 
--- ---- the whole: the path before the method, and both before all else
+-- ---- the path before the method, and both before all else
 
--- the route of what the path names and the method asks for there
-abbrev pub IsRoute : Req → Routed → Type 0
-IsRoute req answer =
+-- what the path names and the method asks for there
+abbrev pub AsksAtPath : Req → Routed → Type 0
+AsksAtPath req answer =
     (place : Place) × (action : Action) × Names req.path place × (action_at place req.method ≡ Some action) × Asks action req answer
 
 -- no place has the path; or the place that has it hasn't the method; or there was no memory; or what the method asks for
 -- there is refused
-abbrev pub IsRefusal : Req → RouteNo → Type 0
-IsRefusal req route_no.NoPath = (place : Place) → ¬ (Names req.path place)
-IsRefusal req route_no.NoMethod = (place : Place) × Names req.path place × (action_at place req.method ≡ None)
-IsRefusal req route_no.Memory = MayLackMemory req.path
-IsRefusal req fault =
+abbrev pub RefusesAtPath : Req → RouteNo → Type 0
+RefusesAtPath req route_no.NoPath = (place : Place) → ¬ (Names req.path place)
+RefusesAtPath req route_no.NoMethod = (place : Place) × Names req.path place × (action_at place req.method ≡ None)
+RefusesAtPath req route_no.Memory = MayLackMemory req.path
+RefusesAtPath req route_no.ForeignSite = ⊥
+RefusesAtPath req fault =
     (place : Place) × (action : Action) × Names req.path place × (action_at place req.method ≡ Some action) × Refuses action req fault
+
+-- ---- the whole: for whom the request was made before all else
+
+-- the route of a request that no browser made for another site: what its path names and its method asks for there
+abbrev pub IsRoute : Req → Routed → Type 0
+IsRoute req answer = (req.foreign ≡ false) × AsksAtPath req answer
+
+-- a browser made it for another site; or it didn't, and the first of the other reasons holds
+abbrev pub IsRefusal : Req → RouteNo → Type 0
+IsRefusal req route_no.ForeignSite = req.foreign ≡ true
+IsRefusal req fault = (req.foreign ≡ false) × RefusesAtPath req fault
 
 -- ---- want of memory is told by itself, and is no reason within another refusal
 
+-- the refusal of a selection is want of memory: of its labels, of its fields, or of the whole
 abbrev pub of_selector : SelNo → Bool
 of_selector (select_no.Label label_no.Memory) = true
 of_selector (select_no.Field field_no.Memory) = true
 of_selector select_no.Memory = true
 of_selector fault = false
 
+-- the refusal of a list's options is want of memory, be it in reading the token
 abbrev pub of_list : AskNo → Bool
 of_list (ask_no.BadContinue token_no.Memory) = true
 of_list ask_no.Memory = true
 of_list fault = false
 
+-- the refusal of a body's object is want of memory
 abbrev pub of_object : ObjNo → Bool
 of_object object_no.Memory = true
 of_object fault = false
 
+-- the refusal of a transaction's text is want of memory, be it for the object of an item
 abbrev pub of_text : TxTextNo → Bool
 of_text (text_no.BadObject index object_no.Memory) = true
 of_text text_no.Memory = true

@@ -1,13 +1,17 @@
--- Which paths and methods are served: those of the Kubernetes API for the resources ("Resource URIs" of the API concepts), and four of the server's own.
-use Rattle.std.specs.Prelude.{◌≡◌, ℕ, Bool, true, false, IsTrue, List, [], ◌∷◌, ◌++◌, codes, Option, Some, None, if◌then◌else◌}
+-- Which paths and methods are served: those of the Kubernetes API for the resources ("Resource URIs" of the API concepts)
+-- and for what describes the server ("Discovery", "API health endpoints"), and four of the server's own.
+use Rattle.std.specs.Prelude.{◌≡◌, ◌⊎◌, ℕ, Bool, true, false, IsTrue, List, [], ◌∷◌, ◌++◌, codes, Option, Some, None, if◌then◌else◌}
 use Rattle.std.specs.Str.{bytes_eq}
 use Rattle.kube_meta.specs.Names.{IsNamespace, IsObjectName}
 use Rattle.kube_meta.specs.Resources.{plural_of, group_of, version_of}
 use Rattle.kube_meta.specs.declared.resources.Resource.{Resource}
+use Rattle.discovery.specs.declared.documents.Document.{Document}
+use Rattle.discovery.specs.declared.documents.Document.TheVariants as document
+use Rattle.discovery.specs.declared.documents.Probe.TheVariants as probe
 use Rattle.route_req.specs.declared.places.Place.{Place}
-use Rattle.route_req.specs.declared.places.Place.TheVariants.{Everywhere, Namespaced, Named, OfCut, OfCompact, OfRestart, OfTransaction}
+use Rattle.route_req.specs.declared.places.Place.TheVariants.{Described, Everywhere, Namespaced, Named, OfCut, OfCompact, OfRestart, OfTransaction}
 use Rattle.route_req.specs.declared.places.Action.{Action}
-use Rattle.route_req.specs.declared.places.Action.TheVariants.{Read, Create, Get, Replace, Remove, Cut, Compact, Restart, Transact}
+use Rattle.route_req.specs.declared.places.Action.TheVariants.{Describe, Read, Create, Get, Replace, Remove, Cut, Compact, Restart, Transact}
 
 -- ---- the table of paths
 
@@ -17,12 +21,27 @@ abbrev pub base_by : List ℕ → List ℕ → List (List ℕ)
 base_by [] version = codes "api" ∷ version ∷ []
 base_by (first ∷ more) version = codes "apis" ∷ (first ∷ more) ∷ version ∷ []
 
+-- what the paths of a resource begin with, by its group and its version
 abbrev pub base_of : Resource → List (List ℕ)
 base_of r = base_by (group_of r) (version_of r)
+
+-- the path of each text that describes the server, in segments
+abbrev pub document_path : Document → List (List ℕ)
+document_path document.Version = codes "version" ∷ []
+document_path document.CoreVersions = codes "api" ∷ []
+document_path document.Groups = codes "apis" ∷ []
+document_path document.AppsGroup = codes "apis" ∷ codes "apps" ∷ []
+document_path document.CoreResources = codes "api" ∷ codes "v1" ∷ []
+document_path document.AppsResources = codes "apis" ∷ codes "apps" ∷ codes "v1" ∷ []
+document_path (document.Namespace ns) = codes "api" ∷ codes "v1" ∷ codes "namespaces" ∷ ns ∷ []
+document_path (document.Probe probe.Livez) = codes "livez" ∷ []
+document_path (document.Probe probe.Readyz) = codes "readyz" ∷ []
+document_path (document.Probe probe.Healthz) = codes "healthz" ∷ []
 
 -- the path of each place, in segments: behind the base path /{resource}, /namespaces/{ns}/{resource} and
 -- /namespaces/{ns}/{resource}/{name}; and /watchcache/cut, /compact, /restart and /transaction
 abbrev pub path_of : Place → List (List ℕ)
+path_of (Described text) = document_path text
 path_of (Everywhere r) = base_of r ++ plural_of r ∷ []
 path_of (Namespaced r ns) = base_of r ++ codes "namespaces" ∷ ns ∷ plural_of r ∷ []
 path_of (Named r ns name) = base_of r ++ codes "namespaces" ∷ ns ∷ plural_of r ∷ name ∷ []
@@ -31,8 +50,20 @@ path_of OfCompact = codes "watchcache" ∷ codes "compact" ∷ []
 path_of OfRestart = codes "watchcache" ∷ codes "restart" ∷ []
 path_of OfTransaction = codes "watchcache" ∷ codes "transaction" ∷ []
 
--- its namespace and its name, where it has them, are in the grammars
+-- the path is that of the place; a text that describes the server has it with a slash behind it too, which is an empty
+-- last segment
+abbrev pub IsPathOf : List (List ℕ) → Place → Type 0
+IsPathOf path (Described text) = (path ≡ document_path text) ⊎ (path ≡ document_path text ++ [] ∷ [])
+IsPathOf path place = path ≡ path_of place
+
+-- the namespace that is described, if it is one, is in the grammar of such names
+abbrev pub IsDocument : Document → Type 0
+IsDocument (document.Namespace ns) = IsNamespace ns
+IsDocument text = Unit {0}
+
+-- the namespace and the name that a place has are in the grammars of such names
 abbrev pub IsPlace : Place → Type 0
+IsPlace (Described text) = IsDocument text
 IsPlace (Everywhere r) = Unit {0}
 IsPlace (Namespaced r ns) = IsNamespace ns
 IsPlace (Named r ns name) = IsNamespace ns × IsObjectName name
@@ -41,9 +72,9 @@ IsPlace OfCompact = Unit {0}
 IsPlace OfRestart = Unit {0}
 IsPlace OfTransaction = Unit {0}
 
--- the path is that of the place
+-- the path names the place
 abbrev pub Names : List (List ℕ) → Place → Type 0
-Names path place = (path ≡ path_of place) × IsPlace place
+Names path place = IsPathOf path place × IsPlace place
 
 -- the place that the path names, or none where it names none
 abbrev pub NamesMaybe : List (List ℕ) → Option Place → Type 0
@@ -62,6 +93,7 @@ posted action method = if bytes_eq method (codes "POST") then Some action else N
 
 -- what a method asks for at a place, if the place has it
 abbrev pub action_at : Place → List ℕ → Option Action
+action_at (Described text) method = if bytes_eq method (codes "GET") then Some (Describe text) else None
 action_at (Everywhere r) method = if bytes_eq method (codes "GET") then Some (Read r None) else None
 action_at (Namespaced r ns) method =
     if bytes_eq method (codes "GET") then Some (Read r (Some ns)) else
@@ -77,6 +109,7 @@ action_at OfTransaction method = posted Transact method
 
 -- the namespace and the name of what is asked for are in the grammars
 abbrev pub IsAction : Action → Type 0
+IsAction (Describe text) = IsDocument text
 IsAction (Read r ns) = Unit {0}
 IsAction (Create r ns) = IsNamespace ns
 IsAction (Get r ns name) = IsNamespace ns × IsObjectName name
@@ -89,8 +122,14 @@ IsAction Transact = Unit {0}
 
 -- ---- memory
 
--- the places whose requests may fail for want of memory: not the operations, which take none
+-- what describes a namespace keeps its name
+abbrev pub keeps_name : Document → Bool
+keeps_name (document.Namespace ns) = true
+keeps_name text = false
+
+-- the places whose requests may fail for want of memory: not the operations, nor all else that keeps no name
 abbrev pub takes_memory : Place → Bool
+takes_memory (Described text) = keeps_name text
 takes_memory (Everywhere r) = true
 takes_memory (Namespaced r ns) = true
 takes_memory (Named r ns name) = true
@@ -99,6 +138,6 @@ takes_memory OfCompact = false
 takes_memory OfRestart = false
 takes_memory OfTransaction = true
 
--- the path names one of these
+-- a request with this path may fail for want of memory: it names a place whose requests take some
 abbrev pub MayLackMemory : List (List ℕ) → Type 0
 MayLackMemory path = (place : Place) × Names path place × IsTrue (takes_memory place)

@@ -26,9 +26,11 @@ use Rattle.route_req.specs.declared.transactions.TxTextNo.TheVariants.{NotJson, 
 
 -- ---- the members of an item
 
+-- what an item says at the member `name`, if it has that and it is a text
 abbrev pub text_at : List ℕ → Data → Option (List ℕ)
 text_at name d = option_and_then as_str (get name d)
 
+-- the operation that a word stands for; capitals count
 abbrev pub operation_named : List ℕ → Option Operation
 operation_named text =
     if bytes_eq text (codes "create") then Some operation.Create else
@@ -43,18 +45,23 @@ checked test text = if test text then Some text else None
 abbrev pub checked_object : Data → Option Data
 checked_object d = if is_some (as_object d) then Some d else None
 
+-- which write an item is, by its member `op`
 abbrev pub operation_in : Data → Option Operation
 operation_in d = option_and_then operation_named (text_at (codes "op") d)
 
+-- of which resource an item's object is, by its member `resource`: the plural, as in paths
 abbrev pub resource_in : Data → Option Resource
 resource_in d = option_and_then of_plural (text_at (codes "resource") d)
 
+-- in which namespace an item's object is, by its member `namespace`, which has to be in the grammar
 abbrev pub namespace_in : Data → Option (List ℕ)
 namespace_in d = option_and_then (checked is_namespace) (text_at (codes "namespace") d)
 
+-- the name of the object that an item replaces or removes, by its member `name`, which has to be in the grammar
 abbrev pub name_in : Data → Option (List ℕ)
 name_in d = option_and_then (checked is_object_name) (text_at (codes "name") d)
 
+-- what an item creates, or puts in place of another: its member `object`, which has to be a JSON object
 abbrev pub object_in : Data → Option Data
 object_in d = option_and_then checked_object (get (codes "object") d)
 
@@ -71,14 +78,14 @@ is_item d = is_some (resource_in d) && (is_some (namespace_in d) && has_rest (op
 
 -- ---- what an item asks for
 
--- a create of the object
+-- the item is of a create of this object, in this namespace
 pub record Creates (d : Data) (r : Resource) (ns : List ℕ) (o : Data) : Type 0 where
   pub op : operation_in d ≡ Some operation.Create
   pub resource : resource_in d ≡ Some r
   pub namespace : namespace_in d ≡ Some ns
   pub «object» : object_in d ≡ Some o
 
--- a replacement at the name
+-- the item is of a replacement of the object with this name by this one, in this namespace
 pub record Replaces (d : Data) (r : Resource) (ns name : List ℕ) (o : Data) : Type 0 where
   pub op : operation_in d ≡ Some operation.Replace
   pub resource : resource_in d ≡ Some r
@@ -86,6 +93,7 @@ pub record Replaces (d : Data) (r : Resource) (ns name : List ℕ) (o : Data) : 
   pub name_is : name_in d ≡ Some name
   pub «object» : object_in d ≡ Some o
 
+-- the write that an item asks for; its members say what the method, the path and the body of a single write say
 abbrev pub AsksItem : Data → WriteAsk → Type 0
 AsksItem d (Create r obj) =
     (ns : List ℕ) × (o : Data) × Creates d r ns o × (members_refusal r ns None o ≡ None) × IsObjectOf r ns o obj
@@ -96,7 +104,7 @@ AsksItem d (Remove r key) =
     (ns : List ℕ) × (name : List ℕ) × (operation_in d ≡ Some operation.Remove) × (resource_in d ≡ Some r)
     × (namespace_in d ≡ Some ns) × (name_in d ≡ Some name) × (key ≡ joined ns name)
 
--- its object is refused
+-- an item's object can't be stored there, because of its kind or its metadata, as the body of a single write couldn't
 abbrev pub RefusesObject : Data → ObjNo → Type 0
 RefusesObject d why =
     ((r : Resource) × (ns : List ℕ) × (o : Data) × Creates d r ns o × (members_refusal r ns None o ≡ Some why))
@@ -115,11 +123,11 @@ AskAll (d ∷ ds) (ask ∷ asks) = AsksItem d ask × AskAll ds asks
 abbrev pub IsValue : List ℕ → Data → Type 0
 IsValue body d = IsTextOf body d × (value_refusal d ≡ None)
 
--- and a list of these
+-- the body is one JSON text, a list of these items; it has no float and isn't too deep
 abbrev pub IsList : List ℕ → List Data → Type 0
 IsList body ds = (d : Data) × IsValue body d × (as_array d ≡ Some (items_of ds))
 
--- at least one item, and at most 64
+-- the body is one JSON text, a list of these items, of which there are 1 to 64; it has no float and isn't too deep
 abbrev pub IsListOfItems : List ℕ → List Data → Type 0
 IsListOfItems body ds = IsList body ds × (1 ≤ length ds) × (length ds ≤ 64)
 
@@ -127,11 +135,11 @@ IsListOfItems body ds = IsList body ds × (1 ≤ length ds) × (length ds ≤ 64
 abbrev pub ReachesItem : List Data → ℕ → Data → Type 0
 ReachesItem ds i d = ((asks : List WriteAsk) × AskAll (take i ds) asks) × (slice_get ds i ≡ Some d)
 
--- writes of distinct objects
+-- the body lists these writes, each of another object, in this order
 abbrev pub AsksTransaction : List ℕ → List WriteAsk → Type 0
 AsksTransaction body asks = (ds : List Data) × IsListOfItems body ds × AskAll ds asks × AreTransaction asks
 
--- The first of these that holds, in the order of `TxTextNo`.
+-- Why the text of a transaction is refused: the first of these that holds, in the order of `TxTextNo`.
 abbrev pub RefusesText : List ℕ → TxTextNo → Type 0
 RefusesText body NotJson = (d : Data) → ¬ (IsTextOf body d)
 RefusesText body Float = (d : Data) × IsTextOf body d × (value_refusal d ≡ Some object_no.Float)

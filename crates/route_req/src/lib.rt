@@ -2,6 +2,7 @@
 //! first reason why it has none.
 #![tactic(auto)]
 
+mod documents;
 mod laws;
 mod places;
 mod routing;

@@ -5,11 +5,15 @@ ghost use Rattle.kube_meta.specs.Names.{IsNamespace, IsObjectName};
 ghost use Rattle.route_req.specs.Places as places;
 ghost use Rattle.route_req.specs.Lookup as lookup;
 
+use crate::documents::{before_slash, document_at};
+use discovery::Document;
 use kube_meta::{Memory, Resource, Text, is_namespace, is_object_name};
 
 /// What a path names.
 #[derive(Debug, Drop)]
 pub(crate) enum Place {
+    /// What the server tells of itself.
+    Described(Document),
     /// The objects of a resource, in all namespaces.
     Everywhere(Resource),
     /// The objects of a resource in a namespace.
@@ -29,6 +33,7 @@ pub(crate) enum Place {
 /// What a method asks for at a place: a resource, then a namespace, then a name.
 #[derive(Debug, Drop)]
 pub(crate) enum Action {
+    Describe(Document),
     /// A list or a watch, in one namespace or in all.
     Read(Resource, Option<Text>),
     Create(Resource, Text),
@@ -168,10 +173,21 @@ pub(crate) fn place_at(path: &[Text]) -> Result<Option<Place>, Memory>
     look_up(path)
 }
 
-// The place of a path, of the own ones first.
+// The place of a path, of what describes the server first.
 fn look_up(path: &[Text]) -> Result<Option<Place>, Memory>
     ensures found { IfOk result (λ place. place ≡ lookup.place_found path.now) }
     ensures memory { OnErr result (option_map places.takes_memory (lookup.place_found path.now) ≡ Some true) }
+{
+    match document_at(before_slash(path))? {
+        Some(document) => Ok(Some(Place::Described(document))),
+        None => api_place(path),
+    }
+}
+
+// The place of a path that doesn't describe the server, of the own ones first.
+fn api_place(path: &[Text]) -> Result<Option<Place>, Memory>
+    ensures found { IfOk result (λ place. place ≡ lookup.api_place path.now) }
+    ensures memory { OnErr result (option_map places.takes_memory (lookup.api_place path.now) ≡ Some true) }
 {
     if let Some(rest) = behind(path, "watchcache") {
         return Ok(own_place(rest));
@@ -192,6 +208,7 @@ pub(crate) fn action_at(place: Place, method: &str) -> Option<Action>
     ensures form { IfSome result places.IsAction }
 {
     match place {
+        Place::Described(document) => described(document, method),
         Place::Everywhere(resource) => at_all(resource, method),
         Place::Namespaced(resource, ns) => at_namespace(resource, ns, method),
         Place::Named(resource, ns, name) => at_object(resource, ns, name, method),
@@ -199,6 +216,17 @@ pub(crate) fn action_at(place: Place, method: &str) -> Option<Action>
         Place::OfCompact => posted(Action::Compact, method),
         Place::OfRestart => posted(Action::Restart, method),
         Place::OfTransaction => posted(Action::Transact, method),
+    }
+}
+
+fn described(document: Document, method: &str) -> Option<Action>
+    requires { places.IsDocument document }
+    ensures value { result ≡ places.action_at (Place.Described document) method.now }
+    ensures form { IfSome result places.IsAction }
+{
+    match method {
+        "GET" => Some(Action::Describe(document)),
+        _ => None,
     }
 }
 

@@ -8,6 +8,7 @@ ghost use Rattle.route_req.specs.Asks.{IsRoute, IsRefusal};
 
 use crate::places::{Action, action_at, place_at};
 use crate::transactions::{TxTextNo, key_of, transaction};
+use discovery::Document;
 use http_read::{Params, Req};
 use json_obj::{ObjNo, read_obj};
 use kube_meta::{Memory, Resource, Rev, Text};
@@ -32,11 +33,15 @@ pub enum Routed {
     Operate(Operate),
     /// Several writes at one revision.
     Transact(Transaction),
+    /// What the server tells of itself.
+    Describe(Document),
 }
 
 /// Why a request has no route; the first of these that holds.
 #[derive(Clone, Copy, Debug, PartialEq, Eq)]
 pub enum RouteNo {
+    /// A browser made the request, and not for the server's own site.
+    ForeignSite,
     /// The path names nothing that is served, or its namespace or name is none.
     NoPath,
     /// What the path names doesn't have this method.
@@ -256,6 +261,7 @@ fn act(alloc: Global, action: Action, req: &Req) -> Result<Routed, RouteNo>
     ensures refused { IfErr result (asks.Refuses action req.now) }
 {
     match action {
+        Action::Describe(document) => Ok(Routed::Describe(document)),
         Action::Read(resource, ns) => read(alloc, resource, ns, &req.params),
         Action::Create(resource, ns) => create(alloc, resource, ns, req.body.as_slice()),
         Action::Get(resource, ns, name) => get(resource, ns, name, &req.params),
@@ -270,16 +276,10 @@ fn act(alloc: Global, action: Action, req: &Req) -> Result<Routed, RouteNo>
     }
 }
 
-/// What a request asks for, or the first reason why it has no route: the path is tested first, then
-/// the method, then selectors, options, and the object or the transaction in the body.
-///
-/// The paths and methods are those of the Kubernetes API for pods, config maps and deployments
-/// ("Resource URIs" of the API concepts), and POST of `/watchcache/cut`, `/watchcache/compact`,
-/// `/watchcache/restart` and `/watchcache/transaction`. A GET of a collection is a watch exactly
-/// where the parameter `watch` is true.
-pub fn route(alloc: Global, req: &Req) -> Result<Routed, RouteNo>
-    ensures ok { IfOk result (IsRoute req.now) }
-    ensures refused { IfErr result (IsRefusal req.now) }
+// What a request asks for by its path and what follows, whoever made it.
+fn route_at_path(alloc: Global, req: &Req) -> Result<Routed, RouteNo>
+    ensures ok { IfOk result (asks.AsksAtPath req.now) }
+    ensures refused { IfErr result (asks.RefusesAtPath req.now) }
     ensures plain { IfErr result (λ fault. asks.wraps_memory fault ≡ false) }
 {
     let Some(place) = place_at(req.path.as_slice())? else {
@@ -289,4 +289,24 @@ pub fn route(alloc: Global, req: &Req) -> Result<Routed, RouteNo>
         Some(action) => act(alloc, action, req),
         None => Err(RouteNo::NoMethod),
     }
+}
+
+/// What a request asks for, or the first reason why it has no route: a browser that acts for another site is refused
+/// first, then the path is tested, then the method, then selectors, options, and the object or the transaction in the
+/// body.
+///
+/// The paths and methods are those of the Kubernetes API for pods, config maps and deployments
+/// ("Resource URIs" of the API concepts), GET of what describes the server (its version, its API
+/// groups and resources, each namespace, and the probes), and POST of `/watchcache/cut`,
+/// `/watchcache/compact`, `/watchcache/restart` and `/watchcache/transaction`. A GET of a collection
+/// is a watch exactly where the parameter `watch` is true.
+pub fn route(alloc: Global, req: &Req) -> Result<Routed, RouteNo>
+    ensures ok { IfOk result (IsRoute req.now) }
+    ensures refused { IfErr result (IsRefusal req.now) }
+    ensures plain { IfErr result (λ fault. asks.wraps_memory fault ≡ false) }
+{
+    if req.foreign {
+        return Err(RouteNo::ForeignSite);
+    }
+    route_at_path(alloc, req)
 }

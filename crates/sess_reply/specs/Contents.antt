@@ -1,9 +1,13 @@
--- What each answer says: a status, whether it is to be asked again in a second, and a JSON text. Nothing is said of want of
--- memory.
-use Rattle.std.specs.Prelude.{ℕ, List, [], ◌∷◌, Bool, false, Option, None, Some, Result, Ok, Err, map, option_map, option_and_then, slice_get}
+-- What each answer says: a status, whether it is to be asked again in a second, and a text, which is JSON but for probes.
+-- Nothing is said of want of memory.
+use Rattle.std.specs.Prelude.{ℕ, List, [], ◌∷◌, Bool, false, Option, None, Some, Result, Ok, Err, map, option_map, option_and_then, slice_get, if◌then◌else◌}
 use Rattle.kube_meta.specs.Keys.{name_of}
 use Rattle.kube_meta.specs.Rows.{RowData}
 use Rattle.kube_meta.specs.declared.resources.Resource.{Resource}
+use Rattle.discovery.specs.Documents.{document_text, is_probe_of}
+use Rattle.discovery.specs.declared.documents.Document.{Document}
+use Rattle.http_send.specs.declared.replies.ContentType.{ContentType}
+use Rattle.http_send.specs.declared.replies.ContentType.TheVariants.{Json, PlainText}
 use Rattle.json_obj.specs.Replies.{list_text, status_text, value_text}
 use Rattle.list_rules.specs.declared.ask.ListAsk.{ListAsk}
 use Rattle.list_rules.specs.declared.get.GetAsk.{GetAsk}
@@ -26,20 +30,22 @@ use Rattle.client_api.specs.declared.answers.ListNo.{ListNo}
 use Rattle.client_api.specs.declared.answers.ListNo.TheVariants.{Expired, TooLarge, Absent, Memory}
 use Rattle.client_api.specs.Answers.{GotData, ListedData}
 
--- the HTTP status, whether the client may ask again in a second, and the JSON text
+-- the HTTP status, whether the client may ask again in a second, what the text is, and the text
 pub record Content : Type 0 where
   pub code : ℕ
   pub retry : Bool
-  pub json : List ℕ
+  pub kind : ContentType
+  pub text : List ℕ
 
 -- a request that isn't refused
 abbrev pub said : ℕ → List ℕ → Option Content
-said code json = Some (record { code = code; retry = false; json = json })
+said code json = Some (record { code = code; retry = false; kind = Json; text = json })
 
 -- a refusal says its Status; a revision that isn't reached yet is to be asked for again
 abbrev pub refused : Failure → Content
-refused told = record { code = code_of told.reason; retry = is_too_large told.reason; json = status_text (refusal_of told) }
+refused told = record { code = code_of told.reason; retry = is_too_large told.reason; kind = Json; text = status_text (refusal_of told) }
 
+-- what is said of a failure, if it is one that is told; of want of memory nothing is said
 abbrev pub refusal : Option Failure → Option Content
 refusal told = option_map refused told
 
@@ -47,7 +53,7 @@ refusal told = option_map refused told
 abbrev pub shown_row : Form → RowData → List ℕ
 shown_row form row = shown form row.obj row.rev
 
--- a number
+-- what says a number alone, as JSON, with 200
 abbrev pub number : ℕ → Option Content
 number value = said 200 (value_text value)
 
@@ -59,7 +65,7 @@ accepted_code (Create resource obj) = 201
 accepted_code (Replace resource obj given) = 200
 accepted_code (Remove resource key) = 200
 
--- of an object, its resource and its name are told
+-- why a write is refused, by the resource and the name of its object
 abbrev pub fault_told : WriteAsk → WriteNo → Option Failure
 fault_told ask fault = let target = target_of ask in write_told target.0 (name_of target.1) fault
 
@@ -70,40 +76,45 @@ written_content ask (Err fault) = refusal (fault_told ask fault)
 
 -- ---- transactions: an accepted one says its revision, which all its writes have
 
+-- the revision of an accepted transaction, which all its writes have; its first one tells it
 abbrev pub revision_of : List Written → ℕ
 revision_of [] = 0
 revision_of (written ∷ more) = written.rev
 
--- one that is refused for a write is told as that write would be by itself
+-- why a transaction is refused: where it is for a write, as that write would be by itself
 abbrev pub transaction_told : List WriteAsk → TxWriteNo → Option Failure
 transaction_told asks (transaction.Item index fault) = option_and_then (λ ask. fault_told ask fault) (slice_get asks index)
 transaction_told asks (transaction.UsedUp at) = Some used_up
 transaction_told asks (transaction.ReadOnly at) = Some read_only
 transaction_told asks transaction.Memory = None
 
+-- what is said of a transaction: the revision at which it was done, or why it is refused
 abbrev pub transacted_content : List WriteAsk → Result (List Written) TxWriteNo → Option Content
 transacted_content asks (Ok answers) = number (revision_of answers)
 transacted_content asks (Err fault) = refusal (transaction_told asks fault)
 
 -- ---- operations: an accepted one says a number
 
+-- what is said of an operation: the number that it gave, or why it is refused
 abbrev pub operated_content : Result ℕ OpNo → Option Content
 operated_content (Ok value) = number value
 operated_content (Err fault) = refusal (operation_told fault)
 
 -- ---- lists, gets and watches
 
--- of a list or a watch no object is told to be absent
+-- why a list or a watch is refused; of these no object is told to be absent
 abbrev pub read_told : ListNo → Option Failure
 read_told (Expired asked floor) = Some (expired asked floor)
 read_told (TooLarge asked current) = Some (too_large asked current)
 read_told (Absent at) = None
 read_told Memory = None
 
+-- why a get is refused: its object isn't there, or it is refused as a list would be
 abbrev pub get_told : GetAsk → ListNo → Option Failure
 get_told ask (Absent at) = Some (not_found ask.resource (name_of ask.key))
 get_told ask fault = read_told fault
 
+-- what is said of a get: the object in the form that was asked for, or why it is refused
 abbrev pub got_content : Form → GetAsk → Result GotData ListNo → Option Content
 got_content form ask (Ok answer) = said 200 (shown_row form answer.row)
 got_content form ask (Err fault) = refusal (get_told ask fault)
@@ -113,6 +124,17 @@ abbrev pub listed_json : Form → Resource → ListedData → List ℕ
 listed_json form resource answer =
     list_text (version_in form resource) (list_kind_in form resource) answer.rev answer.more (map (shown_row form) answer.rows)
 
+-- what is said of a list: its page in the form that was asked for, or why it is refused
 abbrev pub listed_content : Form → ListAsk → Result ListedData ListNo → Option Content
 listed_content form ask (Ok answer) = said 200 (listed_json form ask.selection.resource answer)
 listed_content form ask (Err fault) = refusal (read_told fault)
+
+-- ---- what describes the server
+
+-- a probe is answered by a plain text, and all else by JSON
+abbrev pub content_type_of : Document → ContentType
+content_type_of document = if is_probe_of document then PlainText else Json
+
+-- what describes the server is said as it is
+abbrev pub described_content : Document → Option Content
+described_content document = Some (record { code = 200; retry = false; kind = content_type_of document; text = document_text document })

@@ -1,5 +1,6 @@
 -- What each answer that is a reply is written as, byte by byte.
 use Rattle.std.specs.Prelude.{ℕ, List, [], ◌∷◌, ◌++◌, Bool, true, false, Option, None, Some, Result}
+use Rattle.discovery.specs.declared.documents.Document.{Document}
 use Rattle.http_read.specs.declared.refusal.ReqNo.{ReqNo}
 use Rattle.http_read.specs.declared.request.Req.{Req}
 use Rattle.http_send.specs.Replies as http
@@ -21,10 +22,11 @@ use Rattle.meta_view.specs.declared.form.Form.{Form}
 use Rattle.meta_view.specs.declared.form.Form.TheVariants.{Whole, Metadata}
 use Rattle.client_api.specs.declared.answers.ListNo.{ListNo}
 use Rattle.client_api.specs.Answers.{GotData, ListedData}
-use Rattle.sess_reply.specs.Contents.{Content, refused, refusal, written_content, transacted_content, got_content, listed_content, operated_content, read_told}
+use Rattle.sess_reply.specs.Contents.{Content, refused, refusal, written_content, transacted_content, got_content, listed_content, operated_content, described_content, read_told}
 
 -- an answer that is a reply, with what was asked: the request has no route; what its write, transaction, get, list or
--- operation came to; its watch is refused before it began; its watch asks to go on as a WebSocket, and that isn't one
+-- operation came to; what describes the server; its watch is refused before it began; its watch asks to go on as a
+-- WebSocket, and that isn't one
 pub data Reply : Type 0 where
   unrouted : RouteNo → Reply
   wrote : WriteAsk → Result Written WriteNo → Reply
@@ -32,10 +34,11 @@ pub data Reply : Type 0 where
   got : GetAsk → Result GotData ListNo → Reply
   listed : ListAsk → Result ListedData ListNo → Reply
   operated : Operate → Result ℕ OpNo → Reply
+  described : Document → Reply
   unwatched : WatchAsk → ListNo → Reply
   bad_upgrade : WatchAsk → Reply
 
--- what it says; objects are shown in a form by gets and lists alone
+-- what a reply says; objects are shown in the form that was asked for by gets and lists alone
 abbrev pub content_of : Form → Reply → Option Content
 content_of form (unrouted fault) = refusal (route_told fault)
 content_of form (wrote ask answer) = written_content ask answer
@@ -43,14 +46,15 @@ content_of form (transacted asks answer) = transacted_content asks answer
 content_of form (got ask answer) = got_content form ask answer
 content_of form (listed ask answer) = listed_content form ask answer
 content_of form (operated ask answer) = operated_content answer
+content_of form (described document) = described_content document
 content_of form (unwatched ask fault) = refusal (read_told fault)
 content_of form (bad_upgrade ask) = Some (refused errors.bad_upgrade)
 
--- a whole reply that says this: its head, the JSON, and a line feed, which the length in the head counts; nothing where
+-- a whole reply that says this: its head, the text, and a line feed, which the length in the head counts; nothing where
 -- nothing is said
 abbrev pub text_of : Bool → Option Content → List ℕ
 text_of close None = []
-text_of close (Some content) = http.reply_text content.code content.retry close (content.json ++ 10 ∷ [])
+text_of close (Some content) = http.typed_reply_text content.kind content.code content.retry close (content.text ++ 10 ∷ [])
 
 -- the bytes of a reply; `close` says that the connection ends with it
 abbrev pub reply_text : Form → Bool → Reply → List ℕ
@@ -62,13 +66,16 @@ request_refusal_text fault = text_of true (refusal (request_told fault))
 
 -- ---- in which form a request wants objects: whole, unless its first Accept field asks for metadata alone
 
+-- objects are shown by their metadata where that is wanted, and whole otherwise
 abbrev pub form_where : Bool → Form
 form_where true = Metadata
 form_where false = Whole
 
+-- the form that an Accept field asks for (RFC 9110, section 12.5.1), and whole objects where there is none
 abbrev pub form_for : Option (List ℕ) → Form
 form_for None = Whole
 form_for (Some accept) = form_where (wants_metadata accept)
 
+-- the form in which a request wants to see objects, in a reply and in the lines of a watch
 abbrev pub form_of : Req → Form
 form_of req = form_for req.accept

@@ -1,14 +1,14 @@
-//! Replies in pieces: the head, the pieces of the JSON, and the line feed.
+//! Replies in pieces: the head, the pieces of the text, and the line feed.
 
 ghost use Rattle.std.specs.Prelude.{◌≡◌, ◌≤◌, [], ◌∷◌, ◌++◌, length, IfSome, OnOk, OnErr};
 ghost use Rattle.std.specs.List.{flat_map};
 ghost use Rattle.edge_io.specs.Told.{appended, AppendedSome};
-ghost use Rattle.http_send.specs.Replies.{reply_text};
+ghost use Rattle.http_send.specs.Replies.{reply_text, typed_reply_text};
 ghost use Rattle.sess_reply.specs.Sending.{Counts};
 
 use crate::Broken;
 use edge_io::Sink;
-use http_send::{begin_reply, part, parts};
+use http_send::{ContentType, begin_typed_reply, part, parts};
 
 /// How many bytes these pieces have together, where a number of 64 bits holds it.
 pub(crate) fn length_in(pieces: &[&[u8]]) -> Option<u64>
@@ -37,14 +37,34 @@ pub(crate) fn send_pieces<K: Sink>(
     ensures counts { Counts result (K.faults sink.old) (K.faults sink.new) }
     ensures never_falls { K.faults sink.old ≤ K.faults sink.new }
 {
+    send_typed_pieces(sink, ContentType::Json, code, retry, close, pieces)
+}
+
+/// Writes a reply whose text is of this kind and is these pieces, and sends it on.
+pub(crate) fn send_typed_pieces<K: Sink>(
+    sink: &mut K,
+    kind: ContentType,
+    code: u16,
+    retry: bool,
+    close: bool,
+    pieces: &[&[u8]],
+) -> Result<(), Broken>
+    ensures sent { OnOk result (K.written sink.new ≡ appended (K.written sink.old)
+        (typed_reply_text kind code retry close (flat_map (λ piece. piece.now) pieces.now ++ 10 ∷ []))) }
+    ensures settled { OnOk result (K.settled sink.new) }
+    ensures broken { OnErr result (AppendedSome (K.written sink.old) (K.written sink.new)
+        (typed_reply_text kind code retry close (flat_map (λ piece. piece.now) pieces.now ++ 10 ∷ []))) }
+    ensures counts { Counts result (K.faults sink.old) (K.faults sink.new) }
+    ensures never_falls { K.faults sink.old ≤ K.faults sink.new }
+{
     let Some(length) = body_length(pieces) else {
         return Err(Broken::Memory);
     };
-    begin_reply(sink, code, retry, close, length)?;
+    begin_typed_reply(sink, kind, code, retry, close, length)?;
     write_body(sink, pieces)
 }
 
-// How long the body is: the JSON and the line feed.
+// How long the body is: the text and the line feed.
 fn body_length(pieces: &[&[u8]]) -> Option<u64>
     ensures { IfSome result (λ n. n ≡ length (flat_map (λ piece. piece.now) pieces.now ++ 10 ∷ [])) }
 {

@@ -4,6 +4,7 @@
 
 mod body;
 mod broken;
+mod described;
 mod faults;
 mod form;
 mod items;
@@ -13,6 +14,7 @@ mod refusals;
 mod writes;
 
 pub use broken::Broken;
+pub use described::send_described;
 pub use form::form_of;
 pub use reads::{send_got, send_listed, send_unwatched};
 pub use refusals::{send_bad_upgrade, send_request_refusal, send_unrouted};

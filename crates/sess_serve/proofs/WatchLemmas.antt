@@ -58,6 +58,7 @@ stream-under terms terms' view ask started whole before p old answer q new same 
 -- a refusal that isn't want of memory
 pub unrouted-is : (req : Req) (fault : RouteNo) → fault ≢ route_no.Memory → IsRefusal req fault → wraps_memory fault ≡ false → IsUnrouted req fault
 unrouted-is req route_no.Memory told refused plain = absurd (told refl)
+unrouted-is req route_no.ForeignSite told refused plain = (refused, plain)
 unrouted-is req route_no.NoPath told refused plain = (refused, plain)
 unrouted-is req route_no.NoMethod told refused plain = (refused, plain)
 unrouted-is req (route_no.Selector why) told refused plain = (refused, plain)

@@ -44,16 +44,17 @@ pub record Last (terms : Terms) (exchanges : List Exchange) : Type 0 where
   pub parted : exchanges ≡ before ++ last ∷ []
   pub goes_on : GoesOn terms before
 
--- it was answered by a reply to a request that asked for the end of the connection
+-- the exchange ends the connection without a stream: its request asked for that end, and was answered by a reply
 pub record IsClosed (e : Exchange) : Type 0 where
   pub closes : e.request.close ≡ true
   pub by_reply : is_stream e.answer ≡ false
 
--- it was answered by a stream that came to this end
+-- the stream came to this end; where its start was gone that is a loss
 abbrev pub StreamEnds : Stream → WatchEnd → Type 0
 StreamEnds (gone asked floor) how = how ≡ watch_end.Lost asked floor
 StreamEnds (begun pass turns) how = end_of_watch turns.finish ≡ Some how
 
+-- the request was answered by a stream, which came to this end
 abbrev pub IsWatchEnd : Answer → WatchEnd → Type 0
 IsWatchEnd (replied reply) how = ⊥
 IsWatchEnd (streamed ask stream) how = StreamEnds stream how
@@ -117,6 +118,7 @@ Begins terms history p req q =
     ((ask : WriteAsk) × IsRoute req (routed.Write ask) × SoleWrite terms.base terms.mirror history p ask (Err write_no.Memory) q)
     ⊎ ((asks : List WriteAsk) × IsRoute req (routed.Transact asks) × SoleTransact terms.base terms.mirror history p asks (Err tx_no.Memory) q)
 
+-- where memory ran out, the log has the changes that it had, or with them what the next request began
 abbrev pub SoleMemory : Terms → Pass RevisionData → List ℕ → Pass RevisionData → Type 0
 SoleMemory terms p rest q =
     (q.seen ≡ p.seen) ⊎ ((req : Req) × (after : List ℕ) × ReadsOne rest req after × IfSome terms.sole_history (λ history. Begins terms history p req q))
@@ -128,22 +130,22 @@ KnowsAlone terms other last rest q = Unit {0}
 
 -- ---- and when
 
--- the source didn't fail, so that this holds
+-- this holds, unless the source failed
 abbrev pub UnlessReadFault : SessionEnd → Type 0 → Type 0
 UnlessReadFault ReadFault P = Unit {0}
 UnlessReadFault other P = P
 
--- the sink didn't
+-- this holds, unless the sink failed
 abbrev pub UnlessWriteFault : SessionEnd → Type 0 → Type 0
 UnlessWriteFault WriteFault P = Unit {0}
 UnlessWriteFault other P = P
 
--- there was memory
+-- this holds, unless there was no memory
 abbrev pub UnlessMemory : SessionEnd → Type 0 → Type 0
 UnlessMemory Memory P = Unit {0}
 UnlessMemory other P = P
 
--- no answer was broken off
+-- this holds, unless an answer may be broken off: the sink failed, or there was no memory
 abbrev pub UnlessBroken : SessionEnd → Type 0 → Type 0
 UnlessBroken WriteFault P = Unit {0}
 UnlessBroken Memory P = Unit {0}

@@ -22,9 +22,11 @@ pub record Traffic : Type 1 where
   pub write_fault : Type 0
   pub left : Option (List ℕ)
 
+-- the requests that were answered, in the order of their answers
 abbrev pub requests_of : List Exchange → List Req
 requests_of exchanges = map (λ (e : Exchange). e.request) exchanges
 
+-- the readings of the clock that were taken for the answers, in order
 abbrev pub readings_in : List Exchange → List Reading
 readings_in exchanges = flat_map (λ (e : Exchange). answer_readings e.answer) exchanges
 

@@ -13,7 +13,7 @@ use Rattle.client_api.specs.Gets.{IsGetAnswer}
 use Rattle.client_api.specs.Lists.{IsListAnswer}
 use Rattle.client_api.specs.Starts.{IsWatchAnswer}
 use Rattle.client_api.specs.Told.{IsToldRead, IsToldWrite, IsToldTx, IsToldOperation}
-use Rattle.sess_reply.specs.Replies.{Reply, unrouted, wrote, transacted, got, listed, operated, unwatched, bad_upgrade}
+use Rattle.sess_reply.specs.Replies.{Reply, unrouted, wrote, transacted, got, listed, operated, described, unwatched, bad_upgrade}
 use Rattle.sess_turns.specs.Terms.{Terms}
 use Rattle.sess_turns.specs.Turns.{IsWatchTurns, AloneFinish}
 use Rattle.sess_serve.specs.Answers.{Stream, gone, begun, Answer, replied, streamed, IsAnswerTo}
@@ -35,6 +35,7 @@ ReplySays terms p (transacted asks answer) q = IsToldTx answer × IsTransactionR
 ReplySays terms p (got ask answer) q = IsToldRead answer × IsGetAnswer terms.base p ask answer q
 ReplySays terms p (listed ask answer) q = IsToldRead answer × IsListAnswer terms.base p ask answer q
 ReplySays terms p (operated ask answer) q = IsToldOperation answer × IsOperationReply p ask answer q
+ReplySays terms p (described document) q = p ≡ q
 ReplySays terms p (unwatched ask fault) q = UnwatchedSays terms p ask fault q
 ReplySays terms p (bad_upgrade ask) q = p ≡ q
 
@@ -44,6 +45,7 @@ StreamSays terms p ask (gone asked floor) q = IsWatchAnswer terms.base terms.win
 StreamSays terms p ask (begun pass turns) q =
     IsOnward p pass × IsWatchAnswer terms.base terms.window p ask (Ok turns.begun) pass × IsWatchTurns terms ask pass turns q
 
+-- what an answer says is borne out by what was known before its request and what is known after it
 abbrev pub Says : Terms → Pass RevisionData → Answer → Pass RevisionData → Type 0
 Says terms p (replied reply) q = ReplySays terms p reply q
 Says terms p (streamed ask stream) q = StreamSays terms p ask stream q
@@ -69,6 +71,7 @@ Run terms p (e ∷ es) last = Step terms p e × Run terms e.pass es last
 
 -- ---- a log that nobody else holds: what becomes of it, its floor and its generation; each load gives its end
 
+-- a reply tells all that became of the log: its write, transaction or operation, if it is of one, and else nothing
 abbrev pub IsAloneReply : Terms → Pass RevisionData → Reply → Pass RevisionData → Type 0
 IsAloneReply terms p (wrote ask answer) q = IfSome terms.sole_history (λ history. SoleWrite terms.base terms.mirror history p ask answer q)
 IsAloneReply terms p (transacted asks answer) q = IfSome terms.sole_history (λ history. SoleTransact terms.base terms.mirror history p asks answer q)
@@ -76,18 +79,21 @@ IsAloneReply terms p (operated ask answer) q = SoleOperate p ask answer q
 IsAloneReply terms p (unrouted fault) q = IsSoleRead p q
 IsAloneReply terms p (got ask answer) q = IsSoleRead p q
 IsAloneReply terms p (listed ask answer) q = IsSoleRead p q
+IsAloneReply terms p (described document) q = IsSoleRead p q
 IsAloneReply terms p (unwatched ask fault) q = IsSoleRead p q
 IsAloneReply terms p (bad_upgrade ask) q = IsSoleRead p q
 
+-- the stream of a watch has read the log and changed nothing, up to its end or to the turn that had no memory
 abbrev pub IsAloneStream : Pass RevisionData → Stream → Pass RevisionData → Type 0
 IsAloneStream p (gone asked floor) q = IsSoleRead p q
 IsAloneStream p (begun pass turns) q = IsSoleRead p pass × AloneFinish pass turns.finish q
 
+-- an answer tells all that became of the log by it
 abbrev pub IsAlone : Terms → Pass RevisionData → Answer → Pass RevisionData → Type 0
 IsAlone terms p (replied reply) q = IsAloneReply terms p reply q
 IsAlone terms p (streamed ask stream) q = IsAloneStream p stream q
 
--- after each answer
+-- each answer in turn tells all that became of the log by it
 abbrev pub AreAlone : Terms → Pass RevisionData → List Exchange → Type 0
 AreAlone terms p [] = Unit {0}
 AreAlone terms p (e ∷ es) = IsAlone terms p e.answer e.pass × AreAlone terms e.pass es

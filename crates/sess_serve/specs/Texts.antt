@@ -19,6 +19,7 @@ abbrev pub framing_of : Option Upgrade → Framing
 framing_of None = Chunks
 framing_of (Some upgrade) = Messages upgrade.key
 
+-- how the lines of a request's watch are sent: in which form objects are shown, and in which frames
 abbrev pub view_of : Req → View
 view_of req = record { form = form_of req; framing = framing_of req.upgrade }
 
@@ -28,10 +29,12 @@ stream_bytes terms req ask (gone asked floor) = gone_text (framing_of req.upgrad
 stream_bytes terms req ask (begun pass turns) =
     stream_text (view_of req) ask.selection.resource (watch_lines terms ask pass turns) (is_some (end_of_watch turns.finish))
 
+-- the bytes of an answer: those of a reply, which says whether the connection ends with it, or those of a stream
 abbrev pub answer_bytes : Terms → Req → Answer → List ℕ
 answer_bytes terms req (replied reply) = reply_text (form_of req) req.close reply
 answer_bytes terms req (streamed ask stream) = stream_bytes terms req ask stream
 
+-- the bytes by which a request was answered
 abbrev pub text_of : Terms → Exchange → List ℕ
 text_of terms e = answer_bytes terms e.request e.answer
 

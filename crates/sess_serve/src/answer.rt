@@ -7,7 +7,7 @@ ghost use Rattle.sess_reply.specs.Sending.{Counts};
 ghost use Rattle.sess_turns.specs.Terms.{terms_of};
 ghost use Rattle.sess_serve.specs.Serving.{Answered, UnlessMemory};
 
-use crate::steps::{step_get, step_list, step_operate, step_transact, step_write};
+use crate::steps::{step_describe, step_get, step_list, step_operate, step_transact, step_write};
 use crate::watching::{by_reply, step_watch};
 use client_api::Client;
 use edge_io::{Clock, Sink};
@@ -34,6 +34,7 @@ pub fn answer<C: Client, K: Sink, T: Clock>(
         (record { written = K.written sink.old; readings = T.readings clock.old })
         (record { written = K.written sink.new; readings = T.readings clock.new }) (C.pass client.new) result }
     ensures facts { C.facts client.new ≡ record (C.facts client.old) { heard = (C.facts client.new).heard } }
+    ensures heard { T.last clock.old ≤ (C.facts client.old).heard → T.last clock.new ≤ (C.facts client.new).heard }
     ensures kept { C.whole client.old → UnlessMemory result (C.whole client.new) }
     ensures settled { OnOk result (K.settled sink.new) }
     ensures counts { Counts result (K.faults sink.old) (K.faults sink.new) }
@@ -90,6 +91,7 @@ fn act<C: Client, K: Sink, T: Clock>(
         (record { written = K.written sink.old; readings = T.readings clock.old })
         (record { written = K.written sink.new; readings = T.readings clock.new }) (C.pass client.new) result }
     ensures facts { C.facts client.new ≡ record (C.facts client.old) { heard = (C.facts client.new).heard } }
+    ensures heard { T.last clock.old ≤ (C.facts client.old).heard → T.last clock.new ≤ (C.facts client.new).heard }
     ensures kept { C.whole client.old → UnlessMemory result (C.whole client.new) }
     ensures settled { OnOk result (K.settled sink.new) }
     ensures counts { Counts result (K.faults sink.old) (K.faults sink.new) }
@@ -102,5 +104,6 @@ fn act<C: Client, K: Sink, T: Clock>(
         Routed::Watch(ask) => step_watch(alloc, client, sink, clock, req, ask, settings),
         Routed::Operate(ask) => by_reply(step_operate(alloc, client, sink, req, *ask)),
         Routed::Transact(ask) => by_reply(step_transact(alloc, client, sink, req, ask)),
+        Routed::Describe(document) => by_reply(step_describe(client, sink, req, document)),
     }
 }

@@ -54,8 +54,10 @@ pub fn serve_session<C: Client, S: Source, K: Sink, T: Clock>(
         })
         (C.pass client.new) result }
 
-    // The client watches nothing, and may have been told of times.
+    // The client watches nothing. It may have been told of times: one that was told of all that the clock showed before
+    // is told of all that it shows.
     ensures facts { C.facts client.new ≡ record (C.facts client.old) { heard = (C.facts client.new).heard } }
+    ensures heard { T.last clock.old ≤ (C.facts client.old).heard → T.last clock.new ≤ (C.facts client.new).heard }
     ensures kept { C.whole client.old → UnlessMemory result (C.whole client.new) }
 
     // Nothing is held back, and no count of faults rose but the one that the end names.
@@ -105,6 +107,7 @@ fn turn<C: Client, S: Source, K: Sink, T: Clock>(
         (record { left = S.left source.new; outside = record { written = K.written sink.new; readings = T.readings clock.new } })
         (Rose (S.faults source.old) (S.faults source.new)) (Rose (K.faults sink.old) (K.faults sink.new)) (C.pass client.new) result }
     ensures facts { C.facts client.new ≡ record (C.facts client.old) { heard = (C.facts client.new).heard } }
+    ensures heard { T.last clock.old ≤ (C.facts client.old).heard → T.last clock.new ≤ (C.facts client.new).heard }
     ensures kept { C.whole client.old → OrEnd UnlessMemory result (C.whole client.new) }
     ensures reading { OnNone result (reader.new.refusal ≡ None) }
     ensures flushed { OnNone result (K.settled sink.new) }

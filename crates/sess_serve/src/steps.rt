@@ -11,11 +11,13 @@ ghost use Rattle.up_api.specs.declared.settings.Settings.{Settings};
 ghost use Rattle.sess_serve.specs.Serving.{Replied, UnlessMemory};
 
 use client_api::{Client, Got, ListNo, Listed};
+use discovery::Document;
 use edge_io::Sink;
 use http_read::Req;
 use list_rules::{GetAsk, ListAsk};
 use sess_reply::{
-    Broken, form_of, send_got, send_listed, send_operated, send_transacted, send_written,
+    Broken, form_of, send_described, send_got, send_listed, send_operated, send_transacted,
+    send_written,
 };
 use std::alloc::Global;
 use up_store::{OpNo, Operate, Transaction, TxWriteNo, WriteAsk, WriteNo, Written};
@@ -175,4 +177,22 @@ pub fn step_operate<C: Client, K: Sink>(
     } else {
         Err(Broken::Memory)
     }
+}
+
+/// What describes the server: the client isn't asked.
+pub fn step_describe<C: Client, K: Sink>(
+    client: &C,
+    sink: &mut K,
+    req: &Req,
+    document: &Document,
+) -> Result<(), Broken>
+    requires { IsRoute req.now (routed.Describe document.now) }
+    ensures replied { (s : Settings) → Replied (terms_of C.base C.mirror (C.facts client.now) s) (C.whole client.now)
+        (C.pass client.now) req.now (K.written sink.old) (K.written sink.new) (C.pass client.now) result }
+    ensures settled { OnOk result (K.settled sink.new) }
+    ensures counts { Counts result (K.faults sink.old) (K.faults sink.new) }
+    ensures never_falls { K.faults sink.old ≤ K.faults sink.new }
+{
+    let _ = client;
+    send_described(sink, req.close, document)
 }

@@ -68,6 +68,7 @@ pub fn step_watch<C: Client, K: Sink, T: Clock>(
         (record { written = K.written sink.old; readings = T.readings clock.old })
         (record { written = K.written sink.new; readings = T.readings clock.new }) (C.pass client.new) result }
     ensures facts { C.facts client.new ≡ record (C.facts client.old) { heard = (C.facts client.new).heard } }
+    ensures heard { T.last clock.old ≤ (C.facts client.old).heard → T.last clock.new ≤ (C.facts client.new).heard }
     ensures kept { C.whole client.old → UnlessMemory result (C.whole client.new) }
     ensures settled { OnOk result (K.settled sink.new) }
     ensures counts { Counts result (K.faults sink.old) (K.faults sink.new) }
@@ -103,6 +104,7 @@ fn watch<C: Client, K: Sink, T: Clock>(
         (record { written = K.written sink.old; readings = T.readings clock.old })
         (record { written = K.written sink.new; readings = T.readings clock.new }) (C.pass client.new) result }
     ensures facts { C.facts client.new ≡ record (C.facts client.old) { heard = (C.facts client.new).heard } }
+    ensures heard { T.last clock.old ≤ (C.facts client.old).heard → T.last clock.new ≤ (C.facts client.new).heard }
     ensures kept { C.whole client.old → UnlessMemory result (C.whole client.new) }
     ensures settled { OnOk result (K.settled sink.new) }
     ensures counts { Counts result (K.faults sink.old) (K.faults sink.new) }

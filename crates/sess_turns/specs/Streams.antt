@@ -29,6 +29,7 @@ use Rattle.sess_turns.specs.Turns.{Turns, Finish, IsWatchTurns, readings_of, wat
 
 -- ---- a line, without what ends it
 
+-- as which event a change of an object is told: ADDED, MODIFIED or DELETED
 abbrev pub type_of : Kind → EventType
 type_of Added = types.Added
 type_of Modified = types.Modified
@@ -48,25 +49,27 @@ abbrev pub framed : Framing → List ℕ → List ℕ
 framed Chunks line = chunk_text (line ++ codes "\n")
 framed (Messages key) line = message_text line
 
--- before the first line; a socket's key is answered there
+-- what a stream begins with, before its first line; a socket's key is answered there
 abbrev pub head_text : Framing → List ℕ
 head_text Chunks = stream_head_text
 head_text (Messages key) = socket_head_text key
 
--- after the last line
+-- what a stream that isn't broken off ends with, after its last line: the last chunk, or a close
 abbrev pub end_text : Framing → List ℕ
 end_text Chunks = stream_end_text
 end_text (Messages key) = socket_end_text
 
 -- ---- streams
 
+-- the bytes of a line as they are sent: the event in JSON, in the view's form, within a chunk or a message
 abbrev pub frame_of : View → Resource → Line → List ℕ
 frame_of view resource line = framed view.framing (line_text view.form resource line)
 
+-- the bytes of several lines as they are sent, one behind the other
 abbrev pub frames_of : View → Resource → List Line → List ℕ
 frames_of view resource lines = flat_map (frame_of view resource) lines
 
--- the end is there only where the stream wasn't broken off
+-- the bytes of a stream: its head, its lines, and its end only where it wasn't broken off
 abbrev pub stream_text : View → Resource → List Line → Bool → List ℕ
 stream_text view resource lines ended =
     head_text view.framing ++ (frames_of view resource lines ++ (if ended then end_text view.framing else []))

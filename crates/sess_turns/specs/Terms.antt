@@ -13,6 +13,7 @@ pub record Terms : Type 0 where
   pub sole_history : Option ℕ
   pub settings : Settings
 
+-- what a session is told of its log, of what its client tells of itself, and of its settings
 abbrev pub terms_of : List RowData → Bool → Facts → Settings → Terms
 terms_of base mirror facts settings =
     record { base = base; mirror = mirror; window = facts.window; sole_history = facts.sole_history; settings = settings }

@@ -49,6 +49,7 @@ pub record Standing : Type 0 where
   pub position : ℕ
   pub mark : ℕ
 
+-- where a watch stands before its first turn: at its start, and with no bookmark since its first reading
 abbrev pub first_standing : Pass RevisionData → Turns → Standing
 first_standing p watch = record { pass = p; position = watch.begun.at; mark = watch.start.ms }
 
@@ -62,6 +63,7 @@ is_due settings ask mark now took = false
 abbrev pub mark_after : Settings → WatchAsk → ℕ → ℕ → Took → ℕ
 mark_after settings ask mark now took = if is_due settings ask mark now took then now else mark
 
+-- where a watch stands after a turn: it goes on from its new position, and from the turn's bookmark where that had one
 abbrev pub after_turn : Terms → WatchAsk → Standing → Turn → Standing
 after_turn terms ask s turn = record {
   pass = turn.pass;
@@ -71,14 +73,15 @@ after_turn terms ask s turn = record {
 
 -- ---- the clock
 
--- the time of the watch is over
+-- the time of the watch is over: as many seconds as it lasts have passed since its first reading
 abbrev pub IsLate : Terms → WatchAsk → Reading → Reading → Type 0
 IsLate terms ask start now = start.ms + 1000 * seconds_of terms.settings ask.timeout_s ≤ now.ms
 
+-- the time of the watch isn't over: fewer seconds than it lasts have passed since its first reading
 abbrev pub IsInTime : Terms → WatchAsk → Reading → Reading → Type 0
 IsInTime terms ask start now = now.ms < start.ms + 1000 * seconds_of terms.settings ask.timeout_s
 
--- it isn't, and the program isn't asked to stop
+-- the watch may have another turn: its time isn't over, and the program isn't asked to stop
 abbrev pub GoesOn : Terms → WatchAsk → Reading → Reading → Type 0
 GoesOn terms ask start now = IsInTime terms ask start now × (now.stop ≡ false)
 
@@ -90,13 +93,13 @@ pub record IsTurn (terms : Terms) (ask : WatchAsk) (start : Reading) (s : Standi
   pub onward : IsOnward s.pass turn.pass
   pub gives : Gives terms.base terms.window s.pass (record { selection = ask.selection; position = s.position }) turn.took turn.pass
 
--- turns that follow each other and don't lose the watch, from where it stands to where it stands then
+-- turns that follow each other and don't lose the watch, from where it stands before them to where it stands after
 abbrev pub Follow : Terms → WatchAsk → Reading → Standing → List Turn → Standing → Type 0
 Follow terms ask start s [] last = s ≡ last
 Follow terms ask start s (turn ∷ more) last =
     IsTurn terms ask start s turn × IsLasting turn.took × Follow terms ask start (after_turn terms ask s turn) more last
 
--- how they may end where the watch stands so, and what is known afterwards
+-- how a watch may end where it stands so, and what is known afterwards
 abbrev pub Finishes : Terms → WatchAsk → Reading → Standing → Finish → Pass RevisionData → Type 0
 Finishes terms ask start s (timed_out now) q = IsLate terms ask start now × (s.pass ≡ q)
 Finishes terms ask start s (stopped now) q = IsInTime terms ask start now × (now.stop ≡ true) × (s.pass ≡ q)
@@ -109,7 +112,7 @@ Finishes terms ask start s (broken (Some now)) q = GoesOn terms ask start now ×
 abbrev pub most_turns : ℕ
 most_turns = 1000000000
 
--- after how many turns they may end so
+-- after how many turns that left it standing a watch may end in this way
 abbrev pub IsNumber : Finish → ℕ → Type 0
 IsNumber spent made = made ≡ most_turns
 IsNumber (broken None) made = made ≤ most_turns
@@ -124,6 +127,7 @@ pub record IsWatchTurns (terms : Terms) (ask : WatchAsk) (p : Pass RevisionData)
 
 -- ---- readings: one before the first turn, and one a turn
 
+-- the last reading of a watch, if it was taken for no turn that left the watch standing
 abbrev pub last_readings : Finish → List Reading
 last_readings (timed_out now) = now ∷ []
 last_readings (stopped now) = now ∷ []
@@ -132,9 +136,11 @@ last_readings spent = []
 last_readings (broken None) = []
 last_readings (broken (Some now)) = now ∷ []
 
+-- a reading for each turn that left the watch standing, and the last one, if there is one
 abbrev pub turn_readings : List Turn → Finish → List Reading
 turn_readings turns finish = map (λ turn. turn.reading) turns ++ last_readings finish
 
+-- all readings that a watch took of the clock, in order: the first is its start, from which its time counts
 abbrev pub readings_of : Turns → List Reading
 readings_of watch = watch.start ∷ turn_readings watch.turns watch.finish
 
@@ -145,13 +151,16 @@ abbrev pub told_lines : Settings → WatchAsk → ℕ → ℕ → ℕ → Took �
 told_lines settings ask position mark now took =
     turn_lines took ++ (if is_due settings ask mark now took then Bookmark (position_after took position) ∷ [] else [])
 
+-- the lines that are written of a turn, where the watch stood so before it
 abbrev pub lines_of_turn : Terms → WatchAsk → Standing → Turn → List Line
 lines_of_turn terms ask s turn = told_lines terms.settings ask s.position s.mark turn.reading.ms turn.took
 
+-- the lines of turns that follow each other, from where the watch stood before the first
 abbrev pub lines_from : Terms → WatchAsk → Standing → List Turn → List Line
 lines_from terms ask s [] = []
 lines_from terms ask s (turn ∷ more) = lines_of_turn terms ask s turn ++ lines_from terms ask (after_turn terms ask s turn) more
 
+-- the last line of a watch: the ERROR of a loss, and none after another end
 abbrev pub last_lines : Finish → List Line
 last_lines (lost turn at floor) = LostLine at floor ∷ []
 last_lines finish = []

@@ -1,5 +1,5 @@
 use Rattle.std.proofs.Common.{refl}
-use Rattle.sess_serve.proofs.Replying.{answers-by-reply, reply-counts, reply-settled, reply-kept, facts-still}
+use Rattle.sess_serve.proofs.Replying.{answers-by-reply, reply-counts, reply-settled, reply-kept, facts-still, unless-memory}
 use Rattle.sess_serve.proofs.answer.act.Goals as goal
 
 pub returns-in-Write-clause-answered : goal.returns-in-Write-clause-answered
@@ -76,3 +76,18 @@ returns-in-Transact-clause-settled g c = reply-settled c.step_transact.result c.
 
 pub returns-in-Transact-clause-counts : goal.returns-in-Transact-clause-counts
 returns-in-Transact-clause-counts g c = reply-counts c.step_transact.result c.by_reply-in-Transact.result _ _ c.by_reply-in-Transact.ensures c.step_transact.ensures.counts
+
+pub returns-in-Describe-clause-answered : goal.returns-in-Describe-clause-answered
+returns-in-Describe-clause-answered g c = answers-by-reply _ _ _ _ _ _ _ c.step_describe.result c.by_reply-in-Describe.result refl c.by_reply-in-Describe.ensures (c.step_describe.ensures.replied c.args.settings.now)
+
+pub returns-in-Describe-clause-facts : goal.returns-in-Describe-clause-facts
+returns-in-Describe-clause-facts g c = facts-still _ _ refl
+
+pub returns-in-Describe-clause-kept : goal.returns-in-Describe-clause-kept
+returns-in-Describe-clause-kept g c = λ whole. reply-kept c.step_describe.result c.by_reply-in-Describe.result _ c.by_reply-in-Describe.ensures (unless-memory c.step_describe.result whole)
+
+pub returns-in-Describe-clause-settled : goal.returns-in-Describe-clause-settled
+returns-in-Describe-clause-settled g c = reply-settled c.step_describe.result c.by_reply-in-Describe.result _ c.by_reply-in-Describe.ensures c.step_describe.ensures.settled
+
+pub returns-in-Describe-clause-counts : goal.returns-in-Describe-clause-counts
+returns-in-Describe-clause-counts g c = reply-counts c.step_describe.result c.by_reply-in-Describe.result _ _ c.by_reply-in-Describe.ensures c.step_describe.ensures.counts

@@ -15,6 +15,7 @@ loop-answered-init g c =
     record {
       turns = loop-start _ _ _ _ c.in-Ok.reader.kept (ap (λ (x : ReaderState). x.kept) e);
       facts = refl;
+      heard = λ h. h;
       kept = λ w. w;
       reading = ap (λ (x : ReaderState). x.refusal) e;
       flushed = λ some. absurd (omega (arith, some));
@@ -30,6 +31,7 @@ loop-answered-preserved g c =
     record {
       turns = loop-next _ _ (terms-same _ _ _ (g.C.Client.facts c.args.client.now) _ _ i.facts) _ _ i.kept _ _ _ _ _ _ _ _ c.loop-answered.answered _ _ i.turns e.turn;
       facts = facts-next (g.C.Client.facts c.args.client.now) _ _ i.facts e.facts;
+      heard = λ h. e.heard (i.heard h);
       kept = λ w. e.kept (i.kept w);
       reading = e.reading;
       flushed = λ some. e.flushed;
@@ -47,6 +49,9 @@ returns-in-Some-clause-session g c =
 
 pub returns-in-Some-clause-facts : goal.returns-in-Some-clause-facts
 returns-in-Some-clause-facts g c = facts-next (g.C.Client.facts c.args.client.now) _ _ c.loop-answered.invariant.facts c.in-Some.ensures.facts
+
+pub returns-in-Some-clause-heard : goal.returns-in-Some-clause-heard
+returns-in-Some-clause-heard g c = λ h. c.in-Some.ensures.heard (c.loop-answered.invariant.heard h)
 
 pub returns-in-Some-clause-kept : goal.returns-in-Some-clause-kept
 returns-in-Some-clause-kept g c = λ w. c.in-Some.ensures.kept (c.loop-answered.invariant.kept w)

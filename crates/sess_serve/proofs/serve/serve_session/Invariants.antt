@@ -1,4 +1,4 @@
-use Rattle.std.proofs.Common.{◌≡◌, ◌<◌, None}
+use Rattle.std.proofs.Common.{◌≡◌, ◌<◌, ◌≤◌, None}
 use Rattle.sess_turns.specs.Terms.{terms_of}
 use Rattle.sess_serve.proofs.Session.{Loop}
 use Rattle.sess_serve.proofs.serve.serve_session.Given as goal
@@ -11,6 +11,7 @@ invariant-loop-answered g l = record {
       (record { left = g.S.Source.left l.source; outside = record { written = g.K.Sink.written l.sink; readings = g.T.Clock.readings l.clock } })
       l.reader.kept (g.C.Client.pass l.client) l.answered;
   facts : g.C.Client.facts l.client ≡ record (g.C.Client.facts l.initial.client) { heard = (g.C.Client.facts l.client).heard };
+  heard : g.T.Clock.last l.initial.clock ≤ (g.C.Client.facts l.initial.client).heard → g.T.Clock.last l.clock ≤ (g.C.Client.facts l.client).heard;
   kept : g.C.Client.whole l.initial.client → g.C.Client.whole l.client;
   reading : l.reader.refusal ≡ None;
   flushed : 0 < l.answered → g.K.Sink.settled l.sink;

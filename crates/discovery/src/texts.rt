@@ -1,0 +1,29 @@
+//! The texts that don't depend on what is asked, as Kubernetes writes them.
+
+pub(crate) const VERSION: &[u8] =
+    br#"{"major":"1","minor":"32","gitVersion":"v1.32.0+watchcache","gitCommit":"","gitTreeState":"","buildDate":"","goVersion":"","compiler":"","platform":""}"#;
+
+pub(crate) const CORE_VERSIONS: &[u8] =
+    br#"{"kind":"APIVersions","versions":["v1"],"serverAddressByClientCIDRs":[]}"#;
+
+pub(crate) const GROUPS: &[u8] =
+    br#"{"kind":"APIGroupList","apiVersion":"v1","groups":[{"name":"apps","versions":[{"groupVersion":"apps/v1","version":"v1"}],"preferredVersion":{"groupVersion":"apps/v1","version":"v1"}}]}"#;
+
+pub(crate) const APPS_GROUP: &[u8] =
+    br#"{"kind":"APIGroup","apiVersion":"v1","name":"apps","versions":[{"groupVersion":"apps/v1","version":"v1"}],"preferredVersion":{"groupVersion":"apps/v1","version":"v1"}}"#;
+
+pub(crate) const CORE_RESOURCES: &[u8] =
+    br#"{"kind":"APIResourceList","groupVersion":"v1","resources":[{"name":"namespaces","singularName":"namespace","namespaced":false,"kind":"Namespace","verbs":["get"],"shortNames":["ns"]},{"name":"pods","singularName":"pod","namespaced":true,"kind":"Pod","verbs":["create","delete","get","list","update","watch"],"shortNames":["po"],"categories":["all"]},{"name":"configmaps","singularName":"configmap","namespaced":true,"kind":"ConfigMap","verbs":["create","delete","get","list","update","watch"],"shortNames":["cm"]}]}"#;
+
+pub(crate) const APPS_RESOURCES: &[u8] =
+    br#"{"kind":"APIResourceList","apiVersion":"v1","groupVersion":"apps/v1","resources":[{"name":"deployments","singularName":"deployment","namespaced":true,"kind":"Deployment","verbs":["create","delete","get","list","update","watch"],"shortNames":["deploy"],"categories":["all"]}]}"#;
+
+pub(crate) const NAMESPACE_FRONT: &[u8] =
+    br#"{"kind":"Namespace","apiVersion":"v1","metadata":{"name":""#;
+
+pub(crate) const NAMESPACE_MIDDLE: &[u8] = br#"","labels":{"kubernetes.io/metadata.name":""#;
+
+pub(crate) const NAMESPACE_BACK: &[u8] =
+    br#""}},"spec":{"finalizers":["kubernetes"]},"status":{"phase":"Active"}}"#;
+
+pub(crate) const PROBED: &[u8] = b"ok";
