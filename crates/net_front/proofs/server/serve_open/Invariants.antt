@@ -1,0 +1,9 @@
+use Rattle.net_front.proofs.server.serve_open.Given as goal
+
+-- the limit that was asked for
+abbrev pub ghosts-serve_up_to-B-Limit : goal.ghosts-serve_up_to-B-Limit
+ghosts-serve_up_to-B-Limit g a = record { limit = a.limit }
+
+-- the ledger that was made
+abbrev pub ghosts-serve_up_to-B-Ledger : goal.ghosts-serve_up_to-B-Ledger
+ghosts-serve_up_to-B-Ledger g a = record { name = a.blank.name; parts = a.blank.parts }

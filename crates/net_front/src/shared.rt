@@ -1,0 +1,54 @@
+//! What the threads of a server share.
+
+ghost use Rattle.up_api.specs.Settings.{AreInRange};
+
+use crate::doorbell::Doorbell;
+use crate::house::House;
+use crate::intake::{Intake, Limit};
+use crate::tally::Tally;
+use edge_io::Listener;
+use shared_client::Cacher;
+use std::alloc::Global;
+use std::sync::{Mutex, Wait};
+use up_api::{LogFacts, Settings};
+
+/// What each of them serves by: the caches of the log, the bell of the pump, the counts of the host, and the settings.
+#[derive(Drop)]
+pub struct Front<'a, N: LogFacts, R: Wait + Copy> {
+    pub rt: &'a R,
+    pub alloc: Global,
+    pub cacher: &'a Cacher<N, R>,
+    pub settings: Settings,
+    pub doorbell: Doorbell,
+    pub house: House,
+    ghost ranged: { AreInRange settings },
+}
+
+impl<'a, N: LogFacts, R: Wait + Copy> Front<'a, N, R> {
+    /// That of a server where nobody accepts yet.
+    pub fn new(
+        rt: &'a R,
+        alloc: Global,
+        cacher: &'a Cacher<N, R>,
+        settings: Settings,
+    ) -> Front<'a, N, R>
+        requires { AreInRange settings }
+    {
+        Front {
+            rt,
+            alloc,
+            cacher,
+            settings,
+            doorbell: Doorbell::new(),
+            house: House::new(),
+        }
+    }
+}
+
+/// What they take their connections from, and what they served.
+#[derive(Drop)]
+pub struct Gate<L: Listener, B: Limit> {
+    pub intake: Mutex<Intake<L, B>>,
+    /// That of all who ended.
+    pub tally: Mutex<Tally<B>>,
+}

@@ -1,0 +1,147 @@
+//! How many sessions a thread served.
+
+ghost use Rattle.std.specs.Prelude.{◌≡◌, ◌+◌, ◌<◌, ◌≤◌, ◌^◌, false, IfSome, IfOk};
+ghost use Rattle.net_front.specs.Ends.{MayEnd};
+
+use crate::intake::{Intake, Limit};
+use crate::shared::{Front, Gate};
+use bells::Rung;
+use edge_io::Listener;
+use kube_meta::Memory;
+use std::sync::Wait;
+use std::sync::ledger::{Book, Share};
+use up_api::LogFacts;
+
+/// How many sessions were run by those whose parts are here. It is as many as they accepted connections.
+#[derive(Drop)]
+pub struct Tally<B: Limit> {
+    share: Share<B>,
+    parts: u64,
+    sessions: u64,
+    ghost held: { parts ≡ share.parts },
+    ghost some: { 0 < parts },
+    ghost each: { sessions ≡ share.amount },
+}
+
+impl<B: Limit> Tally<B> {
+    /// No session was run yet.
+    pub fn new(share: Share<B>, parts: u64) -> Tally<B>
+        requires held { parts ≡ share.parts }
+        requires some { 0 < parts }
+        requires none { share.amount ≡ 0 }
+    {
+        Tally {
+            share,
+            parts,
+            sessions: 0,
+        }
+    }
+
+    /// A part for another thread, unless this is the last.
+    pub fn split(&mut self) -> Option<Tally<B>> {
+        if self.parts < 2 {
+            return None;
+        }
+        let share = self.share.split_off(1, 0);
+        self.parts -= 1;
+        Some(Tally::new(share, 1))
+    }
+
+    /// Adds what another thread served. Where that can't be counted, its parts are lost.
+    pub fn merge(&mut self, other: Tally<B>) {
+        let Tally {
+            share,
+            parts,
+            sessions,
+        } = other;
+        let (Some(parts), Some(sessions)) = (
+            self.parts.checked_add(parts),
+            self.sessions.checked_add(sessions),
+        ) else {
+            return;
+        };
+        self.share.merge(share);
+        self.parts = parts;
+        self.sessions = sessions;
+    }
+
+    /// Waits for the next connection, and serves it by a session. The lock is free meanwhile. False where none comes.
+    pub fn serve_next<L, N, R>(
+        &mut self,
+        front: &Front<'_, N, R>,
+        gate: &Gate<L, B>,
+    ) -> Result<bool, Memory>
+    where
+        L: Listener,
+        L::T: Rung,
+        N: LogFacts,
+        R: Wait + Copy,
+    {
+        let client = front.cacher.client()?;
+        let next = gate.intake.lock(front.rt).next(&mut self.share);
+        front.house.takes();
+        match next {
+            Some(visitor) => {
+                let (heard, rung) = visitor.bells(front.alloc);
+                visitor.serve(
+                    front.rt,
+                    front.alloc,
+                    client.heard_by(rung),
+                    heard,
+                    &front.doorbell,
+                    &front.settings,
+                    &mut self.sessions,
+                );
+                Ok(true)
+            }
+            None => Ok(false),
+        }
+    }
+
+    /// The same, where nobody else accepts.
+    pub fn serve_from<L, N, R>(
+        &mut self,
+        front: &Front<'_, N, R>,
+        intake: &mut Intake<L, B>,
+    ) -> Result<bool, Memory>
+    where
+        L: Listener,
+        L::T: Rung,
+        N: LogFacts,
+        R: Wait + Copy,
+        ensures ended { IfOk result (λ served. served ≡ false →
+            MayEnd (L.over intake.new.listener) (L.faults intake.new.listener) (L.given intake.new.listener) B.limit) }
+    {
+        let client = front.cacher.client()?;
+        match intake.next(&mut self.share) {
+            Some(visitor) => {
+                let (heard, rung) = visitor.bells(front.alloc);
+                visitor.serve(
+                    front.rt,
+                    front.alloc,
+                    client.heard_by(rung),
+                    heard,
+                    &front.doorbell,
+                    &front.settings,
+                    &mut self.sessions,
+                );
+                Ok(true)
+            }
+            None => Ok(false),
+        }
+    }
+
+    /// How many sessions were run, where all parts are here: as many as are in the book.
+    pub fn sessions_of(&mut self, book: &mut Book<B>, parts: u64) -> Option<u64>
+        requires parts { parts ≡ B.parts }
+        ensures sessions { IfSome result (λ sessions. sessions ≡ book.old.total) }
+        ensures same { book.new.total ≡ book.old.total }
+    {
+        book.audit(&mut self.share);
+        if self.parts == parts {
+            Some(self.sessions)
+        } else {
+            None
+        }
+    }
+}

@@ -1,0 +1,111 @@
+//! An accepted connection. Nothing else is here, so that nothing else has its ends.
+
+ghost use Rattle.std.specs.Prelude.{◌≡◌, ℕ, ◌+◌, ◌<◌, ◌≤◌, ◌^◌, None, IfOk, IfNone};
+ghost use Rattle.edge_io.specs.Net.{handed_out, failures};
+ghost use Rattle.net_front.specs.Visits.{IsVisit};
+ghost use Rattle.sess_turns.specs.Terms.{terms_of};
+ghost use Rattle.up_api.specs.Settings.{AreInRange};
+
+use crate::clock::RungClock;
+use crate::doorbell::Doorbell;
+use crate::ringing::RingingClient;
+use crate::schedule::Schedule;
+use bells::{Bell, Rung};
+use client_api::Client;
+use edge_io::{Failed, Listener};
+use sess_serve::{SessionEnd, serve_session};
+use std::alloc::{AllocError, Global};
+use std::sync::{Arc, Wait};
+use up_api::Settings;
+
+/// An accepted connection, which is owed a session. It can't be let go: whoever has it can only have it served.
+// So it is no `Drop`, and must not become one: that is what refuses a body that forgets one, overwrites it, or leaves
+// by `?` while it holds one.
+pub struct Visitor<L: Listener> {
+    source: L::S,
+    sink: L::K,
+    clock: L::T,
+}
+
+/// Waits for the next connection of a listener.
+pub fn accepted<L: Listener>(listener: &mut L) -> Result<Option<Visitor<L>>, Failed>
+    requires room { L.given listener.old < 2 ^ 62 }
+    requires few_faults { L.faults listener.old < 2 ^ 62 }
+    ensures given { L.given listener.new ≡ L.given listener.old + handed_out result }
+    ensures faults { L.faults listener.new ≡ L.faults listener.old + failures result }
+    ensures none { IfOk result (λ visitor. IfNone visitor (L.over listener.new)) }
+{
+    match listener.accept() {
+        Ok(Some((source, sink, clock))) => Ok(Some(Visitor {
+            source,
+            sink,
+            clock,
+        })),
+        Ok(None) => Ok(None),
+        Err(Failed) => Err(Failed),
+    }
+}
+
+impl<L: Listener> Visitor<L>
+where
+    L::T: Rung,
+{
+    /// The bell at which its clock rests, twice: the clock's own, or else a new one. None where there is no memory for
+    /// it.
+    pub fn bells(&self, alloc: Global) -> (Option<Arc<Bell, Global>>, Option<Arc<Bell, Global>>) {
+        match self.two_bells(alloc) {
+            Ok((heard, rung)) => (Some(heard), Some(rung)),
+            Err(_) => (None, None),
+        }
+    }
+
+    fn two_bells(
+        &self,
+        alloc: Global,
+    ) -> Result<(Arc<Bell, Global>, Arc<Bell, Global>), AllocError> {
+        let bell = match self.clock.bell() {
+            Some(bell) => Arc::try_clone(bell)?,
+            None => Arc::new(alloc, Bell::new())?,
+        };
+        let again = Arc::try_clone(&bell)?;
+        Ok((bell, again))
+    }
+
+    /// Serves it by a session over this client, counts that, and lets it go. `bell` is what is rung for the client's
+    /// watch.
+    pub fn serve<C: Client + Drop, R: Wait>(
+        self,
+        rt: &R,
+        alloc: Global,
+        client: C,
+        bell: Option<Arc<Bell, Global>>,
+        doorbell: &Doorbell,
+        settings: &Settings,
+        sessions: &mut u64,
+    ) -> SessionEnd
+        requires idle { (C.facts client).watching ≡ None }
+        requires settings { AreInRange settings.now }
+        requires room { sessions.old < 2 ^ 63 }
+        ensures session { IsVisit (terms_of C.base C.mirror (C.facts client) settings.now) (C.whole client) (C.pass client)
+            (L.S.left self.source) (L.S.faults self.source) (L.K.faults self.sink) result }
+        ensures counted { sessions.new ≡ sessions.old + 1 }
+    {
+        let Visitor {
+            mut source,
+            mut sink,
+            clock,
+        } = self;
+        *sessions += 1;
+        let schedule = Schedule::new();
+        let mut client = RingingClient::new(client, doorbell, &schedule, settings);
+        let mut clock = RungClock::new(clock, rt, bell, doorbell, &schedule);
+        serve_session(
+            alloc,
+            &mut client,
+            &mut source,
+            &mut sink,
+            &mut clock,
+            settings,
+        )
+    }
+}
