@@ -1,0 +1,11 @@
+pub mod Findings
+pub mod Reading
+pub mod Order
+pub mod Pieces
+pub mod Trials
+pub mod MoveLemmas
+pub mod LossLemmas
+pub mod LineLemmas
+pub mod OpeningLemmas
+pub mod StartLemmas
+pub mod JudgeLemmas

@@ -1,0 +1,10 @@
+pub mod Findings
+pub mod Reading
+pub mod Trials
+pub mod Moves
+pub mod Losses
+pub mod Courses
+pub mod Judging
+pub mod Rounds
+pub mod Steps
+pub mod Places

@@ -1,0 +1,6 @@
+pub mod Lines
+pub mod Headers
+pub mod Revisions
+pub mod Reading
+pub mod Asking
+pub mod Records
