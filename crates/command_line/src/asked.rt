@@ -16,6 +16,8 @@ pub enum Asked {
     Serve(ServeOptions),
     /// A load on a client of its own.
     Load(LoadOptions),
+    /// The judgement of a recorded watch body.
+    Check,
 }
 
 /// How a server is set.
@@ -23,8 +25,11 @@ pub enum Asked {
 pub struct ServeOptions {
     /// The port of the loopback address; at 0 the system chooses one.
     pub port: u16,
-    /// Threads that accept connections and serve them: 1 to 64.
+    /// Threads that accept connections and serve them from the start to the end: 1 to 64.
     pub workers: usize,
+    /// Connections that are served at once, by further threads that come on demand: 1 to 65,536. As many as there are
+    /// workers are in any case.
+    pub open: u64,
     /// Connections that are accepted before the server ends: 0 to 2^62, and 0 stands for 2^62.
     pub connections: u64,
     /// How each session is set.

@@ -54,6 +54,7 @@ fn serve_command<'a>(alloc: Global) -> Result<Command<'a>, Memory>
     let command = with_settings(alloc, Command::new(alloc, "serve"))?;
     let command = with_option(alloc, command, "port")?;
     let command = with_option(alloc, command, "workers")?;
+    let command = with_option(alloc, command, "open")?;
     with_option(alloc, command, "connections")
 }
 
@@ -71,10 +72,12 @@ fn with_connections(matches: &ArgMatches<'_>, settings: Settings) -> Option<Serv
 {
     let port = number(matches, "port", 0, 65_535, 8_001)? as u16;
     let workers = number(matches, "workers", 1, 64, 4)? as usize;
+    let open = number(matches, "open", 1, 65_536, 16_384)?;
     let connections = number(matches, "connections", 0, MAX_REVISION, 0)?;
     Some(ServeOptions {
         port,
         workers,
+        open,
         connections,
         settings,
     })
@@ -108,4 +111,12 @@ fn load_options(matches: &ArgMatches<'_>) -> Option<LoadOptions>
     let from = number(matches, "from", 0, MAX_REVISION, 1)?;
     let requests = number(matches, "requests", 0, 100_000, 1_000)?;
     Some(LoadOptions { from, requests })
+}
+
+/// Whether the words of a check, the first of which is `check`, are such: it has no options.
+pub(crate) fn read_check(alloc: Global, words: &[String]) -> Result<(), WordsNo>
+    ensures { spec.ReadsCheck (map string_bytes words.now) result }
+{
+    matched(Command::new(alloc, "check"), words)?;
+    Ok(())
 }

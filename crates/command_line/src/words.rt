@@ -4,12 +4,12 @@ ghost use Rattle.std.specs.Prelude.{◌≡◌, IfOk, bytes_eq, map, string_bytes
 ghost use Rattle.std.specs.List.{list_any};
 ghost use Rattle.command_line.specs.Words as spec;
 
-use crate::commands::{read_load, read_serve, read_settings};
+use crate::commands::{read_check, read_load, read_serve, read_settings};
 use crate::{Asked, WordsNo};
 use std::alloc::Global;
 
-/// What the words of a command line ask for, behind the program's name: help, the version, one session, a server, or a
-/// load.
+/// What the words of a command line ask for, behind the program's name: help, the version, one session, a server, a
+/// load, or a check.
 pub fn read_words(alloc: Global, words: &[String]) -> Result<Asked, WordsNo>
     ensures reads { spec.Reads (map string_bytes words.now) result }
     ensures range { IfOk result spec.IsInRange }
@@ -35,6 +35,12 @@ pub fn read_words(alloc: Global, words: &[String]) -> Result<Asked, WordsNo>
     if begins_with(words, "load") {
         return match read_load(alloc, words) {
             Ok(options) => Ok(Asked::Load(options)),
+            Err(fault) => Err(fault),
+        };
+    }
+    if begins_with(words, "check") {
+        return match read_check(alloc, words) {
+            Ok(()) => Ok(Asked::Check),
             Err(fault) => Err(fault),
         };
     }

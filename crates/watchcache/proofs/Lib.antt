@@ -1,1 +1,3 @@
 pub mod ServerLemmas
+pub mod InputLemmas
+pub mod TellingLemmas

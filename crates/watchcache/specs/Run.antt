@@ -1,14 +1,17 @@
 -- What the program does for the words of its command line: its exit status, the bytes that it took and those that it wrote.
-use Rattle.std.specs.Prelude.{◌≡◌, ℕ, ◌<◌, ◌≤◌, ◌⊎◌, List, [], false, Option, Some, Result, Ok, Err}
+use Rattle.std.specs.Prelude.{◌≡◌, ℕ, ◌+◌, ◌<◌, ◌≤◌, ◌⊎◌, List, length, [], false, Option, Some, Result, Ok, Err}
+use Rattle.body_check.specs.Judging.{IsJudged}
+use Rattle.body_check.specs.declared.judging.Checked.{Checked}
+use Rattle.body_check.specs.declared.judging.Checked.TheVariants.{Lawful, Unlawful}
 use Rattle.command_line.specs.Words.{Reads}
 use Rattle.command_line.specs.declared.asked.Asked.{Asked}
-use Rattle.command_line.specs.declared.asked.Asked.TheVariants.{Help, Version, Session, Serve, Load}
+use Rattle.command_line.specs.declared.asked.Asked.TheVariants.{Help, Version, Session, Serve, Load, Check}
 use Rattle.command_line.specs.declared.asked.LoadOptions.{LoadOptions}
 use Rattle.command_line.specs.declared.asked.ServeOptions.{ServeOptions}
 use Rattle.command_line.specs.declared.asked.WordsNo.{WordsNo}
 use Rattle.command_line.specs.declared.asked.WordsNo.TheVariants.{Bad, Memory}
 use Rattle.edge_io.specs.Counts.{Rose}
-use Rattle.edge_io.specs.Told.{prepended, appended, AppendedSome, Noted}
+use Rattle.edge_io.specs.Told.{prepended, appended, AppendedSome, Noted, IsExhausted}
 use Rattle.edge_io.specs.declared.clock.Reading.{Reading}
 use Rattle.load_gen.specs.Figures.{lines_of}
 use Rattle.load_gen.specs.Loads.{IsLoad}
@@ -22,7 +25,10 @@ use Rattle.sess_serve.specs.Session.{IsSession}
 use Rattle.sess_serve.specs.Status.{status_of}
 use Rattle.sess_serve.specs.declared.ends.SessionEnd.{SessionEnd}
 use Rattle.up_api.specs.declared.settings.Settings.{Settings}
-use Rattle.watchcache.specs.Texts.{help, version, bad_line, sessions}
+use Rattle.watch_record.specs.Records.{fault_of, max_bytes, IsRecordOf}
+use Rattle.watch_record.specs.declared.records.Record.{Record}
+use Rattle.watch_record.specs.declared.refusals.RecordNo.{RecordNo}
+use Rattle.watchcache.specs.Texts.{help, version, bad_line, sessions, verdict}
 
 -- ---- what went through the program's ends
 
@@ -35,7 +41,7 @@ pub record Sent : Type 1 where
   pub settled_new : Type 0
   pub write_fault : Type 0
 
--- of a sink, by what it tells before and after
+-- what went through a sink, by what it tells before and after
 abbrev pub sent_through : {K : Type 0} → (K → Option (List ℕ)) → (K → Type 0) → (K → ℕ) → K → K → Sent
 sent_through written settled faults old new = record {
   written_old = written old;
@@ -55,7 +61,7 @@ pub record Ends : Type 1 where
   pub read_fault : Type 0
   pub sent : Sent
 
--- of a source and a clock, by what they tell before and after
+-- what went through a source, a clock and a sink, by what the first two tell before and after
 abbrev pub ends_of : {S T : Type 0} → (S → Option (List ℕ)) → (S → ℕ) → S → S → (T → Option (List Reading)) → T → T → Sent → Ends
 ends_of left faults source_old source_new readings clock_old clock_new sent = record {
   left_old = left source_old;
@@ -66,12 +72,8 @@ ends_of left faults source_old source_new readings clock_old clock_new sent = re
   sent = sent;
 }
 
--- some listener that gave so many connections is over, so that no more will come
-abbrev pub IsOver : {L : Type 0} → (L → ℕ) → (L → Type 0) → ℕ → Type 0
-IsOver {L} given over n = ∥ ((listener : L) × (given listener ≡ n) × over listener) ∥₁
-
--- the net's count of faults; how many connections the listener had given that was shut last; and whether a listener that
--- gave as many is over
+-- the net's count of faults; how many connections the listener had given that was shut last; and whether no more will
+-- come to it
 pub record NetUse : Type 1 where
   pub faults_old : ℕ
   pub faults_new : ℕ
@@ -79,14 +81,14 @@ pub record NetUse : Type 1 where
   pub served_new : ℕ
   pub over : Type 0
 
--- of a net, by what it and its listeners tell before and after
-abbrev pub use_of : {N L : Type 0} → (N → ℕ) → (N → ℕ) → (L → ℕ) → (L → Type 0) → N → N → NetUse
-use_of faults served given over old new = record {
+-- how a net was used, by what it tells before and after
+abbrev pub use_of : {N : Type 0} → (N → ℕ) → (N → ℕ) → (N → Type 0) → N → N → NetUse
+use_of faults served ended old new = record {
   faults_old = faults old;
   faults_new = faults new;
   served_old = served old;
   served_new = served new;
-  over = IsOver given over (served new);
+  over = ∥ ended new ∥₁;
 }
 
 -- nothing was read
@@ -169,11 +171,44 @@ pub record IsServed (options : ServeOptions) (net : NetUse) (sent : Sent) (statu
   pub ended : net.over ⊎ HasFailed net ⊎ (limit_of options.connections ≤ net.served_new)
   pub told : TellsSessions net sent status
 
--- a server: it ended; or it had no port, for the net failed; or no memory
+-- what came of a server: it ended; or it told nothing and no listener was shut, as listening failed or there was no memory
 abbrev pub RunsServer : ServeOptions → NetUse → Sent → ℕ → Type 0
 RunsServer options net sent status =
     IsServed options net sent status
-    ⊎ ((HasFailed net × IsSilent 9 sent status) ⊎ ((net.faults_new ≡ net.faults_old) × IsSilent 8 sent status))
+    ⊎ ((net.served_new ≡ net.served_old)
+    × ((HasFailed net × IsSilent 9 sent status) ⊎ ((net.faults_new ≡ net.faults_old) × IsSilent 8 sent status)))
+
+-- ---- a check
+
+-- the bytes are a record that is judged so, or they are none for this reason
+abbrev pub IsSaid : List ℕ → Result Checked RecordNo → Type 0
+IsSaid bytes (Ok judgement) = (case : Record) × IsRecordOf bytes case × IsJudged case judgement
+IsSaid bytes (Err fault) = fault_of bytes ≡ Some fault
+
+-- the exit status, where that was sent on
+abbrev pub status_of_verdict : Result Checked RecordNo → ℕ
+status_of_verdict (Ok (Lawful at to)) = 0
+status_of_verdict (Ok (Unlawful line)) = 11
+status_of_verdict (Err fault) = 12
+
+-- what is true of the bytes was told, or there was no memory
+abbrev pub ChecksBytes : List ℕ → Sent → ℕ → Type 0
+ChecksBytes bytes sent status =
+    ((judged : Result Checked RecordNo) × IsSaid bytes judged × IsTold (verdict judged) (status_of_verdict judged) sent status)
+    ⊎ IsSilent 8 sent status
+
+-- all bytes of the source were read, or one more than a record has, and checked
+pub record IsChecked (left left_new : Option (List ℕ)) (sent : Sent) (status : ℕ) : Type 0 where
+  pub taken : List ℕ
+  pub source : left ≡ prepended taken left_new
+  pub whole : IsExhausted left_new ⊎ (max_bytes < length taken)
+  pub few : length taken ≤ max_bytes + 1
+  pub checked : ChecksBytes taken sent status
+
+-- the source was checked, or it failed, or there was no memory for its bytes
+abbrev pub ChecksSource : Option (List ℕ) → Option (List ℕ) → Type 0 → Sent → ℕ → Type 0
+ChecksSource left left_new read_fault sent status =
+    IsChecked left left_new sent status ⊎ ((read_fault × IsSilent 3 sent status) ⊎ IsSilent 8 sent status)
 
 -- ---- the program
 
@@ -188,6 +223,9 @@ Does (Ok Version) ends net status = IsUnused net × IsIdle ends × IsTold versio
 Does (Ok (Session settings)) ends net status = IsUnused net × RunsSession settings ends status
 Does (Ok (Serve options)) ends net status = IsUnread ends × RunsServer options net ends.sent status
 Does (Ok (Load options)) ends net status = IsUnused net × IsIdle ends × TellsLoad options ends.sent status
+Does (Ok Check) ends net status =
+    IsUnused net × (ends.readings_new ≡ ends.readings_old)
+    × ChecksSource ends.left_old ends.left_new ends.read_fault ends.sent status
 Does (Err Bad) ends net status = IsUnused net × IsIdle ends × IsTold bad_line 2 ends.sent status
 Does (Err Memory) ends net status = IsUnused net × IsUnserved ends status
 

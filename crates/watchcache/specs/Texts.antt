@@ -1,6 +1,10 @@
 -- The texts that the program writes for its words.
-use Rattle.std.specs.Prelude.{ℕ, List, [], ◌∷◌, ◌++◌, codes, decimal}
+use Rattle.std.specs.Prelude.{ℕ, List, [], ◌∷◌, ◌++◌, Result, Ok, Err, codes, decimal}
 use Rattle.std.specs.List.{concat}
+use Rattle.body_check.specs.declared.judging.Checked.{Checked}
+use Rattle.body_check.specs.declared.judging.Checked.TheVariants.{Lawful, Unlawful}
+use Rattle.watch_record.specs.declared.refusals.RecordNo.{RecordNo}
+use Rattle.watch_record.specs.declared.refusals.RecordNo.TheVariants.{TooLong, BadHeader, NoBody, BadLog, BadFloor, BadAsk, Memory}
 
 -- how the program is used: its commands, their options with range and default, and its exit statuses
 abbrev pub help : List ℕ
@@ -11,6 +15,7 @@ help =
     ∷ codes "  watchcache session [OPTION]..   serve one connection: requests on standard input, replies on standard output\n"
     ∷ codes "  watchcache serve [OPTION]..     serve connections to a port of 127.0.0.1, until it is told to end\n"
     ∷ codes "  watchcache load [OPTION]..      serve a session of drawn requests in memory, and write five lines of what came of it\n"
+    ∷ codes "  watchcache check                judge the record of a log and of a watch's body on standard input\n"
     ∷ codes "  watchcache --help               write this text\n"
     ∷ codes "  watchcache --version            write the version\n"
     ∷ codes "\n"
@@ -26,7 +31,8 @@ help =
     ∷ codes "\n"
     ∷ codes "and of serve:\n"
     ∷ codes "  --port N          the port: 0 to 65535, default 8001; 0 is any that is free\n"
-    ∷ codes "  --workers N       connections that are served side by side: 1 to 64, default 4\n"
+    ∷ codes "  --workers N       threads that serve connections from the start on: 1 to 64, default 4\n"
+    ∷ codes "  --open N          connections that are served side by side, by threads that come as they are wanted: 1 to 65536, default 16384\n"
     ∷ codes "  --connections N   connections that are accepted before it ends: 0 to 4611686018427387904, default 0, which is all\n"
     ∷ codes "\n"
     ∷ codes "those of load:\n"
@@ -43,14 +49,36 @@ help =
     ∷ codes "  7   1000000 requests were answered\n"
     ∷ codes "  8   memory ran out\n"
     ∷ codes "  9   listening or accepting failed\n"
+    ∷ codes "  11  the body of a record is unlawful\n"
+    ∷ codes "  12  what was to be checked is no record\n"
     ∷ [])
 
 -- how many sessions a server served
 abbrev pub sessions : ℕ → List ℕ
 sessions accepted = codes "sessions " ++ decimal accepted ++ codes "\n"
 
+-- what is written for `--version`: the program's name and its version
 abbrev pub version : List ℕ
 version = codes "watchcache 0.1.0\n"
 
+-- what is written where the words ask for nothing that there is
 abbrev pub bad_line : List ℕ
 bad_line = codes "watchcache: bad command line\n"
+
+-- ---- of a check
+
+-- the name of a reason why bytes are no record
+abbrev pub name_of : RecordNo → List ℕ
+name_of TooLong = codes "TooLong"
+name_of BadHeader = codes "BadHeader"
+name_of NoBody = codes "NoBody"
+name_of (BadLog line) = codes "BadLog"
+name_of BadFloor = codes "BadFloor"
+name_of BadAsk = codes "BadAsk"
+name_of Memory = codes "Memory"
+
+-- what is written of a judgement, or of a refusal
+abbrev pub verdict : Result Checked RecordNo → List ℕ
+verdict (Ok (Lawful at to)) = codes "lawful from " ++ (decimal at ++ (codes " to " ++ (decimal to ++ codes "\n")))
+verdict (Ok (Unlawful line)) = codes "unlawful at line " ++ decimal line ++ codes "\n"
+verdict (Err fault) = codes "record: " ++ name_of fault ++ codes "\n"

@@ -4,13 +4,15 @@ ghost use Rattle.std.specs.Prelude.{◌<◌, ◌^◌, IfOk};
 ghost use Rattle.command_line.specs.Words.{IsInRange};
 ghost use Rattle.watchcache.specs.Run.{Does, ends_of, sent_through, use_of};
 
+use crate::checks::check_record;
 use crate::loads::load;
 use crate::server::serve;
 use crate::session::run_session;
 use crate::statuses::OUT_OF_MEMORY;
 use crate::texts::{write_bad_line, write_help, write_version};
+use bells::Rung;
 use command_line::{Asked, WordsNo};
-use edge_io::{Clock, Net, Sink, Source};
+use edge_io::{Clock, Listener, Net, Sink, Source};
 use std::alloc::Global;
 use std::sync::Wait;
 use std::thread::Threads;
@@ -31,12 +33,13 @@ where
     K: Sink,
     T: Clock + Send,
     N: Net,
+    <N::L as Listener>::T: Rung,
     requires range { IfOk asked IsInRange }
     requires few_faults { N.faults net.old < 2 ^ 62 }
     ensures { Does asked
         (ends_of S.left S.faults source.old source.new T.readings clock.old clock.new
         (sent_through K.written K.settled K.faults sink.old sink.new))
-        (use_of N.faults N.served N.L.given N.L.over net.old net.new) result }
+        (use_of N.faults N.served N.ended net.old net.new) result }
 {
     match asked {
         Ok(Asked::Help) => write_help(sink),
@@ -44,6 +47,7 @@ where
         Ok(Asked::Session(settings)) => run_session(alloc, &settings, source, sink, clock),
         Ok(Asked::Serve(options)) => serve(rt, alloc, options, sink, clock, net),
         Ok(Asked::Load(options)) => load(alloc, options, sink),
+        Ok(Asked::Check) => check_record(alloc, source, sink),
         Err(WordsNo::Bad) => write_bad_line(sink),
         Err(WordsNo::Memory) => OUT_OF_MEMORY,
     }

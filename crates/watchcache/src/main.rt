@@ -2,22 +2,27 @@
 //!
 //! `watchcache session` reads the requests of one connection on standard input, and writes the replies to standard
 //! output. `watchcache serve` does so for the connections to a port, and `watchcache load` with requests that it draws.
+//! `watchcache check` judges the record of a watch's body on standard input.
 //! `watchcache --help` says which options they have.
 #![tactic(auto)]
 
+mod checks;
 mod commands;
+mod inputs;
 mod loads;
 mod server;
 mod session;
 mod statuses;
+mod telling;
 mod texts;
 
 ghost use Rattle.std.specs.Prelude.{◌≡◌, ◌<◌, ◌^◌, map, string_bytes};
 ghost use Rattle.watchcache.specs.Run.{IsRun, ends_of, sent_through, use_of};
 
+use bells::Rung;
 use command_line::read_words;
 use commands::perform;
-use edge_io::{Clock, Net, ReadEnd, Sink, Source, StepClock, SystemClock, WriteEnd};
+use edge_io::{Clock, Listener, Net, ReadEnd, Sink, Source, StepClock, SystemClock, WriteEnd};
 use statuses::OUT_OF_MEMORY;
 use std::alloc::{AllocError, Global};
 use std::env::{self, Env};
@@ -33,9 +38,10 @@ use tcp_net::LoopbackNet;
 /// `session` with its options is one session over `source` and `sink`, with a client that answers from caches of a
 /// log of its own, whose first revision is 1. `serve` serves each connection to a port by such a session, over one
 /// log, and tells on `sink` how many there were; the status is 9 where `net` failed. `load` serves a session of drawn
-/// requests in memory, and tells on `sink` what came of it. `--help` and `--version`, at any place, are told on
-/// `sink`: status 0. All else is a bad command line: status 2. The status is 4 where `sink` failed, and 8 where
-/// memory ran out.
+/// requests in memory, and tells on `sink` what came of it. `check` reads a record from `source`, and tells on `sink`
+/// how the body in it is judged: status 0 where it is lawful, 11 where it isn't, 12 where the bytes are no record.
+/// `--help` and `--version`, at any place, are told on `sink`: status 0. All else is a bad command line: status 2. The
+/// status is 4 where `sink` failed, and 8 where memory ran out.
 pub fn run<R, S, K, T, N>(
     rt: R,
     alloc: Global,
@@ -51,11 +57,12 @@ where
     K: Sink,
     T: Clock + Send,
     N: Net,
+    <N::L as Listener>::T: Rung,
     requires { N.faults net.old < 2 ^ 62 }
     ensures { IsRun (map string_bytes words.now)
         (ends_of S.left S.faults source.old source.new T.readings clock.old clock.new
         (sent_through K.written K.settled K.faults sink.old sink.new))
-        (use_of N.faults N.served N.L.given N.L.over net.old net.new) result }
+        (use_of N.faults N.served N.ended net.old net.new) result }
 {
     let asked = read_words(alloc, words);
     perform(rt, alloc, asked, source, sink, clock, net)

@@ -1,17 +1,19 @@
 //! A server of many connections.
 
-ghost use Rattle.std.specs.Prelude.{◌≡◌, ◌<◌, ◌≤◌, ◌^◌, ◌↔◌, [], false, IsTrue, IfOk};
+ghost use Rattle.std.specs.Prelude.{◌≡◌, ◌<◌, ◌≤◌, ◌^◌, ◌↔◌, ◌==◌, if◌then◌else◌, [], false, IsTrue, IfOk};
 ghost use Rattle.command_line.specs.Words.{AreServed};
 ghost use Rattle.up_api.specs.Settings.{AreInRange};
 ghost use Rattle.watchcache.specs.Run.{IsTold, RunsServer, TellsSessions, sent_through, use_of};
 ghost use Rattle.watchcache.specs.Texts.{sessions};
 
-use crate::statuses::{DONE, NET_FAULT, OUT_OF_MEMORY, WRITE_FAULT};
+use crate::statuses::{DONE, NET_FAULT, OUT_OF_MEMORY};
+use crate::telling::tell;
+use bells::Rung;
 use command_line::ServeOptions;
 use edge_io::{Clock, Listener, Net, Sink};
 use itoa::Buffer;
 use kube_meta::Memory;
-use net_front::{Served, serve_all};
+use net_front::{Served, serve_open};
 use rev_front::{Blank, blank};
 use rev_log::Revision;
 use shared_client::Cacher;
@@ -24,6 +26,9 @@ use up_store::{Store, StoreDoor};
 
 /// The first revision of a new log.
 const FIRST: u64 = 1;
+
+/// How many changes a served window may grow to, where the options don't let it grow.
+const GROWN: usize = 102_400;
 
 /// Serves the connections to a port, over caches of one new log, and tells how many there were. Answers the status.
 pub fn serve<R, K, T, N>(
@@ -39,9 +44,10 @@ where
     K: Sink,
     T: Clock + Send,
     N: Net,
+    <N::L as Listener>::T: Rung,
     requires range { AreServed options }
     requires few_faults { N.faults net.old < 2 ^ 62 }
-    ensures { RunsServer options (use_of N.faults N.served N.L.given N.L.over net.old net.new)
+    ensures { RunsServer options (use_of N.faults N.served N.ended net.old net.new)
         (sent_through K.written K.settled K.faults sink.old sink.new) result }
 {
     match blank(alloc, FIRST) {
@@ -66,16 +72,17 @@ where
     K: Sink,
     T: Clock + Send,
     N: Net,
+    <N::L as Listener>::T: Rung,
     requires name { made ≡ L.log }
     requires base { L.base ≡ [] }
     requires own { L.mirror ≡ false }
     requires window { L.window ≡ options.settings.window }
     requires range { AreServed options }
     requires few_faults { N.faults net.old < 2 ^ 62 }
-    ensures { RunsServer options (use_of N.faults N.served N.L.given N.L.over net.old net.new)
+    ensures { RunsServer options (use_of N.faults N.served N.ended net.old net.new)
         (sent_through K.written K.settled K.faults sink.old sink.new) result }
 {
-    match cacher_of::<L, R>(rt, alloc, made, &options.settings) {
+    match cacher_of::<L, R>(rt, alloc, made, &growing(options.settings)) {
         Ok(cacher) => {
             let status = serve_port(rt, alloc, &cacher, options, sink, clock, net);
             cacher.close();
@@ -83,6 +90,21 @@ where
         }
         Err(_) => OUT_OF_MEMORY,
     }
+}
+
+// The settings of served caches, whose window grows while changes are fresh: a watch that is told nothing takes a turn
+// each half minute alone, and goes on from where it stands.
+fn growing(settings: Settings) -> Settings
+    requires range { AreInRange settings }
+    ensures range { AreInRange result }
+    ensures window { result.window ≡ settings.window }
+    ensures grows { result.window_max ≡ (if settings.window_max == settings.window then 102400 else settings.window_max) }
+{
+    let mut settings = settings;
+    if settings.window_max == settings.window {
+        settings.window_max = GROWN;
+    }
+    settings
 }
 
 // The caches of a new log, behind their locks.
@@ -121,22 +143,24 @@ where
     K: Sink,
     T: Clock + Send,
     N: Net,
+    <N::L as Listener>::T: Rung,
     requires range { AreServed options }
     requires few_faults { N.faults net.old < 2 ^ 62 }
-    ensures { RunsServer options (use_of N.faults N.served N.L.given N.L.over net.old net.new)
+    ensures { RunsServer options (use_of N.faults N.served N.ended net.old net.new)
         (sent_through K.written K.settled K.faults sink.old sink.new) result }
 {
     let Ok(listener) = net.listen(options.port) else {
         return NET_FAULT;
     };
     let (workers, connections) = (options.workers, options.connections);
-    match serve_all(
+    match serve_open(
         &rt,
         alloc,
         listener,
         cacher,
         clock,
         workers,
+        options.open,
         connections,
         &options.settings,
     ) {
@@ -151,8 +175,9 @@ fn finish<K: Sink, N: Net>(served: Served<N::L>, sink: &mut K, net: &mut N) -> u
     requires faulted { IsTrue served.faulted ↔ (0 < N.L.faults served.listener) }
     requires few_faults { N.faults net.old < 2 ^ 62 }
     ensures served { N.served net.new ≡ N.L.given served.listener }
+    ensures ended { N.ended net.new ↔ N.L.over served.listener }
     ensures failed { 0 < N.L.faults served.listener → N.faults net.old < N.faults net.new }
-    ensures told { TellsSessions (use_of N.faults N.served N.L.given N.L.over net.old net.new)
+    ensures told { TellsSessions (use_of N.faults N.served N.ended net.old net.new)
         (sent_through K.written K.settled K.faults sink.old sink.new) result }
 {
     let (accepted, faulted) = (served.accepted, served.faulted);
@@ -167,11 +192,5 @@ fn write_sessions<K: Sink>(accepted: u64, sink: &mut K) -> u8
 {
     let mut digits = Buffer::new();
     let pieces: [&[u8]; 3] = [b"sessions ", digits.format(accepted).as_bytes(), b"\n"];
-    if sink.write_pieces(&pieces).is_err() {
-        return WRITE_FAULT;
-    }
-    if sink.flush().is_err() {
-        return WRITE_FAULT;
-    }
-    DONE
+    tell(sink, &pieces, DONE)
 }

@@ -3,7 +3,8 @@
 ghost use Rattle.watchcache.specs.Run.{IsTold, sent_through};
 ghost use Rattle.watchcache.specs.Texts.{help, version, bad_line};
 
-use crate::statuses::{BAD_WORDS, DONE, WRITE_FAULT};
+use crate::statuses::{BAD_WORDS, DONE};
+use crate::telling::tell;
 use edge_io::Sink;
 
 /// How the program is used: commands, options with their ranges and defaults, exit statuses.
@@ -14,6 +15,7 @@ usage:
   watchcache session [OPTION]..   serve one connection: requests on standard input, replies on standard output
   watchcache serve [OPTION]..     serve connections to a port of 127.0.0.1, until it is told to end
   watchcache load [OPTION]..      serve a session of drawn requests in memory, and write five lines of what came of it
+  watchcache check                judge the record of a log and of a watch's body on standard input
   watchcache --help               write this text
   watchcache --version            write the version
 
@@ -29,7 +31,8 @@ options, each at most once, as --window 50 or --window=50; those of session and 
 
 and of serve:
   --port N          the port: 0 to 65535, default 8001; 0 is any that is free
-  --workers N       connections that are served side by side: 1 to 64, default 4
+  --workers N       threads that serve connections from the start on: 1 to 64, default 4
+  --open N          connections that are served side by side, by threads that come as they are wanted: 1 to 65536, default 16384
   --connections N   connections that are accepted before it ends: 0 to 4611686018427387904, default 0, which is all
 
 those of load:
@@ -46,6 +49,8 @@ exit status:
   7   1000000 requests were answered
   8   memory ran out
   9   listening or accepting failed
+  11  the body of a record is unlawful
+  12  what was to be checked is no record
 ";
 
 const VERSION: &[u8] = b"watchcache 0.1.0\n";
@@ -77,11 +82,5 @@ pub fn write_bad_line<K: Sink>(sink: &mut K) -> u8
 fn write<K: Sink>(sink: &mut K, text: &[u8], done: u8) -> u8
     ensures { IsTold text.now done (sent_through K.written K.settled K.faults sink.old sink.new) result }
 {
-    if sink.write_all(text).is_err() {
-        return WRITE_FAULT;
-    }
-    if sink.flush().is_err() {
-        return WRITE_FAULT;
-    }
-    done
+    tell(sink, &[text], done)
 }

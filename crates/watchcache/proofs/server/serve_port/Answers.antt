@@ -2,13 +2,13 @@ use Rattle.std.proofs.Common.{◌≡◌, ◌<◌, arith, inl}
 use Rattle.watchcache.proofs.ServerLemmas.{tells_since, why_ended}
 use Rattle.watchcache.proofs.server.serve_port.Goals as goal
 
-pub returns-in-Ok-serve_all : goal.returns-in-Ok-serve_all
-returns-in-Ok-serve_all g c =
+pub returns-in-Ok-serve_open : goal.returns-in-Ok-serve_open
+returns-in-Ok-serve_open g c =
     let quiet : g.N.Net.faults c.listen.new.self ≡ g.N.Net.faults c.args.net.now = omega (arith, c.in-Ok.ensures.faults) in
-    let fails : 0 < g.N.L.Listener.faults c.in-Ok-serve_all.served.listener → g.N.Net.faults c.args.net.now < g.N.Net.faults c.finish.new.net =
+    let fails : 0 < g.N.L.Listener.faults c.in-Ok-serve_open.served.listener → g.N.Net.faults c.args.net.now < g.N.Net.faults c.finish.new.net =
     λ h. let f = c.finish.ensures.failed h in omega (arith, quiet, f) in
     inl (record {
-      ended = why_ended g.N.L.Listener.given g.N.L.Listener.over g.N.L.Listener.faults c.in-Ok-serve_all.served.listener _ _ _ _
-          c.in-Ok-serve_all.ensures.accepted c.finish.ensures.served fails c.in-Ok-serve_all.ensures.ended;
+      ended = why_ended g.N.L.Listener.given g.N.L.Listener.over g.N.L.Listener.faults c.in-Ok-serve_open.served.listener _ _ _ _ _
+          c.in-Ok-serve_open.ensures.accepted c.finish.ensures.served c.finish.ensures.ended fails c.in-Ok-serve_open.ensures.ended;
       told = tells_since _ _ _ _ _ _ quiet c.finish.ensures.told;
     })

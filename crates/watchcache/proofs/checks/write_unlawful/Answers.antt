@@ -1,0 +1,9 @@
+use Rattle.std.proofs.Common.{rules}
+use Rattle.watchcache.specs.Run.{sent_through}
+use Rattle.watchcache.proofs.TellingLemmas.{told_as}
+use Rattle.watchcache.proofs.checks.write_unlawful.Goals as goal
+
+pub returns : goal.returns
+returns g c =
+    told_as _ _ 11 (sent_through g.K.Sink.written g.K.Sink.settled g.K.Sink.faults c.args.sink.now c.tell.new.sink) c.tell.result
+    (search rules) c.tell.ensures
