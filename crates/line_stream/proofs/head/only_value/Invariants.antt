@@ -1,0 +1,10 @@
+use Rattle.std.proofs.Common.{◌≡◌, map, take}
+use Rattle.std.specs.Option.{option_to_list}
+use Rattle.httparse.specs.Spans.{header_bytes}
+use Rattle.http_read.specs.Heads.{values_of}
+use Rattle.line_stream.proofs.head.only_value.Given as goal
+
+-- the values so far
+abbrev pub invariant-loop-field : goal.invariant-loop-field
+invariant-loop-field l =
+    values_of l.name (map (header_bytes l.bytes) (take l.field-index l.fields)) ≡ map (λ value. value.now) (option_to_list l.found)

@@ -1,0 +1,10 @@
+pub mod Chunks
+pub mod Readers
+pub mod Looks
+pub mod Moves
+pub mod Steps
+pub mod Answers
+pub mod Heads
+pub mod HeadSteps
+pub mod Standing
+pub mod Laws

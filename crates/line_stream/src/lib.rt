@@ -1,0 +1,17 @@
+//! Lines in chunks: the head of an HTTP/1.1 response (RFC 9112), the chunked data behind it, and the lines in that
+//! data, out of any [`Source`](edge_io::Source), in pieces of any size. The grammar of heads and of chunks is that of
+//! `httparse`.
+#![tactic(auto)]
+
+mod chunks;
+mod head;
+mod laws;
+mod lines;
+mod look;
+mod place;
+mod refusal;
+
+pub use laws::lines_are_read_in_one_way;
+pub use lines::{LineReader, Step};
+pub use place::Place;
+pub use refusal::LineNo;

@@ -1,0 +1,11 @@
+pub mod ListLemmas
+pub mod RowLemmas
+pub mod EchoLemmas
+pub mod MirrorLemmas
+pub mod LineLemmas
+pub mod FollowLemmas
+pub mod OnwardLemmas
+pub mod TakenLemmas
+pub mod AnswerLemmas
+pub mod ObjectLemmas
+pub mod ToldLemmas

@@ -1,0 +1,5 @@
+pub mod Mirrors
+pub mod Following
+pub mod Taking
+pub mod Objects
+pub mod Laws

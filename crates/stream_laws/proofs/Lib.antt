@@ -1,0 +1,5 @@
+pub mod SizeLemmas
+pub mod HeadLemmas
+pub mod StreamLemmas
+pub mod AgreeLemmas
+pub mod OutcomeLemmas

@@ -1,0 +1,38 @@
+-- Streams that are written and read.
+use Rattle.std.specs.Prelude.{◌≡◌, ℕ, List, [], ◌∷◌, ◌++◌, Option, None, All}
+use Rattle.std.specs.List.{flat_map}
+use Rattle.http_send.specs.Replies.{stream_head_text, chunk_text, stream_end_text}
+use Rattle.line_stream.specs.Readers.{ReaderData}
+use Rattle.line_stream.specs.Standing.{IsLine, Stands}
+use Rattle.line_stream.specs.declared.place.Place.{Place}
+use Rattle.line_stream.specs.declared.place.Place.TheVariants.{AtSize, Over}
+
+-- a stream so far: its head, and lines, each in a chunk of its own
+abbrev pub stream_bytes : List (List ℕ) → List ℕ
+stream_bytes lines = stream_head_text ++ flat_map (λ line. chunk_text (line ++ 10 ∷ [])) lines
+
+-- a whole stream
+abbrev pub whole_stream : List (List ℕ) → List ℕ
+whole_stream lines = stream_bytes lines ++ stream_end_text
+
+-- a reader that used all bytes, and may take any amount of data
+abbrev pub reader_at : Place → ReaderData
+reader_at place = record { kept = []; place = place; part = []; room = None }
+
+-- a stream stands with its lines, and the body is over where it has its end
+abbrev pub StreamsStand : Type 0
+StreamsStand =
+    (lines : List (List ℕ)) → All IsLine lines
+    → Stands None (stream_bytes lines) lines (reader_at AtSize) × Stands None (whole_stream lines) lines (reader_at Over)
+
+-- these are the first lines, and all where the body is over
+pub record AreRead (lines read : List (List ℕ)) (reader : ReaderData) : Type 0 where
+  pub later : List (List ℕ)
+  pub joined : lines ≡ read ++ later
+  pub all : reader.place ≡ Over → later ≡ []
+
+-- who stands in a beginning of a stream stands with its first lines
+abbrev pub StreamsReadBack : Type 0
+StreamsReadBack =
+    (lines read : List (List ℕ)) (room : Option ℕ) (bytes more : List ℕ) (reader : ReaderData) → All IsLine lines
+    → Stands room bytes read reader → bytes ++ more ≡ whole_stream lines → AreRead lines read reader

@@ -1,0 +1,5 @@
+pub mod Stored
+pub mod Feeds
+pub mod Lines
+pub mod Laws
+pub mod Reading
