@@ -7,8 +7,8 @@ use up_api::Settings;
 
 /// Rows: the words of a command line behind the program's name, with a blank between two; none where the row is empty.
 /// A session is answered with its settings in the order of `--window`, `--window-max`, `--fresh-ms`, `--lane`,
-/// `--batch`, `--history`, `--bookmark-ms` and `--timeout-s`; a server with `--port`, `--workers` and `--connections`,
-/// and then these; a load with `--from` and `--requests`.
+/// `--batch`, `--history`, `--bookmark-ms` and `--timeout-s`; a server with `--port`, `--workers`, `--open` and
+/// `--connections`, and then these; a load with `--from` and `--requests`. A check has no options.
 pub fn answer(alloc: Global, input: &str) -> Answer {
     match read_words(alloc, &split(alloc, input)?) {
         Ok(Asked::Help) => words(alloc, "help"),
@@ -16,6 +16,7 @@ pub fn answer(alloc: Global, input: &str) -> Answer {
         Ok(Asked::Session(settings)) => Ok(Some(session(alloc, &settings)?)),
         Ok(Asked::Serve(options)) => Ok(Some(serve(alloc, &options)?)),
         Ok(Asked::Load(options)) => Ok(Some(load(alloc, options)?)),
+        Ok(Asked::Check) => words(alloc, "check"),
         Err(WordsNo::Bad) => words(alloc, "bad"),
         Err(WordsNo::Memory) => Err(AllocError),
     }
@@ -38,12 +39,13 @@ fn session(alloc: Global, settings: &Settings) -> Result<String, AllocError> {
 
 fn serve(alloc: Global, options: &ServeOptions) -> Result<String, AllocError> {
     let told = settings_text(alloc, &options.settings)?;
-    let (port, workers, connections) = (options.port, options.workers, options.connections);
+    let (port, workers) = (options.port, options.workers);
     format!(in alloc;
-        "serve {} {} {} {}",
+        "serve {} {} {} {} {}",
         port,
         workers,
-        connections,
+        options.open,
+        options.connections,
         told.as_str()
     )
 }

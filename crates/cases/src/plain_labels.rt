@@ -6,7 +6,7 @@ use label_select::{LabelNo, LabelSel};
 use std::alloc::{AllocError, Global};
 
 /// What was read last, and so what may follow.
-#[derive(Clone, Copy, Debug, PartialEq, Eq)]
+#[derive(Clone, Copy)]
 enum State {
     /// Nothing.
     Start,
@@ -35,7 +35,7 @@ enum State {
 }
 
 /// What comes next in a text.
-#[derive(Clone, Copy, Debug, PartialEq, Eq)]
+#[derive(Clone, Copy)]
 enum Next {
     Equality,
     Not,

@@ -69,6 +69,9 @@ fn request(alloc: Global, req: &Req) -> Result<String, AllocError> {
     if req.close {
         text.push_str(" close")?;
     }
+    if req.foreign {
+        text.push_str(" foreign")?;
+    }
     if let Some(accept) = &req.accept {
         text.push_str(format!(in alloc; " accept {}", accept.as_str())?.as_str())?;
     }

@@ -8,7 +8,7 @@ use select_all::Selection;
 use std::alloc::{AllocError, Global};
 use up_store::WriteAsk;
 
-/// Rows: `METHOD TARGET`, or `METHOD TARGET | BODY`.
+/// Rows: `METHOD TARGET`, or `METHOD TARGET | BODY`. Before the body, fields may stand behind ` & `.
 pub fn answer(alloc: Global, input: &str) -> Answer {
     match routed(alloc, input)? {
         Some(answer) => Ok(Some(answer_words(alloc, &answer)?)),
@@ -18,9 +18,12 @@ pub fn answer(alloc: Global, input: &str) -> Answer {
 
 /// The route of a row's request, or why it has none.
 pub fn routed(alloc: Global, input: &str) -> Result<Option<Result<Routed, RouteNo>>, AllocError> {
-    let (line, body) = input.split_once(" | ").unwrap_or((input, ""));
+    let (head, body) = input.split_once(" | ").unwrap_or((input, ""));
+    let (line, fields) = head.split_once(" & ").unwrap_or((head, "Host: a"));
     let length = body.len();
-    let text = format!(in alloc; "{line} HTTP/1.1\r\nContent-Length: {length}\r\n\r\n{body}")?;
+    let text = format!(in alloc;
+        "{line} HTTP/1.1\r\nContent-Length: {length}\r\n{fields}\r\n\r\n{body}"
+    )?;
     let mut source = MemSource::new(text.as_bytes().to_vec(alloc)?, 65_536, Vec::new(alloc));
     let mut reader = Reader::new(alloc)?;
     match reader.next_request(&mut source) {
@@ -60,6 +63,7 @@ fn route_words(alloc: Global, routed: &Routed) -> Result<String, AllocError> {
         }
         Routed::Operate(operation) => format!(in alloc; "{operation:?}"),
         Routed::Transact(transaction) => writes_words(alloc, transaction.items()),
+        Routed::Describe(document) => format!(in alloc; "describe {document:?}"),
     }
 }
 

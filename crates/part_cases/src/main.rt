@@ -1,8 +1,9 @@
-//! Cases of the parts, as data: rings, trees, logs, passes, sources and sinks, replies, WebSockets, lanes, labels.
+//! Cases of the parts, as data: rings, trees, logs, passes, sources and sinks, replies, WebSockets, lanes, labels;
+//! scripts of stores (`store/`), and of caches that follow one (`hub/`).
 //!
 //! Each file that the command line names has rows, each a step and the answer that is wanted, and the file's name says
 //! what the steps are made on. A row whose answer is another one is printed with its file, its line and both answers;
-//! the last line counts rows and mismatches. Which steps there are stands in `data/README.txt`.
+//! the last line counts rows and mismatches. Which steps there are stands in the `README.txt` of each folder of `data`.
 #![tactic(auto)]
 
 ghost use Rattle.std.specs.Prelude.{◌≡◌};
@@ -12,6 +13,7 @@ mod ends;
 mod faults;
 mod frames;
 mod fronts;
+mod hub;
 mod lanes;
 mod laws;
 mod logs;
@@ -21,6 +23,7 @@ mod replies;
 mod rings;
 mod scenes;
 mod spaces;
+mod store;
 mod systems;
 mod things;
 mod trees;
@@ -40,6 +43,8 @@ use scenes::Scenes;
 use std::alloc::Global;
 use std::marker::Brand;
 use std::rt::Runtime;
+use std::sync::Wait;
+use std::thread::Threads;
 use std::{env, fs, io};
 use trees::Trees;
 
@@ -63,8 +68,8 @@ fn main(rt: HostRuntime) -> io::Result<()> {
     println!(rt; "{} rows, {} mismatches", tally.rows, tally.mismatches)
 }
 
-/// Makes the steps of a file. A file whose subject isn't known is one mismatch.
-fn run_file<R: Runtime>(
+/// Makes the steps of a file: those of one part, or of scripts.
+fn run_file<R: Runtime + Wait + Threads + Sync>(
     rt: &R,
     alloc: Global,
     lines: Lines<'_>,
@@ -79,16 +84,13 @@ fn run_file<R: Runtime>(
         "trees.txt" => run_rows(rt, alloc, lines, &mut Trees::new(alloc)?, tally),
         "logs.txt" => run_rows(rt, alloc, lines, &mut Logs::new(alloc), tally),
         "lanes.txt" => run_rows(rt, alloc, lines, &mut Lanes::new(alloc), tally),
-        "passes.txt" => run_logs(rt, alloc, lines, tally),
-        _ => {
-            tally.count(false);
-            println!(rt; "{}: no subject has this name", lines.file)
-        }
+        file if file.starts_with("hub/") => run_script(rt, alloc, lines, tally),
+        _ => run_scripts(rt, alloc, lines, tally),
     }
 }
 
-/// Makes the steps of each log of a file. Logs have an empty line between them.
-fn run_logs<R: Runtime>(
+/// Makes the steps of each script of a file. Scripts have an empty line between them.
+fn run_scripts<R: Runtime + Wait + Threads + Sync>(
     rt: &R,
     alloc: Global,
     lines: Lines<'_>,
@@ -109,27 +111,42 @@ fn run_logs<R: Runtime>(
     Ok(())
 }
 
-/// Makes the steps of one log: a line `log FIRST`, and rows. One that begins otherwise is a mismatch.
-fn run_script<R: Runtime>(
+/// Makes the steps of one script, whose first line says what they are made on.
+fn run_script<R: Runtime + Wait + Threads + Sync>(
     rt: &R,
     alloc: Global,
     script: Lines<'_>,
     tally: &mut Tally,
 ) -> io::Result<()> {
     let (head, text) = script.text.split_once('\n').unwrap_or((script.text, ""));
-    let Some(first) = head.strip_prefix("log ") else {
-        tally.count(false);
-        return println!(rt;
-            "{}:{}: a log begins with a line log FIRST",
-            script.file, script.first
-        );
-    };
-    let made = blank(alloc, number(first).clamp(1, 1 << 62))?;
     let rows = Lines {
         file: script.file,
         first: script.first.saturating_add(1),
         text,
     };
+    match script.file {
+        file if file.starts_with("hub/") => hub::run(rt, alloc, head, rows, tally),
+        file if file.starts_with("store/") => store::run(rt, alloc, head, rows, tally),
+        _ => run_passes(rt, alloc, head, rows, tally),
+    }
+}
+
+/// Makes the steps of one log: a line `log FIRST`, and rows. One that begins otherwise is a mismatch.
+fn run_passes<R: Runtime>(
+    rt: &R,
+    alloc: Global,
+    head: &str,
+    rows: Lines<'_>,
+    tally: &mut Tally,
+) -> io::Result<()> {
+    let Some(first) = head.strip_prefix("log ") else {
+        tally.count(false);
+        return println!(rt;
+            "{}: no subject has this name, or no log begins so: {head}",
+            rows.file
+        );
+    };
+    let made = blank(alloc, number(first).clamp(1, 1 << 62))?;
     run_log::<Brand, R>(rt, alloc, made, rows, tally)
 }
 

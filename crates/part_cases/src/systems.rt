@@ -2,11 +2,12 @@
 
 use crate::ends::send;
 use crate::words::words;
-use edge_io::{Clock, Listener, Net, ReadEnd, Source, SystemClock, TcpNet, WriteEnd};
+use edge_io::{Clock, Listener, Net, ReadEnd, Source, SystemClock, WriteEnd};
 use kube_meta::Memory;
 use std::alloc::Global;
 use std::io;
 use std::net::TcpListener;
+use tcp_net::LoopbackNet;
 
 /// Standard input gives nothing to an empty buffer, and standard output takes a line.
 pub fn standard_ends(rt: HostRuntime) -> Result<String, Memory> {
@@ -37,7 +38,7 @@ pub fn connection(rt: HostRuntime) -> Result<String, Memory> {
     let Ok(port) = free_port(&rt) else {
         return words(alloc, "no port");
     };
-    let mut net = TcpNet::new(alloc, rt);
+    let mut net = LoopbackNet::new(alloc, rt);
     let Ok(mut listener) = net.listen(port) else {
         return words(alloc, "no listener");
     };
@@ -61,7 +62,7 @@ pub fn shut_port(rt: HostRuntime) -> Result<String, Memory> {
     let Ok(port) = free_port(&rt) else {
         return words(alloc, "no port");
     };
-    let mut net = TcpNet::new(alloc, rt);
+    let mut net = LoopbackNet::new(alloc, rt);
     let Ok(listener) = net.listen(port) else {
         return words(alloc, "no listener");
     };

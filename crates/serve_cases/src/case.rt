@@ -22,6 +22,8 @@ pub struct Plan {
     pub holds: Vec<Sign>,
     pub late: Vec<u8>,
     pub stop: Vec<u8>,
+    /// Whether its clock has a bell, and rests until that is rung.
+    pub has_bell: bool,
     pub wanted: Vec<u8>,
 }
 
@@ -30,6 +32,8 @@ pub struct Plan {
 pub struct Case {
     pub name: String,
     pub workers: usize,
+    /// How many connections are served at once by helpers too; `None` where there are no helpers.
+    pub open: Option<u64>,
     pub connections: u64,
     pub fails: Option<u64>,
     pub plans: Vec<Plan>,
@@ -43,6 +47,7 @@ impl Case {
         Ok(Case {
             name: String::from_str(alloc, name)?,
             workers: 4,
+            open: None,
             connections: 0,
             fails: None,
             plans: Vec::new(alloc),
@@ -56,6 +61,7 @@ impl Case {
         let (word, text) = split(line);
         match word {
             "workers" => self.workers = text.parse::<usize>().unwrap_or(0),
+            "open" => self.open = text.parse::<u64>().ok(),
             "connections" => self.connections = text.parse::<u64>().unwrap_or(0),
             "fails" => self.fails = text.parse::<u64>().ok(),
             "connection" => self.plans.push(new_plan(self.alloc))?,
@@ -86,6 +92,7 @@ fn new_plan(alloc: Global) -> Plan {
         holds: Vec::new(alloc),
         late: Vec::new(alloc),
         stop: Vec::new(alloc),
+        has_bell: false,
         wanted: Vec::new(alloc),
     }
 }
@@ -95,6 +102,7 @@ impl Plan {
         match word {
             "waits" => self.waits.push(read_sign(alloc, text)?)?,
             "lasts" => self.lasts.push(read_sign(alloc, text)?)?,
+            "bell" => self.has_bell = true,
             "late" => self.late.extend_from_slice(text.as_bytes())?,
             "stop" => self.stop.extend_from_slice(text.as_bytes())?,
             "bytes" => self

@@ -3,6 +3,7 @@
 
 ghost use Rattle.std.specs.Prelude.{◌≡◌, ◌≤◌, None, ⊤};
 
+use bells::{Bell, NO_PEER, Rung};
 use edge_io::{Clock, Failed, Listener, Reading, Sink, Source};
 use std::alloc::{AllocError, Global};
 use std::collections::VecDeque;
@@ -217,25 +218,33 @@ impl<R: Wait + Drop + std::time::Clock> Sink for CaseSink<R> {
 }
 
 /// A clock that stands at 0 until its connection was written a text, or was looked at too often; then it is late. Once
-/// another text was written it asks to stop.
+/// another text was written it asks to stop. Where it has a bell, it rests until that is rung.
 #[derive(Drop)]
 pub struct CaseClock<R: Wait + Drop> {
     board: Arc<Board<R>>,
     number: usize,
     late: Vec<u8>,
     stop: Vec<u8>,
+    bell: Option<Arc<Bell, Global>>,
     turns: u64,
     last: u64,
 }
 
 impl<R: Wait + Drop> CaseClock<R> {
     /// The clock of a connection, which is late by one text and asks to stop by another; an empty one never comes.
-    pub fn new(board: Arc<Board<R>>, number: usize, late: Vec<u8>, stop: Vec<u8>) -> CaseClock<R> {
+    pub fn new(
+        board: Arc<Board<R>>,
+        number: usize,
+        late: Vec<u8>,
+        stop: Vec<u8>,
+        bell: Option<Arc<Bell, Global>>,
+    ) -> CaseClock<R> {
         CaseClock {
             board,
             number,
             late,
             stop,
+            bell,
             turns: 0,
             last: 0,
         }
@@ -265,6 +274,40 @@ impl<R: Wait + Drop + std::time::Clock> Clock for CaseClock<R> {
     fn rest(&mut self) {
         thread::sleep(&self.board.rt, Duration::from_millis(1));
     }
+}
+
+impl<R: Wait + Drop + std::time::Clock> Rung for CaseClock<R> {
+    fn bell(&self) -> Option<&Arc<Bell, Global>> {
+        self.bell.as_ref()
+    }
+
+    fn rest_until(&mut self, count: u32, ms: u64) -> bool {
+        match &self.bell {
+            Some(bell) => {
+                bell.rest(&self.board.rt, count, &NO_PEER, ms);
+                true
+            }
+            None => false,
+        }
+    }
+}
+
+/// A clock that stands at 0.
+#[derive(Drop)]
+pub struct StillClock;
+
+impl Clock for StillClock {
+    ghost use Rattle.std.specs.Prelude.{None};
+
+    ghost last = { λ _. 0 };
+
+    ghost readings = { λ _. None };
+
+    fn now(&mut self) -> Reading {
+        Reading { ms: 0, stop: false }
+    }
+
+    fn rest(&mut self) {}
 }
 
 /// The ends of a connection, and its clock.

@@ -1,11 +1,15 @@
 //! Serving the connections of a case.
 
 ghost use Rattle.std.specs.Prelude.{◌≡◌, [], false};
+ghost use Rattle.up_api.specs.Settings.{AreInRange};
 
 use crate::case::{Case, Plan};
-use crate::ends::{Board, CaseClock, CaseEnds, CaseListener, CaseSink, CaseSource, copies};
+use crate::ends::{
+    Board, CaseClock, CaseEnds, CaseListener, CaseSink, CaseSource, StillClock, copies,
+};
+use bells::Bell;
 use kube_meta::Memory;
-use net_front::{Served, serve_all};
+use net_front::{Served, serve_all, serve_open};
 use rev_front::{Blank, blank};
 use rev_log::Revision;
 use shared_client::Cacher;
@@ -51,19 +55,7 @@ fn serve_on<N: LogFacts + Send + Sync, R: Host>(
     let count = case.plans.len();
     let board = Arc::new(alloc, Board::new(rt, alloc, count)?)?;
     let listener = CaseListener::new(connect(alloc, &board, case.plans.as_slice())?, case.fails);
-    let mut clock = pump_clock(alloc, &board)?;
-    let workers = case.workers.clamp(1, 64);
-    let connections = case.connections.min(1_000);
-    let served = serve_all(
-        &rt,
-        alloc,
-        listener,
-        &cacher,
-        &mut clock,
-        workers,
-        connections,
-        &settings,
-    )?;
+    let served = serve_listener(rt, alloc, case, listener, &cacher, &settings)?;
     let mut texts = Vec::new(alloc);
     for number in 0..count {
         texts.push(board.text(alloc, number)?)?;
@@ -72,6 +64,46 @@ fn serve_on<N: LogFacts + Send + Sync, R: Host>(
         end: end_text(alloc, &served)?,
         texts,
     })
+}
+
+// Serves what this listener gives, as the case says: by workers alone, or by helpers too.
+fn serve_listener<N: LogFacts + Send + Sync, R: Host>(
+    rt: R,
+    alloc: Global,
+    case: &Case,
+    listener: CaseListener<R>,
+    cacher: &Cacher<N, R>,
+    settings: &Settings,
+) -> Result<Served<CaseListener<R>>, Memory>
+    requires fresh { (listener.given ≡ 0) × (listener.faults ≡ 0) }
+    requires settings { AreInRange settings.now }
+{
+    let mut clock = StillClock;
+    let workers = case.workers.clamp(1, 64);
+    let connections = case.connections.min(1_000);
+    match case.open {
+        None => serve_all(
+            &rt,
+            alloc,
+            listener,
+            cacher,
+            &mut clock,
+            workers,
+            connections,
+            settings,
+        ),
+        Some(open) => serve_open(
+            &rt,
+            alloc,
+            listener,
+            cacher,
+            &mut clock,
+            workers,
+            open,
+            connections,
+            settings,
+        ),
+    }
 }
 
 // The ends of all connections.
@@ -115,21 +147,23 @@ fn ends_of<R: Host>(
     };
     let late = Vec::from_slice(alloc, plan.late.as_slice())?;
     let stop = Vec::from_slice(alloc, plan.stop.as_slice())?;
-    let clock = CaseClock::new(board.clone()?, number, late, stop);
+    let bell = match plan.has_bell {
+        true => Some(Arc::new(alloc, Bell::new())?),
+        false => None,
+    };
+    let clock = CaseClock::new(board.clone()?, number, late, stop, bell);
     Ok((source, sink, clock))
 }
 
-// The clock by which the pump rests.
-fn pump_clock<R: Host>(alloc: Global, board: &Arc<Board<R>>) -> Result<CaseClock<R>, Memory> {
-    let board = board.clone()?;
-    Ok(CaseClock::new(board, 0, Vec::new(alloc), Vec::new(alloc)))
-}
-
-// How the server ended: how many connections it accepted, and whether accepting failed.
+// How the server ended: how many connections it accepted, whether accepting failed, and how many sessions were run.
 fn end_text<R: Host>(alloc: Global, served: &Served<CaseListener<R>>) -> Result<String, Memory> {
     let faults = served.listener.faults();
-    Ok(format!(in alloc;
+    let begun = format!(in alloc;
         "accepted {} faulted {} faults {}",
         served.accepted, served.faulted, faults
-    )?)
+    )?;
+    match served.sessions {
+        Some(sessions) => Ok(format!(in alloc; "{} sessions {}", begun.as_str(), sessions)?),
+        None => Ok(begun),
+    }
 }

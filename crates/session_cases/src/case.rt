@@ -1,6 +1,7 @@
 //! How a case is written, line by line.
 
 use crate::answer::Answer;
+use crate::faults::Breaks;
 use crate::kind::Kind;
 use crate::load::Load;
 use crate::options::Options;
@@ -16,16 +17,24 @@ pub struct Case {
     pub requests: Requests,
     /// The load that is made and served in place of requests.
     pub load: Option<Load>,
-    /// Whether the source, the sink is to fail at each of its calls in turn.
-    pub source_fails: bool,
-    pub sink_fails: bool,
+    /// What is to break off at each place in turn.
+    pub breaks: Vec<Breaks>,
     answer: Answer,
+    // Where each request and its answer begin.
+    begins: Vec<Begin>,
     // Where the answer to the last request begins.
     last_at: usize,
     // What is wanted of the kinds that answer otherwise.
     others: Vec<Other>,
     // The kinds that it isn't run with.
     left_out: Vec<Kind>,
+}
+
+/// How much was sent and came back before a request.
+#[derive(Clone, Copy)]
+struct Begin {
+    sent: usize,
+    answered: usize,
 }
 
 /// What is wanted of one kind.
@@ -43,9 +52,9 @@ impl Case {
             options: Options::usual(),
             requests: Requests::none(alloc),
             load: None,
-            source_fails: false,
-            sink_fails: false,
+            breaks: Vec::new(alloc),
             answer: Answer::none(alloc),
+            begins: Vec::new(alloc),
             last_at: 0,
             others: Vec::new(alloc),
             left_out: Vec::new(alloc),
@@ -65,6 +74,22 @@ impl Case {
         Some(&self.answer)
     }
 
+    /// What is wanted back where so many bytes are sent, and whether no request is cut in two there.
+    pub fn answered<'a>(&self, answer: &'a Answer, sent: usize) -> (&'a [u8], bool) {
+        let whole = answer.bytes.as_slice();
+        if sent >= self.requests.bytes.len() {
+            return (whole, true);
+        }
+        let (mut length, mut is_between) = (0, false);
+        for begin in &self.begins {
+            if begin.sent <= sent {
+                length = begin.answered;
+                is_between = begin.sent == sent;
+            }
+        }
+        (whole.get(..length).unwrap_or(whole), is_between)
+    }
+
     /// Takes in a line, and answers whether it is one of a case.
     pub fn take_line(&mut self, line: &str) -> Result<bool, AllocError> {
         let (word, text) = split(line);
@@ -72,6 +97,7 @@ impl Case {
             return Ok(true);
         }
         match word {
+            "breaks" => self.break_off(text),
             "without" => self.leave_out(text),
             "otherwise" => self.begin_other(text),
             _ => self.take_text(word, text),
@@ -82,26 +108,24 @@ impl Case {
     fn set(&mut self, word: &str, text: &str) -> bool {
         match word {
             "settings" => self.options.take(text),
-            "fails" => self.fail(text),
             "load" => self.make_load(text),
             _ => false,
         }
-    }
-
-    // Which end is to fail.
-    fn fail(&mut self, end: &str) -> bool {
-        match end {
-            "source" => self.source_fails = true,
-            "sink" => self.sink_fails = true,
-            _ => return false,
-        }
-        true
     }
 
     // The load that is made.
     fn make_load(&mut self, numbers: &str) -> bool {
         self.load = Load::read(numbers);
         self.load.is_some()
+    }
+
+    // What is to break off.
+    fn break_off(&mut self, words: &str) -> Result<bool, AllocError> {
+        let Some(breaks) = Breaks::read(words) else {
+            return Ok(false);
+        };
+        self.breaks.push(breaks)?;
+        Ok(true)
     }
 
     // A kind that it isn't run with, and why.
@@ -125,14 +149,21 @@ impl Case {
 
     // Takes in a line of what is sent or comes back. Nothing more is sent once a kind answers otherwise.
     fn take_text(&mut self, word: &str, text: &str) -> Result<bool, AllocError> {
-        match self.others.last_mut() {
-            Some(other) => other.answer.take_line(word, text),
-            None if self.requests.take_line(word, text)? => {
-                self.last_at = self.answer.bytes.len();
-                Ok(true)
-            }
-            None => self.answer.take_line(word, text),
+        if let Some(other) = self.others.last_mut() {
+            return other.answer.take_line(word, text);
         }
+        let begin = Begin {
+            sent: self.requests.bytes.len(),
+            answered: self.answer.bytes.len(),
+        };
+        if !self.requests.take_line(word, text)? {
+            return self.answer.take_line(word, text);
+        }
+        self.last_at = begin.answered;
+        if word == "request" {
+            self.begins.push(begin)?;
+        }
+        Ok(true)
     }
 }
 

@@ -4,7 +4,7 @@ use crate::answer::Answer;
 use crate::case::Case;
 use crate::difference::{around, first_difference};
 use crate::ends::end_text;
-use crate::faults::first_fault_free;
+use crate::faults::first_amiss;
 use crate::kind::Kind;
 use crate::load::Load;
 use crate::options::Options;
@@ -40,7 +40,7 @@ pub fn comes_out<R: Wait + Copy + Drop>(
         let outcome = in_pieces(rt, alloc, kind, &case.options, input, step)?;
         report.compare_session(title.as_str(), answer, &outcome)?;
     }
-    try_faults(rt, kind, case, answer, title.as_str(), &mut report)?;
+    try_breaks(rt, kind, case, answer, title.as_str(), &mut report)?;
     Ok(report.text)
 }
 
@@ -80,8 +80,8 @@ fn serve_load<R: Wait + Copy + Drop>(
     Ok(())
 }
 
-/// Whether the ends that the case names may fail at each of their calls in turn.
-fn try_faults<R: Wait + Copy + Drop>(
+/// What the case names breaks off at each place in turn.
+fn try_breaks<R: Wait + Copy + Drop>(
     rt: R,
     kind: Kind,
     case: &Case,
@@ -90,11 +90,14 @@ fn try_faults<R: Wait + Copy + Drop>(
     report: &mut Report,
 ) -> Result<(), Memory> {
     let alloc = report.alloc;
-    if case.source_fails && first_fault_free(rt, alloc, kind, case, answer, false)?.is_none() {
-        report.say(title, "a source that fails at a call")?;
-    }
-    if case.sink_fails && first_fault_free(rt, alloc, kind, case, answer, true)?.is_none() {
-        report.say(title, "a sink that fails at a call")?;
+    for breaks in &case.breaks {
+        if let Some(at) = first_amiss(rt, alloc, kind, case, answer, *breaks)? {
+            let amiss = format!(in alloc;
+                "otherwise where its {} breaks off at {at}",
+                breaks.word()
+            )?;
+            report.say(title, amiss.as_str())?;
+        }
     }
     Ok(())
 }

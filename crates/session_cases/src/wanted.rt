@@ -3,10 +3,11 @@
 use std::alloc::{AllocError, Global};
 
 /// The phrases of the status codes.
-const PHRASES: [(&str, &str); 12] = [
+const PHRASES: [(&str, &str); 13] = [
     ("200", "OK"),
     ("201", "Created"),
     ("400", "Bad Request"),
+    ("403", "Forbidden"),
     ("404", "Not Found"),
     ("405", "Method Not Allowed"),
     ("409", "Conflict"),

@@ -121,6 +121,10 @@ fn answer_to<'a, N: LogFacts + Send + Sync, R: Host>(
     match word {
         "reads" => reads(stage),
         "pump" => pump(stage),
+        "tick" => {
+            stage.cacher.tick(number(rest));
+            Ok(format!(in stage.alloc; "ok")?)
+        }
         "storm" => storm(stage, rest),
         _ => {
             let place = place_of(stage, cast, word)?;
@@ -153,10 +157,11 @@ fn reads<N: LogFacts, R: Host>(stage: &Stage<'_, N, R>) -> Result<String, Memory
     Ok(format!(in stage.alloc; "{count}")?)
 }
 
-// Brings each cache to the end of the log.
+// Brings each cache to the end of the log. No lane of a script has a bell to ring.
 fn pump<N: LogFacts, R: Host>(stage: &Stage<'_, N, R>) -> Result<String, Memory> {
     let mut told = stage.cacher.pass()?;
-    stage.cacher.pump_all(&mut told)?;
+    let mut calls = Vec::new(stage.alloc);
+    stage.cacher.feed(&mut told, &mut calls)?;
     Ok(format!(in stage.alloc; "ok")?)
 }
 

@@ -1,4 +1,4 @@
-use Rattle.part_cases.proofs.run_script.Given as goal
+use Rattle.part_cases.proofs.run_passes.Given as goal
 
 -- the log that was just made
 abbrev pub ghosts-run_log : goal.ghosts-run_log

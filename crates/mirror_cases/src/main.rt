@@ -1,0 +1,46 @@
+//! Cases of mirrors, as data: texts that are read as lines of a peer's watch, and streams of bytes that are read as
+//! lines. Each file that the command line names has rows, each a step and the answer that is wanted. How they are
+//! written stands in `data/README.txt`.
+#![tactic(auto)]
+
+mod streams;
+mod texts;
+mod words;
+
+use case_rows::{Lines, Tally, run_rows};
+use std::alloc::Global;
+use std::rt::Runtime;
+use std::{env, fs, io};
+use streams::Streams;
+use texts::Texts;
+
+fn main(rt: HostRuntime) -> io::Result<()> {
+    let mut tally = Tally::new();
+    for file in env::args(&rt)?.skip(1) {
+        let text = fs::read_to_string(&rt, file.as_str())?;
+        let lines = Lines {
+            file: file.as_str(),
+            first: 1,
+            text: text.as_str(),
+        };
+        run_file(&rt, rt.alloc(), lines, &mut tally)?;
+    }
+    println!(rt; "{} rows, {} mismatches", tally.rows, tally.mismatches)
+}
+
+/// Makes the steps of a file. A file whose subject isn't known is one mismatch.
+fn run_file<R: Runtime>(
+    rt: &R,
+    alloc: Global,
+    lines: Lines<'_>,
+    tally: &mut Tally,
+) -> io::Result<()> {
+    match lines.file {
+        "lines.txt" => run_rows(rt, alloc, lines, &mut Texts, tally),
+        "streams.txt" => run_rows(rt, alloc, lines, &mut Streams, tally),
+        _ => {
+            tally.count(false);
+            Ok(())
+        }
+    }
+}

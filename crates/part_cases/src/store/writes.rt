@@ -1,0 +1,95 @@
+//! Small writes, rows and revisions.
+
+ghost use Rattle.std.specs.Prelude.{◌≡◌, [], All, IfOk};
+ghost use Rattle.kube_meta.specs.declared.resources.Resource.TheVariants.{Pods};
+
+use case_rows::{key, object, split};
+use kube_meta::{Fields, Memory, Obj, Resource, Row, Text};
+use rev_log::{Change, Revision};
+use std::alloc::Global;
+use std::sync::Arc;
+use up_store::WriteAsk;
+
+/// The write that is written so, if it is one: `create NAMED [NODE]`, `replace NAMED [NODE]`, `replace NAMED GIVEN` or
+/// `remove NAMED`. `NAMED` is a pod's name, or a resource's plural, a `/` and a name; `GIVEN` is the revision that is
+/// replaced.
+pub fn write_of(alloc: Global, text: &str) -> Result<Option<WriteAsk>, Memory> {
+    let (word, rest) = split(text);
+    let (named, second) = split(rest);
+    let (plural, name) = named.split_once('/').unwrap_or(("pods", named));
+    let Some(resource) = Resource::of_plural(plural.as_bytes()) else {
+        return Ok(None);
+    };
+    let ask = match word {
+        "create" => WriteAsk::Create {
+            resource,
+            obj: bound(alloc, name, second)?,
+        },
+        "replace" => WriteAsk::Replace {
+            resource,
+            obj: bound(alloc, name, second)?,
+            given: second.parse::<u64>().ok(),
+        },
+        "remove" => WriteAsk::Remove {
+            resource,
+            key: key(alloc, name)?,
+        },
+        _ => return Ok(None),
+    };
+    Ok(Some(ask))
+}
+
+/// The writes that are written so, with commas between them; what is none is left out.
+pub fn writes_of(alloc: Global, text: &str) -> Result<Vec<WriteAsk>, Memory> {
+    let mut asks = Vec::new(alloc);
+    for part in text.split(", ") {
+        if let Some(ask) = write_of(alloc, part)? {
+            asks.push(ask)?;
+        }
+    }
+    Ok(asks)
+}
+
+/// The row of a pod that was written at a revision.
+pub fn row(alloc: Global, name: &str, rev: u64) -> Result<Row, Memory>
+    ensures { IfOk result (λ row. row.rev ≡ rev) }
+{
+    let obj = object(alloc, key(alloc, name)?)?;
+    Ok(Row {
+        obj: Arc::new(alloc, obj)?,
+        rev,
+    })
+}
+
+/// The revision that writes one pod.
+pub fn written(alloc: Global, rev: u64, name: &str) -> Result<Revision, Memory>
+    ensures rev { IfOk result (λ revision. revision.rev ≡ rev) }
+    ensures pods { IfOk result (λ revision. All (λ change. change.resource ≡ Pods) revision.changes) }
+{
+    let obj = object(alloc, key(alloc, name)?)?;
+    let change = Change {
+        rev,
+        resource: Resource::Pods,
+        key: obj.key.clone()?,
+        new: Some(Arc::new(alloc, obj)?),
+    };
+    Ok(Revision::single(alloc, change)?)
+}
+
+/// The revision that changes nothing.
+pub fn unchanged(alloc: Global, rev: u64) -> Revision
+    ensures rev { result.rev ≡ rev }
+    ensures none { result.changes ≡ [] }
+{
+    Revision::sorted(rev, Vec::new(alloc))
+}
+
+/// An object that is bound to a node, which is its first listed field.
+fn bound(alloc: Global, name: &str, node: &str) -> Result<Obj, Memory> {
+    let mut fields = Vec::new(alloc);
+    fields.push(Text::new(alloc, node)?)?;
+    fields.push(Text::new(alloc, "")?)?;
+    let mut obj = object(alloc, key(alloc, name)?)?;
+    obj.fields = Fields::new(fields);
+    Ok(obj)
+}
