@@ -1,0 +1,5 @@
+use Rattle.bench.proofs.front.run.Given as goal
+
+-- the log that was just made
+abbrev pub ghosts-run_on : goal.ghosts-run_on
+ghosts-run_on g a = record { log = a.made }

@@ -1,0 +1,48 @@
+//! Times parts of the cache beside plain baselines in the same run. A word names the subject.
+//!
+//! Without words each subject checks itself on a small size, and prints what came out. With words those that they name
+//! are timed: for each step the nanoseconds that it and its plain fellow take are printed, and their ratio, as the best
+//! of some runs that take turns.
+#![tactic(auto)]
+
+mod figures;
+mod front;
+mod http;
+mod hub;
+mod json;
+mod select;
+mod store;
+
+use std::alloc::Global;
+use std::rt::Runtime;
+use std::{env, io};
+
+/// What can be timed.
+const SUBJECTS: [&str; 6] = ["front", "http", "hub", "json", "select", "store"];
+
+fn main(rt: HostRuntime) -> io::Result<()> {
+    let mut is_timed = false;
+    for word in env::args(&rt)?.skip(1) {
+        is_timed = true;
+        run(&rt, rt.alloc(), word.as_str(), true)?;
+    }
+    if !is_timed {
+        for subject in SUBJECTS {
+            run(&rt, rt.alloc(), subject, false)?;
+        }
+    }
+    Ok(())
+}
+
+/// Times a subject, or has it check itself.
+fn run<R: Runtime>(rt: &R, alloc: Global, subject: &str, timed: bool) -> io::Result<()> {
+    match subject {
+        "front" => front::run(rt, alloc, timed),
+        "http" => http::run(rt, alloc, timed),
+        "hub" => hub::run(rt, alloc, timed),
+        "json" => json::run(rt, alloc, timed),
+        "select" => select::run(rt, alloc, timed),
+        "store" => store::run(rt, alloc, timed),
+        _ => println!(rt; "bench: nothing is timed by the name {subject}"),
+    }
+}
