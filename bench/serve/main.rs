@@ -1,12 +1,13 @@
 //! Times `watchcache serve` beside nginx, which serves the same bytes as files, and beside the same loop in plain Rust,
 //! all in one run, and prints a table of ratios. The words are: the three programs or `-`, a folder for files, the
-//! processors of the servers, and `quick` for a short run that tells nothing of speed. The status is 1 where something
-//! falls short of what is wanted.
+//! processors of the servers, `quick` for a short run that tells nothing of speed, and names of single measures. The
+//! status is 1 where something falls short of what is wanted.
 mod http;
 mod measures;
 mod pods;
 mod servers;
 mod table;
+mod watchers;
 
 use http::Connection;
 use servers::Server;
@@ -28,6 +29,8 @@ struct Plan {
     rounds: usize,
     time: Duration,
     connections: usize,
+    idle: usize,
+    only: Vec<String>,
 }
 
 /// How many connections ask for lists, and how many threads ask for objects by how many connections each.
@@ -43,15 +46,27 @@ const OTHERS: usize = 8;
 /// The time between two writes whose delivery is timed.
 const PAUSE: Duration = Duration::from_millis(3);
 
+/// What is measured, by the names that pick a part of it.
+const MEASURES: [(&str, fn(&Plan, &mut Table) -> io::Result<()>); 9] = [
+    ("reads", reads),
+    ("fan_out", fan_out),
+    ("delivery", delivery),
+    ("stopped_reader", stopped_reader),
+    ("memory", memory),
+    ("connections", connections),
+    ("watches_by_node", watches_by_node),
+    ("idle_watches", idle_watches),
+    ("idle_clients", idle_clients),
+];
+
 fn main() -> io::Result<()> {
     let plan = plan();
     let mut table = Table::new();
-    reads(&plan, &mut table)?;
-    fan_out(&plan, &mut table)?;
-    delivery(&plan, &mut table)?;
-    stopped_reader(&plan, &mut table)?;
-    memory(&plan, &mut table)?;
-    connections(&plan, &mut table)?;
+    for (name, measure) in MEASURES {
+        if plan.only.is_empty() || plan.only.iter().any(|it| it == name) {
+            measure(&plan, &mut table)?;
+        }
+    }
     table.print();
     std::process::exit(if table.is_met() { 0 } else { 1 });
 }
@@ -59,7 +74,7 @@ fn main() -> io::Result<()> {
 fn plan() -> Plan {
     let words: Vec<String> = std::env::args().skip(1).collect();
     let [program, plain, folder, processors, rest @ ..] = &words[..] else {
-        panic!("words: PROGRAM PLAIN FOLDER PROCESSORS [quick]");
+        panic!("words: PROGRAM PLAIN FOLDER PROCESSORS [quick] [MEASURE ..]");
     };
     let whole = Plan {
         program: program.clone(),
@@ -72,12 +87,14 @@ fn plan() -> Plan {
         rounds: 3,
         time: Duration::from_secs(2),
         connections: 10_000,
+        idle: 10_000,
+        only: rest.iter().filter(|it| *it != "quick").cloned().collect(),
     };
-    if rest.is_empty() {
+    if !rest.iter().any(|it| it == "quick") {
         return whole;
     }
     let time = Duration::from_millis(300);
-    Plan { pods: 500, events: 500, watchers: 5, rounds: 1, time, connections: 300, ..whole }
+    Plan { pods: 500, events: 500, watchers: 5, rounds: 1, time, connections: 300, idle: 200, ..whole }
 }
 
 impl Plan {
@@ -226,5 +243,60 @@ fn connections(plan: &Plan, table: &mut Table) -> io::Result<()> {
     measures::connections(server.port, plan.connections)?;
     let grown = server.resident()?.saturating_sub(before) as f64 / 1024.0;
     table.add(Row::new("growth by 10,000 connections, kB", grown), Wanted::AtMost(1_024.0));
+    Ok(())
+}
+
+// What writes cost beside watches that they don't concern.
+fn watches_by_node(plan: &Plan, table: &mut Table) -> io::Result<()> {
+    let server = plan.watchcache(&[])?;
+    pods::load(server.port, 100)?;
+    let count = plan.events.min(1_000);
+    watchers::writes(&server, count / 4)?;
+    let alone = watchers::writes(&server, count)?;
+    let _held = watchers::idle_watches(server.port, plan.idle / 2)?;
+    let beside = watchers::writes(&server, count)?;
+    let (reply, processor) = (1.2 * alone.reply, 1.2 * alone.processor);
+    table.add(Row::new("reply of a write, p50, µs", alone.reply), Wanted::Nothing);
+    table.add(Row::new("beside 5,000 watches of other nodes", beside.reply), Wanted::AtMost(reply));
+    table.add(Row::new("processor time of a write, µs", alone.processor), Wanted::Nothing);
+    table.add(Row::new("the same beside 5,000 watches of other nodes", beside.processor), Wanted::AtMost(processor));
+    Ok(())
+}
+
+// What watches cost that are told nothing, what is told beside them, and how they end.
+fn idle_watches(plan: &Plan, table: &mut Table) -> io::Result<()> {
+    let server = plan.watchcache(&["--bookmark-ms", "60000"])?;
+    pods::load(server.port, 100)?;
+    let before = server.resident()?;
+    let mut held = watchers::idle_watches(server.port, plan.idle)?;
+    let each = server.resident()?.saturating_sub(before) as f64 / 1024.0 / held.len() as f64;
+    table.add(Row::new("an idle watch of 10,000, KiB", each), Wanted::AtMost(24.0));
+    let rest = watchers::rest(&server, plan.time * 5)?;
+    table.add(Row::new("10,000 idle watches, % of a processor", rest), Wanted::AtMost(1.0));
+    let times = watchers::write_to_line(server.port, plan.events.min(1_000))?;
+    table.add(Row::new("from write to line beside them, p50, µs", measures::quantile(&times, 0.5)), Wanted::AtMost(100.0));
+    table.add(Row::new("the same, p99, µs", measures::quantile(&times, 0.99)), Wanted::Nothing);
+    let leaving = held.split_off(held.len() - held.len() / 10);
+    table.add(Row::new("until 1,000 that left are gone, s", watchers::leave(&server, leaving)?), Wanted::AtMost(1.0));
+    drop((held, server));
+    let server = plan.watchcache(&[])?;
+    pods::load(server.port, 100)?;
+    let mut all = watchers::watches_of_all(server.port, plan.idle)?;
+    let lines = watchers::one_write_to_all(server.port, &mut all)?;
+    table.add(Row::new("one write to 10,000 watches of all, lines/s", lines), Wanted::Nothing);
+    Ok(())
+}
+
+// What one client notices of others that stay and ask for nothing, and of those that come at once.
+fn idle_clients(plan: &Plan, table: &mut Table) -> io::Result<()> {
+    let server = plan.watchcache(&[])?;
+    pods::load(server.port, 100)?;
+    let count = plan.events;
+    let alone = watchers::gets(server.port, count)?;
+    let (_open, burst) = watchers::burst(server.port, plan.idle / 10)?;
+    let beside = watchers::gets(server.port, count)?;
+    table.add(Row::new("a burst of 1,000 clients, ms", burst), Wanted::AtMost(1_000.0));
+    table.add(Row::new("get alone, p99, µs", alone), Wanted::Nothing);
+    table.add(Row::new("get beside 1,000 idle clients, p99, µs", beside), Wanted::AtMost(2.0 * alone));
     Ok(())
 }

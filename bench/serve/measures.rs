@@ -138,8 +138,8 @@ pub fn quantile(sorted: &[f64], part: f64) -> f64 {
     sorted[((sorted.len() as f64 * part) as usize).min(sorted.len() - 1)]
 }
 
-// The revision that the server has reached, which it tells at the end of a list.
-fn revision(port: u16) -> io::Result<u64> {
+/// The revision that the server has reached, which it tells at the end of a list.
+pub fn revision(port: u16) -> io::Result<u64> {
     let mut connection = Connection::open(port)?;
     connection.send(&pods::read("/api/v1/namespaces/default/pods?labelSelector=tier%3Dnone"))?;
     let body = connection.body()?;

@@ -48,10 +48,27 @@ impl Server {
 
     /// The bytes of memory that the process holds now.
     pub fn resident(&self) -> io::Result<u64> {
+        Ok(self.status("VmRSS:")? * 1024)
+    }
+
+    /// How many threads the process has now.
+    pub fn threads(&self) -> io::Result<u64> {
+        self.status("Threads:")
+    }
+
+    /// The time that the process took of all processors so far.
+    pub fn processor_time(&self) -> io::Result<Duration> {
+        let text = fs::read_to_string(format!("/proc/{}/stat", self.process.id()))?;
+        let fields = text.rsplit(')').next().unwrap_or("").split_whitespace();
+        let ticks: u64 = fields.skip(11).take(2).filter_map(|it| it.parse::<u64>().ok()).sum();
+        Ok(Duration::from_millis(ticks * 10))
+    }
+
+    // The number of a line of the process's status.
+    fn status(&self, name: &str) -> io::Result<u64> {
         let text = fs::read_to_string(format!("/proc/{}/status", self.process.id()))?;
-        let line = text.lines().find(|it| it.starts_with("VmRSS:")).unwrap_or("");
-        let kilobytes: u64 = line.split_whitespace().nth(1).and_then(|it| it.parse().ok()).unwrap_or(0);
-        Ok(kilobytes * 1024)
+        let line = text.lines().find(|it| it.starts_with(name)).unwrap_or("");
+        Ok(line.split_whitespace().nth(1).and_then(|it| it.parse().ok()).unwrap_or(0))
     }
 }
 
