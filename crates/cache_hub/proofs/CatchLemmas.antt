@@ -506,6 +506,26 @@ caught_by log resource s at end many lent caught numbered begun reached of held 
     lines_are : filter_map (transition_of s) lent ≡ transitions log s at end
     lines_are = ap (filter_map (transition_of s)) held ∙ told (events log resource at end) ∙ ap (λ r. filter_map (transition_by (selects s)) (events log r at end)) (sym of)
 
+-- a watch that was told all that wasn't sent is told nothing more up to the end
+pub caught_along : (log : Log) (s : Selection) (mark at end many : ℕ) (lines : List TransitionData) → mark ≤ at → transitions log s mark end ≡ [] → lines ≡ [] → 1 ≤ many →
+    IsCaught log s at end many (record { upto = max at end; lines = lines })
+caught_along log s mark at end many lines below nothing none some = record {
+  exact = none ∙ sym (by (either at end));
+  fewest = record { before = []; last = []; are = none; fewer = some; rev = 0; one_revision = none_of 0 };
+  stops = inl refl;
+}
+  where
+    rest : (xs ys : List TransitionData) → xs ++ ys ≡ [] → ys ≡ []
+    rest [] ys e = e
+    rest (x ∷ xs) ys e = absurd (cc)
+
+    by : (at ≤ end) ⊎ (end ≤ at) → transitions log s at (max at end) ≡ []
+    by (inl onward) =
+        let same : max at end ≡ end = omega (arith, onward) in
+        ap (transitions log s at) same
+        ∙ rest (transitions log s mark at) (transitions log s at end) (transitions_are_joined (selects s) log s.resource mark at end below onward ∙ nothing)
+    by (inr past) = no_transitions (selects s) log s.resource at (max at end) (omega (arith, past))
+
 -- ---- what a place gives
 
 pub none_beyond : (xs : List EventRows) (i : ℕ) → None ≡ slice_get xs i → length xs ≤ i

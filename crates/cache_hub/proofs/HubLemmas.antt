@@ -6,18 +6,19 @@ use Rattle.rev_front.specs.Passes.{Pass, FitFrom}
 use Rattle.rev_log.specs.Changes.{RevisionData}
 use Rattle.rev_log.specs.Logs.{Log, Fits, end_of}
 use Rattle.select_all.specs.declared.selection.Selection.{Selection}
+use Rattle.select_all.specs.Streams.{TransitionData, transitions}
 use Rattle.rev_log.proofs.FitLemmas.{numbered}
 use Rattle.event_ring.specs.Events.{EventRows}
 use Rattle.up_api.specs.Feeds.{PolledData, HistoryData, IsHistory, IsFed}
 use Rattle.up_api.specs.Sections.{StandsAt, log_of}
 use Rattle.cache_core.specs.Caches.{CacheData, IsCacheOf, held_events, log_at}
 use Rattle.cache_core.specs.Feeding.{IsHistoryOf, Feeds}
-use Rattle.cache_hub.specs.OpenLanes.{OpenLaneData, LanesData, LaneCaughtUp, SetsLane, AreChanged, AreTold, Each, open_at, newly_open, caught_up, left_behind}
+use Rattle.cache_hub.specs.OpenLanes.{OpenLaneData, LanesData, GoesAlong, LaneCaughtUp, SetsLane, AreChanged, AreTold, Each, open_at, newly_open, caught_up, left_behind}
 use Rattle.cache_hub.specs.Hubs.{HubData, StandsFor, HasCaughtUp}
 use Rattle.cache_hub.proofs.LaneLemmas.{IsGood, each_good, stands_by, each_set, each_changed_by, none_are, good_opened, good_caught, good_behind, are_ready, told_are_good}
 use Rattle.cache_hub.specs.Due.{AreReady, transition_of}
 use Rattle.cache_hub.specs.Catching.{CaughtData, AreInOrder, AreFirst, IsCaught}
-use Rattle.cache_hub.proofs.CatchLemmas.{caught_by}
+use Rattle.cache_hub.proofs.CatchLemmas.{caught_by, caught_along}
 
 -- ---- the time alone
 
@@ -205,3 +206,19 @@ caught_of now cache rebuilds lanes s at many all lent caught view of served all_
     (omega (arith, own.cache.begun, own.cache.ring.floor.from_base, served)) (omega (arith, own.cache.ended))
     (of ∙ ap (λ (h : HubData). h.cache.resource) (sym view)) (held log own.cache)
     (subst (λ n. AreInOrder at n lent → AreFirst many n (filter_map (transition_of s) lent) caught) all_is first))
+
+-- a watch that goes along with the cache
+along_of : (log : Log) (now : HubData) (id : ℕ) (s : Selection) (at many : ℕ) (lines : List TransitionData) → (place : Option OpenLaneData) → open_at now.lanes.all id ≡ place → GoesAlong s at place → lines ≡ [] → 1 ≤ many →
+    StandsFor log now → IsCaught log s at now.cache.end many (record { upto = max at now.cache.end; lines = lines })
+along_of log now id s at many lines None here goes none some stands = absurd goes
+along_of log now id s at many lines (Some o) here goes none some stands =
+    caught_along log s o.lane.mark at now.cache.end many lines goes.1.1
+    (subst (λ x. transitions log x o.lane.mark now.cache.end ≡ []) goes.0 (stands.in_step id o here goes.1.0)) none some
+
+pub along_as : (log : Log) (now : HubData) (cache : CacheData) (rebuilds : ℕ) (lanes : LanesData) (id : ℕ) (s : Selection) (at many upto : ℕ) (lines : List TransitionData) →
+    record { cache = cache; rebuilds = rebuilds; lanes = lanes } ≡ now → GoesAlong s at (open_at lanes.all id) → upto ≡ max at cache.end → lines ≡ [] → 1 ≤ many →
+    StandsFor log now → IsCaught log s at now.cache.end many (record { upto = upto; lines = lines })
+along_as log now cache rebuilds lanes id s at many upto lines view goes upto_is none some stands =
+    subst (λ (h : HubData). IsCaught log s at h.cache.end many (record { upto = upto; lines = lines })) view
+    (subst (λ n. IsCaught log s at cache.end many (record { upto = n; lines = lines })) (sym upto_is)
+    (along_of log (record { cache = cache; rebuilds = rebuilds; lanes = lanes }) id s at many lines (open_at lanes.all id) refl goes none some (subst (StandsFor log) (sym view) stands)))

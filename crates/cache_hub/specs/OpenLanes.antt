@@ -1,12 +1,12 @@
 -- The open lanes of a cache: what is kept of each, and what the calls of the cache make of them.
-use Rattle.std.specs.Prelude.{◌≡◌, ◌==◌, ℕ, Bool, List, [], ◌++◌, Option, Some, None, option_map, if◌then◌else◌}
+use Rattle.std.specs.Prelude.{◌≡◌, ◌==◌, ℕ, Bool, false, List, [], ◌++◌, Option, Some, None, option_map, if◌then◌else◌}
 use Rattle.std.specs.Map.{lookup}
 use Rattle.std.specs.Ordering.{is_eq, nat_cmp}
 use Rattle.kube_meta.specs.declared.resources.Resource.{Resource}
 use Rattle.rev_log.specs.Logs.{Log}
 use Rattle.select_all.specs.declared.selection.Selection.{Selection}
 use Rattle.watch_lane.specs.Batches.{BatchData as NotedBatch}
-use Rattle.cache_world.specs.Lanes.{LaneData, BatchData, IsInStep, pumped_lane, queued, rebuilt_lane, opened_lane, caught_lane}
+use Rattle.cache_world.specs.Lanes.{LaneData, BatchData, IsInStep, MissesNothing, pumped_lane, queued, rebuilt_lane, opened_lane, caught_lane}
 
 -- a lane, how many batches its queue has room for, and all that were put into it, the oldest first
 pub record OpenLaneData : Type 0 where
@@ -33,6 +33,16 @@ AreOf resource lanes = Each (λ o. o.lane.selection.resource ≡ resource) lanes
 -- those that aren't behind miss nothing up to the cache's end
 abbrev pub AreInStep : Log → ℕ → List (ℕ × OpenLaneData) → Type 0
 AreInStep log end lanes = Each (λ o. IsInStep log end o.lane) lanes
+
+-- the lane at a place is open, for this selection, and isn't behind: its watch gets all that comes
+abbrev pub GetsAll : Selection → Option OpenLaneData → Type 0
+GetsAll s None = ⊥
+GetsAll s (Some o) = (o.lane.selection ≡ s) × (o.lane.behind ≡ false)
+
+-- and a watch at this position was told all that it got, so that it misses nothing and goes along with the cache
+abbrev pub GoesAlong : Selection → ℕ → Option OpenLaneData → Type 0
+GoesAlong s at None = ⊥
+GoesAlong s at (Some o) = (o.lane.selection ≡ s) × MissesNothing o.lane at
 
 -- ---- what the calls of a cache make of a lane
 

@@ -1,6 +1,6 @@
 //! The cache with its lanes.
 
-ghost use Rattle.std.specs.Prelude.{◌≡◌, ◌≤◌, ◌<◌, ℕ, max, [], None, Some, Err, IfOk, IfErr, OnOk, OnErr};
+ghost use Rattle.std.specs.Prelude.{◌≡◌, ◌≤◌, ◌<◌, ◌↔◌, ℕ, max, [], None, Some, Err, IfOk, IfErr, IfSome, IfNone, IsSome, IsTrue, OnOk, OnErr};
 ghost use Rattle.rev_log.specs.Logs.{Log};
 ghost use Rattle.rev_log.specs.States.{IsStateAt};
 ghost use Rattle.up_api.specs.Feeds.{IsFed, IsHistory};
@@ -10,7 +10,7 @@ ghost use Rattle.cache_core.specs.Caches.{RefusesAt};
 ghost use Rattle.cache_core.specs.Feeding.{IsBuilt, IsRebuilt, Stays};
 ghost use Rattle.cache_hub.specs.Catching.{IsCaught, RefusesCatch};
 ghost use Rattle.cache_hub.specs.Hubs.{StandsFor, OnlyLanes, HasCaughtUp};
-ghost use Rattle.cache_hub.specs.OpenLanes.{AreTold, AreChanged, SetsLane, newly_open, left_behind, open_at};
+ghost use Rattle.cache_hub.specs.OpenLanes.{AreTold, AreChanged, GetsAll, GoesAlong, SetsLane, newly_open, left_behind, open_at};
 ghost use Rattle.cache_hub.specs.declared.catching.CatchNo.TheVariants.{Lost};
 
 use crate::catching::{CatchNo, Caught, first_lines};
@@ -137,6 +137,36 @@ impl<N: LogFacts> Hub<N> {
         ensures { self.new ≡ self.old }
     {
         self.lanes.take_calls(calls);
+    }
+
+    /// Whether a watch of this selection gets all that comes: its lane, under this number, is open and isn't behind.
+    pub fn gets_all(&self, id: u64, selection: &Selection) -> bool
+        ensures { IsTrue result ↔ GetsAll selection.now (open_at self.now.lanes.all id) }
+    {
+        self.lanes.gets_all(id, selection)
+    }
+
+    /// What a watch of this selection is told that stands at a position and was told all that its lane got: nothing, up
+    /// to the cache's end, where both go, also from below the floor of the ring. Any other is answered `None`, and
+    /// nothing is changed.
+    pub fn go_along(&mut self, id: u64, selection: &Selection, at: u64) -> Option<Caught>
+        ensures along { IsSome result ↔ GoesAlong selection.now at (open_at self.old.lanes.all id) }
+        ensures caught { IfSome result (λ caught. (log : Log) (many : ℕ) → 1 ≤ many → StandsFor log self.old → IsCaught log selection.now at self.old.cache.end many caught) }
+        ensures lane { IfSome result (λ caught. HasCaughtUp (Some id) caught.upto self.old self.new) }
+        ensures same { OnlyLanes self.old self.new }
+        ensures kept { IfNone result (self.new ≡ self.old) }
+        ensures stands { (log : Log) → StandsFor log self.old → StandsFor log self.new }
+    {
+        if !self.lanes.goes_along(id, selection, at) {
+            return None;
+        }
+        let end = self.cache.end();
+        let upto = at.max(end);
+        self.lanes.note_caught(Some(id), upto, end);
+        Some(Caught {
+            upto,
+            lines: Vec::new(self.alloc),
+        })
     }
 
     /// What a watch of this selection is told that stands at a position, from the events that the cache holds: the

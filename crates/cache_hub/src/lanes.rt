@@ -1,10 +1,10 @@
 //! The lanes of a cache.
 
-ghost use Rattle.std.specs.Prelude.{◌≡◌, ◌≤◌, ℕ, Bool, true, [], ◌++◌, None, Some, option_map, unwrap_or, IfOk, OnOk, OnErr};
+ghost use Rattle.std.specs.Prelude.{◌≡◌, ◌≤◌, ◌↔◌, ℕ, Bool, true, [], ◌++◌, None, Some, option_map, unwrap_or, IfOk, IsTrue, OnOk, OnErr};
 ghost use Rattle.rev_front.specs.Passes.{end_from};
 ghost use Rattle.up_api.specs.Sections.{log_of};
 ghost use Rattle.cache_hub.specs.Due.{AddsEach, AddsTo, AllDue, AreReady, AreWaiting, IsWaiting, due_at, lines_at, missed};
-ghost use Rattle.cache_hub.specs.OpenLanes.{OpenLaneData, LaneCaughtUp, SetsLane, AreChanged, AreTold, told_lane, caught_up, left_behind, newly_open, open_at};
+ghost use Rattle.cache_hub.specs.OpenLanes.{OpenLaneData, GetsAll, GoesAlong, LaneCaughtUp, SetsLane, AreChanged, AreTold, told_lane, caught_up, left_behind, newly_open, open_at};
 
 use crate::calling::{hand_over_all, hang, strike};
 use crate::due::{Waiting, put_line};
@@ -144,6 +144,26 @@ impl<N: LogFacts> Lanes<N> {
     {
         if let Some(id) = id {
             self.catch_up(id, to, end);
+        }
+    }
+
+    /// Whether the lane under a number is open, for this selection, and not behind.
+    pub fn gets_all(&self, id: u64, selection: &Selection) -> bool
+        ensures { IsTrue result ↔ GetsAll selection.now (open_at self.now.all id) }
+    {
+        match self.lanes.get(&id) {
+            Some(lane) => lane.gets_all(selection),
+            None => false,
+        }
+    }
+
+    /// Whether the watch of such a lane, at a position, misses nothing.
+    pub fn goes_along(&self, id: u64, selection: &Selection, at: u64) -> bool
+        ensures { IsTrue result ↔ GoesAlong selection.now at (open_at self.now.all id) }
+    {
+        match self.lanes.get(&id) {
+            Some(lane) => lane.goes_along(selection, at),
+            None => false,
         }
     }
 

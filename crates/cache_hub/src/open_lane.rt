@@ -1,12 +1,12 @@
 //! What is kept of one lane.
 
-ghost use Rattle.std.specs.Prelude.{◌≡◌, ◌≢◌, ◌≤◌, ◌⊎◌, Bool, false, Some, [], ◌∷◌, ◌++◌, map, IfOk, is_some, option_map, option_copied};
+ghost use Rattle.std.specs.Prelude.{◌≡◌, ◌≢◌, ◌≤◌, ◌⊎◌, ◌↔◌, Bool, false, Some, [], ◌∷◌, ◌++◌, map, IfOk, IsTrue, is_some, option_map, option_copied};
 ghost use Rattle.std.specs.List.{list_any};
 ghost use Rattle.rev_front.specs.Passes.{end_from};
 ghost use Rattle.up_api.specs.Sections.{log_of};
 ghost use Rattle.cache_world.specs.Lanes.{unsent, opened_lane, batch_between};
 ghost use Rattle.cache_hub.specs.Due.{IsWaiting, due, missed, transition_of};
-ghost use Rattle.cache_hub.specs.OpenLanes.{batch_of, told_lane, left_behind, caught_up};
+ghost use Rattle.cache_hub.specs.OpenLanes.{GetsAll, GoesAlong, batch_of, told_lane, left_behind, caught_up};
 
 use crate::sleeper::Sleeper;
 use bells::Bell;
@@ -223,6 +223,20 @@ impl<N: LogFacts> OpenLane<N> {
         ensures { self.new ≡ left_behind self.old }
     {
         self.fall_behind(called);
+    }
+
+    /// Whether the lane is for this selection and isn't behind.
+    pub fn gets_all(&self, selection: &Selection) -> bool
+        ensures { IsTrue result ↔ GetsAll selection.now (Some self.now) }
+    {
+        !self.behind && self.selection.same(selection)
+    }
+
+    /// Whether its watcher, at a position, misses nothing.
+    pub fn goes_along(&self, selection: &Selection, at: u64) -> bool
+        ensures { IsTrue result ↔ GoesAlong selection.now at (Some self.now) }
+    {
+        self.mark <= at && self.gets_all(selection)
     }
 
     /// Takes note that the watcher has caught up to a revision. At the cache's end it isn't behind any longer.

@@ -134,7 +134,7 @@ watches_go_on world (Close j) i watch is may same = ended_or_goes world j _ i wa
 pub watches_are_served : WatchesAreServed
 watches_are_served world i watch same = elim (cases_lt watch.position (cache_of world watch).low) [
   | inl below ↦ inr (subst (λ (o : Option WatchData). IsWatching o (λ w. w.position < (cache_of world w).low)) (sym same) below)
-  | inr served ↦ inl (subst (λ (o : Option WatchData). IsWatching o (λ w. MayCatchUp world w (max watch.position (cache_of world watch).end))) (sym same) (record { served = served; onward = omega arith; reached = omega arith }))
+  | inr served ↦ inl (subst (λ (o : Option WatchData). IsWatching o (λ w. MayCatchUp world w (max watch.position (cache_of world watch).end))) (sym same) (record { served = inl served; onward = omega arith; reached = omega arith }))
 ]
 
 pub lists_are_served : ListsAreServed

@@ -1,5 +1,5 @@
 -- What the calls of a cache make of its lanes is what steps make of the watches of its resource.
-use Rattle.std.proofs.Common.{◌≡◌, ◌≢◌, ◌⊎◌, ℕ, ◌<◌, Bool, true, false, List, [], ◌∷◌, ◌++◌, Option, Some, None, IfSome, option_map, option_to_list, inl, inr, nat_eq, cond, eqb-true, eq-eqb, refl, sym, ap, ◌∙◌, subst, arith}
+use Rattle.std.proofs.Common.{◌≡◌, ◌≢◌, ◌⊎◌, ℕ, ◌<◌, ◌≤◌, Bool, true, false, List, [], ◌∷◌, ◌++◌, Option, Some, None, IfSome, option_map, option_to_list, inl, inr, nat_eq, cond, eqb-true, eq-eqb, refl, sym, ap, ◌∙◌, subst, arith}
 use Rattle.std.proofs.lemmas.Bool.{cases_Bool, cond_both}
 use Rattle.kube_meta.specs.declared.resources.Resource.{Resource}
 use Rattle.kube_meta.specs.Resources.{same_resource}
@@ -7,7 +7,7 @@ use Rattle.rev_log.specs.Logs.{Log, end_of}
 use Rattle.select_all.specs.declared.selection.Selection.{Selection}
 use Rattle.select_all.specs.Streams.{TransitionData}
 use Rattle.select_all.specs.Floors.{IsFloorOk}
-use Rattle.cache_world.specs.Lanes.{LaneData, BatchData, Lanes, Batches, IsPumped, IsPlacePumped, ArePumped, batch_between, unsent, lane_after, queue_after, pumped_lane, queued, rebuilt_lane, opened_lane, caught_lane}
+use Rattle.cache_world.specs.Lanes.{LaneData, BatchData, Lanes, Batches, MissesNothing, IsPumped, IsPlacePumped, ArePumped, batch_between, unsent, lane_after, queue_after, pumped_lane, queued, rebuilt_lane, opened_lane, caught_lane}
 use Rattle.cache_world.specs.World.{CacheView, WatchData, ClientData, World, with_cache, with_client}
 use Rattle.cache_world.specs.Steps.{IsWatching, cache_of, MayCatchUp, each_of, pumped_watch, rebuilt_watch, opened_watch, caught_watch, with_watch, lost}
 use Rattle.cache_world.specs.Ties.{HubView, IsOf, IsWatcher, HasHub, AreChangedAt, waiting_of, PumpsAreComputed, PumpsAreSteps, RebuildsAreSteps, OpensAreSteps, CatchUpsAreSteps, LossesAreSteps, ClosesAreSteps}
@@ -222,7 +222,7 @@ catch_ups_are_steps world number hub later i watch to has same served onward rea
     let end_is = has.end_is in
     let low_is = has.low_is in (
       record {
-        allowed = subst (λ (o : Option WatchData). IsWatching o (λ w. MayCatchUp world w to)) (sym same) (record { served = omega arith; onward = onward; reached = omega arith });
+        allowed = subst (λ (o : Option WatchData). IsWatching o (λ w. MayCatchUp world w to)) (sym same) (record { served = served_by served; onward = onward; reached = omega arith });
         shows = subst (λ (o : Option WatchData). HasHub (with_client world i (with_watch (world.clients i) (λ w. caught_watch world.log to (cache_of world w).end w) o)) watch.lane.selection.resource number (record hub { lanes = later })) (sym same)
             (with_lane world i (record (world.clients i) { watch = Some (caught_watch world.log to (cache_of world watch).end watch) }) watch.lane.selection.resource number hub (Some (caught_lane to hub.end watch.lane)) later has (watches_own world i watch same) changed
             (λ of. ap (λ (n : ℕ). Some (caught_lane to n watch.lane)) (sym has.end_is)));
@@ -231,6 +231,10 @@ catch_ups_are_steps world number hub later i watch to has same served onward rea
           ∙ ap (λ (o : Option WatchData). (with_watch (world.clients i) (λ w. caught_watch world.log to (cache_of world w).end w) o).watch) same
           ∙ ap (λ (n : ℕ). Some (caught_watch world.log to n watch)) has.end_is,
     )
+  where
+    served_by : (hub.low ≤ watch.position) ⊎ MissesNothing watch.lane watch.position → ((cache_of world watch).low ≤ watch.position) ⊎ MissesNothing watch.lane watch.position
+    served_by (inl low) = inl (omega (arith, low, has.low_is))
+    served_by (inr all) = inr all
 
 pub losses_are_steps : LossesAreSteps
 losses_are_steps world number hub later i watch has same below changed =

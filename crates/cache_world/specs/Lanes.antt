@@ -42,6 +42,10 @@ unsent log end lane = transitions log lane.selection lane.mark end
 abbrev pub IsInStep : Log → ℕ → LaneData → Type 0
 IsInStep log end lane = lane.behind ≡ false → unsent log end lane ≡ []
 
+-- so its watch, at the mark or above it, misses nothing up to there
+abbrev pub MissesNothing : LaneData → ℕ → Type 0
+MissesNothing lane at = (lane.behind ≡ false) × (lane.mark ≤ at)
+
 -- ---- a pump of the cache to a later end
 
 -- a lane that is behind, or of which nothing came, stays and gets nothing

@@ -10,7 +10,7 @@ use Rattle.select_all.specs.declared.selection.Selection.{Selection}
 use Rattle.select_all.specs.Streams.{transitions}
 use Rattle.select_all.specs.Listings.{IsListing}
 use Rattle.select_all.specs.Floors.{IsFloorOk}
-use Rattle.cache_world.specs.Lanes.{BatchData, pumped_lane, queued, rebuilt_lane, opened_lane, caught_lane}
+use Rattle.cache_world.specs.Lanes.{BatchData, MissesNothing, pumped_lane, queued, rebuilt_lane, opened_lane, caught_lane}
 use Rattle.cache_world.specs.World.{CacheView, WatchData, ClientData, World, Party, pass_of, with_cache, with_client, with_pass}
 
 -- the three words of the store that are read without its lock
@@ -39,7 +39,7 @@ pub data Step : Type 0 where
   Serve : ℕ → Selection → ℕ → List RowData → Step
   -- a client begins to watch a selection from a position on
   Open : ℕ → Selection → ℕ → Step
-  -- its watch is told all up to a revision by the cache's window
+  -- its watch is told all up to a revision by the cache's window, or goes along with the cache where it misses nothing
   CatchUp : ℕ → ℕ → Step
   -- the oldest batch of its queue is taken
   Deliver : ℕ → Step
@@ -73,9 +73,10 @@ abbrev pub MayServe : World → ℕ → Resource → ℕ → Type 0
 MayServe world i resource at =
     (at ≡ (world.caches resource).end) ⊎ (((world.clients i).pass.floor ≤ at) × (at ≤ end_of world.log))
 
--- the cache still serves the watch's position, and tells it of what it has reached, or nothing
+-- the cache still serves the watch's position, or the watch misses nothing; and it is told of what the cache has
+-- reached, or nothing
 pub record MayCatchUp (world : World) (watch : WatchData) (to : ℕ) : Type 0 where
-  pub served : (cache_of world watch).low ≤ watch.position
+  pub served : ((cache_of world watch).low ≤ watch.position) ⊎ MissesNothing watch.lane watch.position
   pub onward : watch.position ≤ to
   pub reached : to ≤ max watch.position (cache_of world watch).end
 

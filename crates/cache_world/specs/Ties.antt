@@ -6,7 +6,7 @@ use Rattle.kube_meta.specs.Resources.{same_resource}
 use Rattle.rev_log.specs.Logs.{Log, end_of}
 use Rattle.select_all.specs.declared.selection.Selection.{Selection}
 use Rattle.select_all.specs.Floors.{IsFloorOk}
-use Rattle.cache_world.specs.Lanes.{LaneData, BatchData, Lanes, Batches, IsPumped, ArePumped, pumped_lane, queued, rebuilt_lane, opened_lane, caught_lane}
+use Rattle.cache_world.specs.Lanes.{LaneData, BatchData, Lanes, Batches, MissesNothing, IsPumped, ArePumped, pumped_lane, queued, rebuilt_lane, opened_lane, caught_lane}
 use Rattle.cache_world.specs.World.{WatchData, World}
 use Rattle.cache_world.specs.Steps.{Step, IsWatching, MayPump, IsAllowed, caught_watch, after}
 use Rattle.cache_world.specs.Steps.Step.{Pump, Rebuild, Open, CatchUp, Lose, Close}
@@ -88,12 +88,12 @@ OpensAreSteps =
     AreChangedAt (next i) (Some (opened_lane s at hub.end)) hub.lanes later →
     LeadsTo world (Open i s at) s.resource next (record hub { lanes = later })
 
--- a watch is told the transitions from its position on up to a revision
+-- a watch whose position is served, or that misses nothing, is told the transitions from there on up to a revision
 abbrev pub CatchUpsAreSteps : Type 0
 CatchUpsAreSteps =
     (world : World) (number : ℕ → ℕ) (hub : HubView) (later : Lanes) (i : ℕ) (watch : WatchData) (to : ℕ) →
     HasHub world watch.lane.selection.resource number hub → (world.clients i).watch ≡ Some watch →
-    hub.low ≤ watch.position → watch.position ≤ to → to ≤ max watch.position hub.end →
+    (hub.low ≤ watch.position) ⊎ MissesNothing watch.lane watch.position → watch.position ≤ to → to ≤ max watch.position hub.end →
     AreChangedAt (number i) (Some (caught_lane to hub.end watch.lane)) hub.lanes later →
     LeadsTo world (CatchUp i to) watch.lane.selection.resource number (record hub { lanes = later }) ×
     (((after world (CatchUp i to)).clients i).watch ≡ Some (caught_watch world.log to hub.end watch))

@@ -1,5 +1,5 @@
 -- What the calls of a hub make of its lanes is what steps make of the watches in the world.
-use Rattle.std.proofs.Common.{◌≡◌, ◌≢◌, ◌⊎◌, ℕ, ◌-◌, ◌<◌, ◌≤◌, max, Bool, true, false, List, [], ◌∷◌, ◌++◌, take, drop, length, All, Option, Some, None, IfSome, option_map, option_to_list, inl, inr, nat_eq, cond, eqb-true, eq-eqb, take-append-drop, append_assoc, append-nil, length-append, length-take, refl, sym, ap, ◌∙◌, subst, arith}
+use Rattle.std.proofs.Common.{◌≡◌, ◌≢◌, ◌⊎◌, ℕ, ◌-◌, ◌≤◌, max, Bool, true, false, List, [], ◌∷◌, ◌++◌, drop, length, Option, Some, None, option_map, option_to_list, inl, inr, nat_eq, cond, eqb-true, eq-eqb, take-append-drop, append_assoc, append-nil, length-append, length-take, refl, sym, ap, ◌∙◌, subst, arith}
 use Rattle.std.proofs.lemmas.Bool.{cases_Bool, cases_lt}
 use Rattle.kube_meta.specs.declared.resources.Resource.{Resource}
 use Rattle.rev_log.specs.Changes.{RevisionData}
@@ -11,19 +11,19 @@ use Rattle.select_all.specs.Floors.{IsFloorOk}
 use Rattle.select_all.proofs.FloorSteps.{floors_are_kept}
 use Rattle.select_all.proofs.StreamLaws.{transitions_are_kept, no_transitions}
 use Rattle.cache_core.specs.Caches.{CacheData, log_at}
-use Rattle.cache_core.specs.Feeding.{Stays, IsRebuilt}
-use Rattle.cache_world.specs.Lanes.{LaneData, BatchData, Batches, IsPlacePumped, ArePumped, batch_between, unsent, lane_after, queue_after, pumped_lane, queued, rebuilt_lane, opened_lane, caught_lane}
-use Rattle.cache_world.specs.World.{CacheView, WatchData, World}
-use Rattle.cache_world.specs.Steps.{Step, MayPump, IsAllowed, caught_watch, after}
+use Rattle.cache_core.specs.Feeding.{Stays}
+use Rattle.cache_world.specs.Lanes.{LaneData, BatchData, Batches, MissesNothing, IsPlacePumped, ArePumped, unsent, lane_after, queue_after, pumped_lane, queued, rebuilt_lane, caught_lane}
+use Rattle.cache_world.specs.World.{WatchData, World}
+use Rattle.cache_world.specs.Steps.{MayPump, caught_watch, after}
 use Rattle.cache_world.specs.Steps.Step.{Pump, Rebuild, Open, CatchUp, Lose, Close}
-use Rattle.cache_world.specs.Ties.{HubView, HasHub, LeadsTo, AreChangedAt, IsOf}
+use Rattle.cache_world.specs.Ties.{HasHub, AreChangedAt, IsOf}
 use Rattle.cache_world.proofs.LaneLemmas.{pumped_cases}
 use Rattle.cache_world.proofs.PlaceLemmas.{same_self, known_some}
 use Rattle.cache_world.proofs.TieLemmas.{are_computed, pumps_are_steps, rebuilds_are_steps, opens_are_steps, catch_ups_are_steps, losses_are_steps, closes_are_steps}
 use Rattle.cache_hub.specs.Catching.{CaughtData, EndsWith, IsCaught}
 use Rattle.cache_hub.specs.Hubs.{HubData, StandsFor, OnlyLanes, HasCaughtUp}
-use Rattle.cache_hub.specs.OpenLanes.{OpenLaneData, AreTold, AreChanged, SetsLane, told_lane, caught_up, newly_open, left_behind, open_at}
-use Rattle.hub_world.specs.HubSteps.{sent_of, view_of, IsHubIn, LeadsToHub, AreRenumbered, HasWatch, PollsArePumps, HistoriesAreRebuilds, LanesOpen, LanesCatchUp, LanesAreLost, LanesClose}
+use Rattle.cache_hub.specs.OpenLanes.{OpenLaneData, GoesAlong, AreTold, AreChanged, SetsLane, told_lane, caught_up, newly_open, left_behind, open_at}
+use Rattle.hub_world.specs.HubSteps.{sent_of, view_of, IsHubIn, HasReceived, HasWatch, PollsArePumps, HistoriesAreRebuilds, LanesOpen, LanesCatchUp, LanesGoAlong, LanesAreLost, LanesClose}
 
 -- ---- logs
 
@@ -247,8 +247,14 @@ module _ (log : Log) (s : Selection) (at end many : ℕ) (caught : CaughtData) (
   reached_by (inl all) = omega (arith, all)
   reached_by (inr part) = omega (arith, part.2)
 
-pub lanes_catch_up : LanesCatchUp
-lanes_catch_up world number old new i many watch caught is same of stands told served only set =
+-- a watch whose position the ring serves, or that misses nothing
+caught_is_received : (world : World) (number : ℕ → ℕ) (old new : HubData) (i many : ℕ) (watch : WatchData) (caught : CaughtData) →
+    IsHubIn world number old → HasWatch world i watch → watch.lane.selection.resource ≡ old.cache.resource → StandsFor (log_at world.log old.cache.end) old →
+    IsCaught (log_at world.log old.cache.end) watch.lane.selection watch.position old.cache.end many caught →
+    (old.cache.ring.floor ≤ watch.position) ⊎ MissesNothing watch.lane watch.position →
+    OnlyLanes old new → HasCaughtUp (Some (number i)) caught.upto old new →
+    HasReceived world number new i watch caught
+caught_is_received world number old new i many watch caught is same of stands told served only set =
     let resource : Resource = watch.lane.selection.resource in
     let step = catch_ups_are_steps world number (view_of old) (view_of new).lanes i watch caught.upto
     (subst (λ (r : Resource). HasHub world r number (view_of old)) (sym of) is.has) same served
@@ -274,6 +280,19 @@ lanes_catch_up world number old new i many watch caught is same of stands told s
         let reach = reached_by (log_at world.log old.cache.end) watch.lane.selection watch.position old.cache.end many caught told told.stops in
         ap (λ (l : Log). transitions l watch.lane.selection watch.position caught.upto) (sym (cut_log world.log old.cache.end))
         ∙ transitions_are_kept (selects watch.lane.selection) (log_at world.log old.cache.end) (drop (old.cache.end - world.log.first) world.log.revisions) watch.lane.selection.resource watch.position caught.upto (omega (arith, reach, ended))
+
+pub lanes_catch_up : LanesCatchUp
+lanes_catch_up world number old new i many watch caught is same of stands told served only set =
+    caught_is_received world number old new i many watch caught is same of stands told (inl served) only set
+
+misses_nothing : (s : Selection) (at : ℕ) (place : Option OpenLaneData) (lane : LaneData) → lane_in place ≡ Some lane → GoesAlong s at place → MissesNothing lane at
+misses_nothing s at None lane there goes = absurd goes
+misses_nothing s at (Some o) lane there goes = let same : o.lane ≡ lane = cc in subst (λ (l : LaneData). MissesNothing l at) same goes.1
+
+pub lanes_go_along : LanesGoAlong
+lanes_go_along world number old new i many watch caught is same of stands told goes only set =
+    caught_is_received world number old new i many watch caught is same of stands told
+    (inr (misses_nothing watch.lane.selection watch.position (open_at old.lanes.all (number i)) watch.lane (lane_there world number old i watch is same of) goes)) only set
 
 pub lanes_are_lost : LanesAreLost
 lanes_are_lost world number old new i watch is same of below only sets =

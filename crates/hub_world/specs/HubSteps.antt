@@ -7,13 +7,13 @@ use Rattle.up_api.specs.Feeds.{HistoryData}
 use Rattle.cache_core.specs.Caches.{log_at}
 use Rattle.cache_core.specs.Feeding.{Stays, IsRebuilt}
 use Rattle.cache_world.specs.Lanes.{BatchData}
-use Rattle.cache_world.specs.World.{WatchData, LossData, World}
+use Rattle.cache_world.specs.World.{WatchData, World}
 use Rattle.cache_world.specs.Steps.{Step, IsAllowed, after}
 use Rattle.cache_world.specs.Steps.Step.{Pump, Rebuild, Open, CatchUp, Lose, Close}
 use Rattle.cache_world.specs.Ties.{HubView, HasHub, IsWatcher, waiting_of}
 use Rattle.cache_hub.specs.Catching.{CaughtData, IsCaught}
 use Rattle.cache_hub.specs.Hubs.{HubData, StandsFor, OnlyLanes, HasCaughtUp}
-use Rattle.cache_hub.specs.OpenLanes.{OpenLaneData, AreTold, AreChanged, SetsLane, newly_open, left_behind, open_at}
+use Rattle.cache_hub.specs.OpenLanes.{OpenLaneData, GoesAlong, AreTold, AreChanged, SetsLane, newly_open, left_behind, open_at}
 
 -- the batches that were put into the queue under a number
 abbrev pub sent_of : Option OpenLaneData → List BatchData
@@ -85,6 +85,12 @@ LanesOpen =
     SetsLane old.lanes.all new.lanes.all (next i) (Some (newly_open s at old.cache.end old.lanes.room)) →
     LeadsToHub world (Open i s at) next new
 
+-- the step leads to the hub, and the client's watch stands where it was told up to and has received what it was told
+abbrev pub HasReceived : World → (ℕ → ℕ) → HubData → ℕ → WatchData → CaughtData → Type 0
+HasReceived world number new i watch caught =
+    LeadsToHub world (CatchUp i caught.upto) number new ×
+    ((later : WatchData) × HasWatch (after world (CatchUp i caught.upto)) i later × (later.position ≡ caught.upto) × (later.received ≡ watch.received ++ caught.lines))
+
 -- a lane whose watch has caught up from its position: the lines are those that it receives
 abbrev pub LanesCatchUp : Type 0
 LanesCatchUp =
@@ -92,8 +98,17 @@ LanesCatchUp =
     IsHubIn world number old → HasWatch world i watch → watch.lane.selection.resource ≡ old.cache.resource → StandsFor (log_at world.log old.cache.end) old →
     IsCaught (log_at world.log old.cache.end) watch.lane.selection watch.position old.cache.end many caught → old.cache.ring.floor ≤ watch.position →
     OnlyLanes old new → HasCaughtUp (Some (number i)) caught.upto old new →
-    LeadsToHub world (CatchUp i caught.upto) number new ×
-    ((later : WatchData) × HasWatch (after world (CatchUp i caught.upto)) i later × (later.position ≡ caught.upto) × (later.received ≡ watch.received ++ caught.lines))
+    HasReceived world number new i watch caught
+
+-- one whose watch goes along, wherever the ring begins
+abbrev pub LanesGoAlong : Type 0
+LanesGoAlong =
+    (world : World) (number : ℕ → ℕ) (old new : HubData) (i many : ℕ) (watch : WatchData) (caught : CaughtData) →
+    IsHubIn world number old → HasWatch world i watch → watch.lane.selection.resource ≡ old.cache.resource → StandsFor (log_at world.log old.cache.end) old →
+    IsCaught (log_at world.log old.cache.end) watch.lane.selection watch.position old.cache.end many caught →
+    GoesAlong watch.lane.selection watch.position (open_at old.lanes.all (number i)) →
+    OnlyLanes old new → HasCaughtUp (Some (number i)) caught.upto old new →
+    HasReceived world number new i watch caught
 
 -- a watch that is refused for its position, and whose lane is then closed
 abbrev pub LanesAreLost : Type 0

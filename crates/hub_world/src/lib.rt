@@ -2,7 +2,7 @@
 //! clients.
 #![tactic(auto)]
 
-ghost use Rattle.hub_world.specs.HubSteps.{PollsArePumps, HistoriesAreRebuilds, LanesOpen, LanesCatchUp, LanesAreLost, LanesClose};
+ghost use Rattle.hub_world.specs.HubSteps.{PollsArePumps, HistoriesAreRebuilds, LanesOpen, LanesCatchUp, LanesGoAlong, LanesAreLost, LanesClose};
 
 /// What a hub makes of a poll is a pump of each world that has the hub.
 pub fn polls_are_pumps()
@@ -22,6 +22,11 @@ pub fn lanes_open()
 /// What a watch is told that catches up is what it receives by the step.
 pub fn lanes_catch_up()
     ensures { LanesCatchUp }
+{}
+
+/// A watch that goes along with its cache does so by the same step.
+pub fn lanes_go_along()
+    ensures { LanesGoAlong }
 {}
 
 /// A watch that can't catch up loses its place by a step.

@@ -1,6 +1,6 @@
 -- What a cache that stands for the log up to its end tells whoever knows all that is known under its lock.
 use Rattle.std.proofs.Common.{◌≡◌, ℕ, ◌-◌, ◌≤◌, ◌<◌, max, inl, inr, List, drop, refl, ap, sym, ◌∙◌, subst, arith}
-use Rattle.std.specs.Prelude.{IfErr, IfOk, Result, Ok, Err}
+use Rattle.std.specs.Prelude.{IfErr, IfOk, IfSome, Option, None, Some, Result, Ok, Err}
 use Rattle.std.proofs.lemmas.List.{take-append-drop}
 use Rattle.kube_meta.specs.Rows.{RowData}
 use Rattle.kube_meta.specs.declared.resources.Resource.{Resource}
@@ -98,6 +98,11 @@ module _ (base : List RowData) (window : ℕ) (resource : Resource) (c : CacheSt
       IfOk answer (IsCaught (log_of base q) s at last many)
   caught_ok s at many last (Ok caught) same is = subst (λ n. IsCaught (log_of base q) s at n many caught) (sym same) (caught_seen s at many caught is)
   caught_ok s at many last (Err fault) same is = tt
+
+  pub along_some : (s : Selection) (at last : ℕ) (answer : Option CaughtData) → last ≡ end → IfSome answer (λ caught. (log : Log) (many : ℕ) → 1 ≤ many → StandsFor log c.hub → IsCaught log s at end many caught) →
+      IfSome answer (λ caught. (many : ℕ) → 1 ≤ many → IsCaught (log_of base q) s at last many caught)
+  along_some s at last (Some caught) same is = λ many some. subst (λ n. IsCaught (log_of base q) s at n many caught) (sym same) (caught_seen s at many caught (λ log stands. is log many some stands))
+  along_some s at last None same is = tt
 
   pub lost_err : (s : Selection) (at : ℕ) (answer : Result CaughtData CatchNo) → s.resource ≡ resource → IfErr answer (RefusesCatch c.hub.cache at) → IfErr answer (IsLostAt base window s at q)
   lost_err s at (Ok caught) of is = tt

@@ -1,6 +1,6 @@
 -- What a watch is told, by a cache and by a batch.
 use Rattle.std.proofs.Common.{◌≡◌, ℕ, ◌≤◌, ◌<◌, List, [], ◌∷◌, length, inl, inr, refl, ap, sym, ◌∙◌, subst, arith}
-use Rattle.std.specs.Prelude.{IfOk, Result, Ok, Err}
+use Rattle.std.specs.Prelude.{IfOk, IfSome, Option, None, Some, Result, Ok, Err}
 use Rattle.std.specs.Global.{Vec}
 use Rattle.std.proofs.lemmas.Bool.{cases_lt}
 use Rattle.kube_meta.specs.Rows.{RowData}
@@ -15,10 +15,11 @@ use Rattle.up_api.specs.Sections.{log_of}
 use Rattle.watch_lane.specs.Batches.{BatchData, IsBatch}
 use Rattle.cache_hub.specs.Catching.{CaughtData, IsCaught}
 use Rattle.cache_hub.specs.declared.catching.CatchNo.{CatchNo}
+use Rattle.cache_hub.specs.OpenLanes.{OpenLaneData, GetsAll, GoesAlong}
 use Rattle.client_api.specs.declared.answers.Took.TheVariants.{Events}
 use Rattle.client_api.specs.Turns.{IsTurn}
 use Rattle.shared_client.specs.Knowing.{KnowsAllOf}
-use Rattle.shared_client.specs.Watching.{IsTold}
+use Rattle.shared_client.specs.Watching.{HasMore, IsTold}
 use Rattle.shared_client.proofs.KnowingLemmas.{log_grown, within-known}
 
 -- what a cache with this end tells
@@ -51,6 +52,21 @@ pub told_ok : (base : List RowData) (s : Selection) (at end many shown : ℕ) (q
     IfOk result (IsCaught (log_of base q) s at end many) → IfOk result (IsTold base s at shown q)
 told_ok base s at end many shown q (Ok caught) some low within is = told_caught base s at end many shown q caught some low within is
 told_ok base s at end many shown q (Err fault) some low within is = tt
+
+-- and where it may have a batch in place of it
+pub told_some : (base : List RowData) (s : Selection) (at end many shown : ℕ) (q : Pass RevisionData) (result : Result (Option CaughtData) CatchNo) → 1 ≤ many → shown ≤ end → end ≤ end_from q.first q.seen →
+    IfOk result (λ caught. IfSome caught (IsCaught (log_of base q) s at end many)) → IfOk result (λ caught. IfSome caught (IsTold base s at shown q))
+told_some base s at end many shown q (Ok (Some caught)) some low within is = told_caught base s at end many shown q caught some low within is
+told_some base s at end many shown q (Ok None) some low within is = tt
+told_some base s at end many shown q (Err fault) some low within is = tt
+
+-- a watch that gets all that comes, and doesn't go along, has a batch
+pub has_more : (s : Selection) (at : ℕ) (place : Option OpenLaneData) → (GoesAlong s at place → ⊥) → GetsAll s place → HasMore s at place
+has_more s at None stays gets = gets
+has_more s at (Some o) stays gets = elim (cases_lt at o.lane.mark) [
+  | inl more ↦ (gets.0, gets.1, more)
+  | inr none ↦ absurd (stays (gets.0, (gets.1, none)))
+]
 
 some-in : (xs : List TransitionData) → (xs ≡ [] → ⊥) → 0 < length xs
 some-in [] some = absurd (some refl)

@@ -1,5 +1,5 @@
 -- What a cache tells a watch.
-use Rattle.std.specs.Prelude.{◌≡◌, ℕ, ◌<◌, ◌≤◌, ◌⊎◌, List, [], length}
+use Rattle.std.specs.Prelude.{◌≡◌, ℕ, ◌<◌, ◌≤◌, ◌⊎◌, false, List, [], length, Option, None, Some}
 use Rattle.kube_meta.specs.Rows.{RowData}
 use Rattle.rev_front.specs.Passes.{Pass, end_from}
 use Rattle.rev_log.specs.Changes.{RevisionData}
@@ -9,12 +9,16 @@ use Rattle.select_all.specs.declared.selection.Selection.{Selection}
 use Rattle.select_all.specs.Floors.{IsEvicted}
 use Rattle.select_all.specs.Streams.{transitions}
 use Rattle.cache_hub.specs.Catching.{CaughtData}
+use Rattle.cache_hub.specs.OpenLanes.{OpenLaneData, GetsAll}
 use Rattle.cache_hub.specs.declared.catching.CatchNo.{CatchNo}
 use Rattle.cache_hub.specs.declared.catching.CatchNo.TheVariants.{Lost, Memory}
 use Rattle.client_api.specs.declared.answers.ListNo.{ListNo}
 use Rattle.client_api.specs.declared.answers.ListNo.TheVariants.{Expired, TooLarge, Absent}
 use Rattle.client_api.specs.declared.answers.ListNo.TheVariants as no_memory
 use Rattle.client_api.specs.Answers.{BegunData}
+use Rattle.client_api.specs.declared.answers.Took.{Took}
+use Rattle.client_api.specs.Facts.{HasLoaded, Watched}
+use Rattle.client_api.specs.Turns.{IsTurn}
 use Rattle.shared_client.specs.Serving.{IsServed}
 
 -- What a watch at a position is told that catches up, where this was shown and this is known then: all lines up to a
@@ -30,6 +34,20 @@ pub record IsTold (base : List RowData) (s : Selection) (at shown : ℕ) (q : Pa
 abbrev pub IsLostAt : List RowData → ℕ → Selection → ℕ → Pass RevisionData → CatchNo → Type 0
 IsLostAt base window s at q (Lost asked floor) = (asked ≡ at) × (asked < floor) × IsEvicted (log_of base q) q.floor window s.resource at floor
 IsLostAt base window s at q Memory = Unit {0}
+
+-- it is refused so only where the watch doesn't get all that comes: its lane is behind, or there is none for it
+abbrev pub IsLeftBehind : Selection → Option OpenLaneData → CatchNo → Type 0
+IsLeftBehind s lane (Lost asked floor) = ¬ GetsAll s lane
+IsLeftBehind s lane Memory = Unit {0}
+
+-- its lane isn't behind, and got more than the watch was told, which stands at this position: the lane has a batch
+abbrev pub HasMore : Selection → ℕ → Option OpenLaneData → Type 0
+HasMore s at None = ⊥
+HasMore s at (Some o) = (o.lane.selection ≡ s) × (o.lane.behind ≡ false) × (at < o.lane.mark)
+
+-- what a turn gives, for whoever had loaded before r was known and loads nothing until q is
+abbrev pub IsLoadedTurn : List RowData → ℕ → Pass RevisionData → Watched → Took → Pass RevisionData → Type 0
+IsLoadedTurn base window r watched took q = (p : Pass RevisionData) → HasLoaded p r → IsTurn base window p watched took q
 
 -- a watch begins at the end of a cache that has reached what was shown, with these rows of the state there
 pub record BeginsAtEnd (base : List RowData) (s : Selection) (shown : ℕ) (rows_of : List RowData → List RowData) (begun : BegunData) (q : Pass RevisionData) : Type 0 where

@@ -1,6 +1,6 @@
 //! The cache of one resource that many callers share.
 
-ghost use Rattle.std.specs.Prelude.{◌≡◌, ◌<◌, ◌≤◌, ℕ, Some, None, max, IfOk, IfErr, OnOk, OnErr};
+ghost use Rattle.std.specs.Prelude.{◌≡◌, ◌<◌, ◌≤◌, ◌↔◌, ℕ, Some, None, max, IfOk, IfErr, IfSome, IfNone, IsSome, IsTrue, OnOk, OnErr};
 ghost use Rattle.rev_front.specs.Passes.{Extends, end_from};
 ghost use Rattle.rev_log.specs.States.{IsStateAt};
 ghost use Rattle.select_all.specs.declared.selection.Meaning.TheVariants.{Any, Exact};
@@ -11,11 +11,11 @@ ghost use Rattle.reflect_core.specs.Pumps.{HasCause, RisesFor};
 ghost use Rattle.cache_hub.specs.Catching.{IsCaught, RefusesCatch};
 ghost use Rattle.cache_hub.specs.declared.catching.CatchNo.TheVariants.{Lost};
 ghost use Rattle.cache_hub.specs.Hubs.{HasCaughtUp};
-ghost use Rattle.cache_hub.specs.OpenLanes.{AreChanged, SetsLane, left_behind, newly_open, open_at};
+ghost use Rattle.cache_hub.specs.OpenLanes.{AreChanged, GetsAll, GoesAlong, SetsLane, left_behind, newly_open, open_at};
 ghost use Rattle.shared_client.specs.CacheStates.{GoesOn, IsBrokenOff, IsNewHub, IsPumped, IsSection, KeepsCache};
 ghost use Rattle.shared_client.specs.Knowing.{KnowsAllOf};
 ghost use Rattle.shared_client.specs.Serving.{IsServed, IsShown, IsUnserved, UnlessAlone};
-ghost use Rattle.shared_client.specs.Watching.{IsLostAt, IsTold};
+ghost use Rattle.shared_client.specs.Watching.{HasMore, IsLeftBehind, IsLostAt, IsTold};
 
 use crate::reads::kept_at;
 use crate::resources::OfResource;
@@ -202,6 +202,27 @@ impl<N: LogFacts, One: OfResource> CacheState<N, One> {
         self.hub.catch_up(Some(id), selection, at, max)
     }
 
+    /// What a watch of this selection is told that stands at a position, and misses nothing by its lane: nothing, up to
+    /// the cache's end, where both go, also from below the floor of the ring. Any other is answered `None`.
+    pub fn go_along(
+        &mut self,
+        told: &mut Pass<N>,
+        id: u64,
+        selection: &Selection,
+        at: u64,
+    ) -> Option<Caught>
+        ensures section { IsSection self.old self.new told.old told.new }
+        ensures along { IsSome result ↔ GoesAlong selection.now at (open_at self.old.hub.lanes.all id) }
+        ensures caught { IfSome result (λ caught. (many : ℕ) → 1 ≤ many → IsCaught (log_of N.base told.new) selection.now at self.old.hub.cache.end many caught) }
+        ensures seen { self.old.hub.cache.end ≤ end_from told.new.first told.new.seen }
+        ensures lane { IfSome result (λ caught. HasCaughtUp (Some id) caught.upto self.old.hub self.new.hub) }
+        ensures same { KeepsCache self.old self.new }
+        ensures kept { IfNone result (self.new.hub ≡ self.old.hub) }
+    {
+        self.share(told);
+        self.hub.go_along(id, selection, at)
+    }
+
     /// Builds the cache anew from upstream's history, and answers the compaction floor of that section; all lanes are
     /// behind then. After want of memory the cache is as it was.
     pub fn rebuild<R: Wait + Copy>(
@@ -290,8 +311,65 @@ impl<N: LogFacts, One: OfResource> CacheState<N, One> {
         Ok(lane)
     }
 
-    /// What a watch at a position is told, once the cache was brought to all that the caller was shown.
+    /// What a watch at a position is told, once the cache was brought to all that the caller was shown. Where its lane
+    /// isn't behind and got more than it was told, that is `None`: a batch lies in the lane. So a watch that gets all
+    /// that comes is never lost, however much of it didn't concern the watch.
     pub(crate) fn turn<R: Wait + Copy>(
+        &mut self,
+        up: &mut StoreDoor<N, R>,
+        told: &mut Pass<N>,
+        selection: &Selection,
+        turn: Turn,
+    ) -> Result<Option<Caught>, CatchNo>
+        requires resource { selection.now.resource ≡ One.resource }
+        requires max { 1 ≤ turn.max }
+        ensures learns { Learns told.old told.new }
+        ensures told { IfOk result (λ caught. IfSome caught (IsTold N.base selection.now turn.at told.old.shown told.new)) }
+        ensures sent { IfOk result (λ caught. IfNone caught (HasMore selection.now turn.at (open_at self.new.hub.lanes.all turn.lane))) }
+        ensures lost { IfErr result (IsLostAt N.base N.window selection.now turn.at told.new) }
+        ensures behind { IfErr result (IsLeftBehind selection.now (open_at self.new.hub.lanes.all turn.lane)) }
+    {
+        let shown = told.shown();
+        self.tick(turn.ms);
+        self.pump(up, told, shown)?;
+        self.tell(told, selection, turn)
+    }
+
+    // The same at the cache's end.
+    fn tell(
+        &mut self,
+        told: &mut Pass<N>,
+        selection: &Selection,
+        turn: Turn,
+    ) -> Result<Option<Caught>, CatchNo>
+        requires resource { selection.now.resource ≡ One.resource }
+        requires max { 1 ≤ turn.max }
+        ensures learns { Learns told.old told.new }
+        ensures caught { IfOk result (λ caught. IfSome caught (IsCaught (log_of N.base told.new) selection.now turn.at self.old.hub.cache.end turn.max)) }
+        ensures seen { self.old.hub.cache.end ≤ end_from told.new.first told.new.seen }
+        ensures sent { IfOk result (λ caught. IfNone caught (HasMore selection.now turn.at (open_at self.new.hub.lanes.all turn.lane))) }
+        ensures lost { IfErr result (IsLostAt N.base N.window selection.now turn.at told.new) }
+        ensures behind { IfErr result (IsLeftBehind selection.now (open_at self.new.hub.lanes.all turn.lane)) }
+    {
+        if let Some(caught) = self.go_along(told, turn.lane, selection, turn.at) {
+            return Ok(Some(caught));
+        }
+        if self.gets_all(turn.lane, selection) {
+            return Ok(None);
+        }
+        let caught = self.catch_up(told, turn.lane, selection, turn.at, turn.max)?;
+        Ok(Some(caught))
+    }
+
+    // Whether a watch of this selection gets all that comes by its lane, under this number.
+    fn gets_all(&self, id: u64, selection: &Selection) -> bool
+        ensures { IsTrue result ↔ GetsAll selection.now (open_at self.now.hub.lanes.all id) }
+    {
+        self.hub.gets_all(id, selection)
+    }
+
+    /// What a watch at a position is told from the ring, once the cache was brought to all that the caller was shown.
+    pub(crate) fn turn_by_ring<R: Wait + Copy>(
         &mut self,
         up: &mut StoreDoor<N, R>,
         told: &mut Pass<N>,

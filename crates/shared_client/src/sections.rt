@@ -1,6 +1,6 @@
 //! What clients ask of the caches: each call is one section under the lock of one cache.
 
-ghost use Rattle.std.specs.Prelude.{◌≡◌, ◌≤◌, IfOk, IfErr};
+ghost use Rattle.std.specs.Prelude.{◌≡◌, ◌≤◌, IfOk, IfErr, IfSome};
 ghost use Rattle.select_all.specs.declared.selection.Meaning.TheVariants.{Any};
 ghost use Rattle.up_api.specs.Sections.{Learns};
 ghost use Rattle.shared_client.specs.Serving.{IsServed, IsShown, IsUnserved};
@@ -97,17 +97,17 @@ impl<N: LogFacts, R: Wait + Copy> Cacher<N, R> {
         }
     }
 
-    /// What a watch of this selection is told at a turn.
+    /// What a watch of this selection is told at a turn: `None` where a batch lies in its lane.
     pub(crate) fn turn(
         &self,
         door: &mut StoreDoor<N, R>,
         told: &mut Pass<N>,
         selection: &Selection,
         turn: Turn,
-    ) -> Result<Caught, CatchNo>
+    ) -> Result<Option<Caught>, CatchNo>
         requires max { 1 ≤ turn.max }
         ensures learns { Learns told.old told.new }
-        ensures told { IfOk result (IsTold N.base selection.now turn.at told.old.shown told.new) }
+        ensures told { IfOk result (λ caught. IfSome caught (IsTold N.base selection.now turn.at told.old.shown told.new)) }
         ensures lost { IfErr result (IsLostAt N.base N.window selection.now turn.at told.new) }
     {
         match selection.resource {
@@ -120,6 +120,35 @@ impl<N: LogFacts, R: Wait + Copy> Cacher<N, R> {
                 .deployments
                 .lock(&self.rt)
                 .turn(door, told, selection, turn),
+        }
+    }
+
+    /// The same from the ring alone.
+    pub(crate) fn turn_by_ring(
+        &self,
+        door: &mut StoreDoor<N, R>,
+        told: &mut Pass<N>,
+        selection: &Selection,
+        turn: Turn,
+    ) -> Result<Caught, CatchNo>
+        requires max { 1 ≤ turn.max }
+        ensures learns { Learns told.old told.new }
+        ensures told { IfOk result (IsTold N.base selection.now turn.at told.old.shown told.new) }
+        ensures lost { IfErr result (IsLostAt N.base N.window selection.now turn.at told.new) }
+    {
+        match selection.resource {
+            Resource::Pods => self
+                .pods
+                .lock(&self.rt)
+                .turn_by_ring(door, told, selection, turn),
+            Resource::ConfigMaps => self
+                .config_maps
+                .lock(&self.rt)
+                .turn_by_ring(door, told, selection, turn),
+            Resource::Deployments => self
+                .deployments
+                .lock(&self.rt)
+                .turn_by_ring(door, told, selection, turn),
         }
     }
 

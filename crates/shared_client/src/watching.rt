@@ -12,7 +12,8 @@ ghost use Rattle.client_api.specs.Starts.{IsWatchAnswer, IsWatchStart};
 ghost use Rattle.client_api.specs.Turns.{IsTurn, watch_after};
 ghost use Rattle.select_all.specs.Listings.{listing};
 ghost use Rattle.cache_answers.specs.Turns.{moved_to};
-ghost use Rattle.shared_client.specs.Watching.{BeginsAtEnd, IsStartLost, none_of};
+ghost use Rattle.select_all.specs.declared.selection.Selection.{Selection as SelectionData};
+ghost use Rattle.shared_client.specs.Watching.{BeginsAtEnd, IsLoadedTurn, IsStartLost, IsTold, none_of};
 
 use crate::cache_state::Turn;
 use crate::cacher::Cacher;
@@ -189,7 +190,7 @@ fn watch_at<'a, N: LogFacts, R: Wait + Copy>(
 
 /// A turn of a watch. Its lane is asked first, which takes no lock; where that gives nothing, the revision that the
 /// log has reached is loaded. Where it is at the watch's position the turn is quiet, and takes no lock either; else
-/// the cache is asked.
+/// the cache is asked, and once more the lane, where a batch came into it meanwhile.
 pub fn turn<N: LogFacts, R: Wait + Copy>(
     door: &mut StoreDoor<N, R>,
     told: &mut Pass<N>,
@@ -259,13 +260,14 @@ fn received<N: LogFacts>(told: &mut Pass<N>, batch: Batch<N>) -> Took
 fn caught_up<N: LogFacts, R: Wait + Copy>(
     door: &mut StoreDoor<N, R>,
     told: &mut Pass<N>,
-    watch: &Watch<'_, N, R>,
+    watch: &mut Watch<'_, N, R>,
     max: usize,
     ms: u64,
 ) -> Result<Took, Memory>
     requires max { 1 ≤ max }
     ensures onward { IsOnward told.old told.new }
-    ensures turn { IfOk result (λ took. IsTurn N.base N.window told.old watch.now took told.new) }
+    ensures watch { watch.new ≡ watch.old }
+    ensures turn { IfOk result (λ took. IsTurn N.base N.window told.old watch.old took told.new) }
 {
     let loaded = told.look();
     // The sign is read behind the count of rings on which the watcher rests then. So whatever leaves the lane behind
@@ -280,17 +282,90 @@ fn caught_up<N: LogFacts, R: Wait + Copy>(
         max,
         ms,
     };
+    ask_cache(door, told, watch, turn)
+}
+
+// A turn under the cache's lock.
+fn ask_cache<N: LogFacts, R: Wait + Copy>(
+    door: &mut StoreDoor<N, R>,
+    told: &mut Pass<N>,
+    watch: &mut Watch<'_, N, R>,
+    turn: Turn,
+) -> Result<Took, Memory>
+    requires max { 1 ≤ turn.max }
+    requires at { turn.at ≡ watch.old.position }
+    requires loaded { told.old.last ≤ told.old.shown }
+    ensures learns { Learns told.old told.new }
+    ensures lawful { IsPass Fits told.new }
+    ensures watch { watch.new ≡ watch.old }
+    ensures turn { IfOk result (λ took. IsLoadedTurn N.base N.window told.old watch.old took told.new) }
+{
     let answer = watch.lane.cacher.turn(door, told, &watch.selection, turn);
-    let seen = told.end();
     let _known = told.shown();
     match answer {
-        Ok(caught) => {
-            let Caught { upto, lines } = caught;
-            Ok(took(watch.position, upto, lines, seen))
-        }
+        Ok(Some(caught)) => Ok(heard(told, watch.position, caught)),
+        Ok(None) => ask_lane(door, told, watch, turn),
         Err(CatchNo::Lost { at, floor }) => Ok(Took::Lost { at, floor }),
         Err(CatchNo::Memory) => Err(Memory),
     }
+}
+
+// A turn at which a batch came into the lane since the lane was asked. It was pushed under the lock, so it is there;
+// were it not, the ring would tell what it told.
+fn ask_lane<N: LogFacts, R: Wait + Copy>(
+    door: &mut StoreDoor<N, R>,
+    told: &mut Pass<N>,
+    watch: &mut Watch<'_, N, R>,
+    turn: Turn,
+) -> Result<Took, Memory>
+    requires max { 1 ≤ turn.max }
+    requires at { turn.at ≡ watch.old.position }
+    requires loaded { told.old.last ≤ told.old.shown }
+    ensures learns { Learns told.old told.new }
+    ensures lawful { IsPass Fits told.new }
+    ensures watch { watch.new ≡ watch.old }
+    ensures turn { IfOk result (λ took. IsLoadedTurn N.base N.window told.old watch.old took told.new) }
+{
+    match next_batch(&mut watch.lane.out, &watch.selection, watch.position) {
+        Some(batch) => Ok(received(told, batch)),
+        None => ask_ring(door, told, watch, turn),
+    }
+}
+
+// A turn that reads the ring.
+fn ask_ring<N: LogFacts, R: Wait + Copy>(
+    door: &mut StoreDoor<N, R>,
+    told: &mut Pass<N>,
+    watch: &Watch<'_, N, R>,
+    turn: Turn,
+) -> Result<Took, Memory>
+    requires max { 1 ≤ turn.max }
+    requires at { turn.at ≡ watch.now.position }
+    requires loaded { told.old.last ≤ told.old.shown }
+    ensures learns { Learns told.old told.new }
+    ensures lawful { IsPass Fits told.new }
+    ensures turn { IfOk result (λ took. IsLoadedTurn N.base N.window told.old watch.now took told.new) }
+{
+    let answer = watch
+        .lane
+        .cacher
+        .turn_by_ring(door, told, &watch.selection, turn);
+    let _known = told.shown();
+    match answer {
+        Ok(caught) => Ok(heard(told, watch.position, caught)),
+        Err(CatchNo::Lost { at, floor }) => Ok(Took::Lost { at, floor }),
+        Err(CatchNo::Memory) => Err(Memory),
+    }
+}
+
+// What the cache tells a watch at a position, as what a turn gives.
+fn heard<N: LogFacts>(told: &Pass<N>, position: u64, caught: Caught) -> Took
+    ensures { (s : SelectionData) (r : PassData RevisionData) (window : ℕ) → r.last ≤ r.shown → Learns r told.now → IsTold N.base s position r.shown told.now caught →
+        IsLoadedTurn N.base window r (record { selection = s; position = position }) result told.now }
+{
+    let seen = told.end();
+    let Caught { upto, lines } = caught;
+    took(position, upto, lines, seen)
 }
 
 // A turn at which the watch stays where it is.
