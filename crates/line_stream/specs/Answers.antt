@@ -1,5 +1,5 @@
 -- What a reader of lines answers.
-use Rattle.std.specs.Prelude.{◌≡◌, ℕ, List, [], Option, Result, Ok, Err, ⊤}
+use Rattle.std.specs.Prelude.{◌≡◌, ◌≢◌, ℕ, List, [], Option, Some, Result, Ok, Err, ⊤}
 use Rattle.edge_io.specs.Told.{IsExhausted}
 use Rattle.edge_io.specs.Counts.{Rose}
 use Rattle.line_stream.specs.Readers.{ReaderData, LinesData, GoesOn, ReadsText, IsRefused, IsOpen}
@@ -26,7 +26,8 @@ Faults reader left Memory = ⊤
 abbrev pub AnswersLine : LinesData → List ℕ → LinesData → Option (List ℕ) → Result Step LineNo → Type 0
 AnswersLine old bytes new left (Ok Line) = ReadsText old.at bytes new.line new.at
 AnswersLine old bytes new left (Ok Over) =
-    GoesOn old.at bytes new.at × (new.at.place ≡ place.Over) × (new.at.part ≡ []) × (new.line ≡ old.line)
+    GoesOn old.at bytes new.at × (new.at.room ≢ Some 0) × (new.at.place ≡ place.Over) × (new.at.part ≡ [])
+    × (new.line ≡ old.line)
 AnswersLine old bytes new left (Err why) =
     GoesOn old.at bytes new.at × Faults new.at left why × (new.line ≡ old.line)
 

@@ -1,5 +1,5 @@
 -- What a look at the bytes that a reader keeps finds.
-use Rattle.std.specs.Prelude.{◌≡◌, ℕ, ◌+◌, ◌<◌, ◌≤◌, List, [], ◌∷◌, ◌++◌, length, take, drop, Result, Ok, Err}
+use Rattle.std.specs.Prelude.{◌≡◌, ◌≢◌, ℕ, ◌+◌, ◌<◌, ◌≤◌, List, [], ◌∷◌, ◌++◌, length, take, drop, Some, Result, Ok, Err}
 use Rattle.line_stream.specs.Chunks.{Piece, piece_bytes, piece_data, Follows, MayBecomeEnd, NeverHasEnd, IsOpenAt, IsRefusedAt}
 use Rattle.line_stream.specs.Readers.{ReaderData, most_line, IsWithinLine, FitsRoom, IsOpen, IsRefused}
 use Rattle.httparse.specs.Ascii.{crlf_bytes}
@@ -67,6 +67,6 @@ abbrev pub LooksAt : ReaderData → Result Look LineNo → Type 0
 LooksAt reader (Ok (look.Frame len to)) = IsFrame reader.place reader.kept len to
 LooksAt reader (Ok (look.Data len left)) = IsData reader len left
 LooksAt reader (Ok (look.Feed left)) = IsFeed reader left
-LooksAt reader (Ok look.Over) = (reader.place ≡ Over) × (reader.part ≡ [])
+LooksAt reader (Ok look.Over) = (reader.room ≢ Some 0) × (reader.place ≡ Over) × (reader.part ≡ [])
 LooksAt reader (Ok look.Open) = IsOpen reader
 LooksAt reader (Err why) = IsRefused reader why

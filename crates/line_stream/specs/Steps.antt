@@ -1,5 +1,5 @@
 -- The steps in which a reader reads one line.
-use Rattle.std.specs.Prelude.{◌≡◌, ◌⊎◌, ℕ, ◌<◌, List, [], ◌++◌, length, Option, Result, Ok, Err}
+use Rattle.std.specs.Prelude.{◌≡◌, ◌≢◌, ◌⊎◌, ℕ, ◌<◌, List, [], ◌++◌, length, Option, Some, Result, Ok, Err}
 use Rattle.edge_io.specs.Told.{prepended, IsExhausted}
 use Rattle.edge_io.specs.Counts.{Rose}
 use Rattle.line_stream.specs.Readers.{LinesData, ReadsText, IsRefused, IsOpen}
@@ -14,7 +14,8 @@ use Rattle.line_stream.specs.declared.refusal.LineNo.TheVariants.{BadHead, Refus
 abbrev pub Advances : LinesData → LinesData → Result Advance LineNo → Type 0
 Advances old new (Ok advance.Passed) = Moves old.at new.at × (new.line ≡ old.line)
 Advances old new (Ok advance.Line) = ReadsText old.at old.at.kept new.line new.at
-Advances old new (Ok advance.Over) = (new ≡ old) × (old.at.place ≡ place.Over) × (old.at.part ≡ [])
+Advances old new (Ok advance.Over) =
+    (new ≡ old) × (old.at.room ≢ Some 0) × (old.at.place ≡ place.Over) × (old.at.part ≡ [])
 Advances old new (Ok advance.Open) = (new ≡ old) × IsOpen old.at
 Advances old new (Err why) = (new ≡ old) × (IsRefused old.at why ⊎ (why ≡ Memory))
 

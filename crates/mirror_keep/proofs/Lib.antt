@@ -1,0 +1,5 @@
+pub mod KindLemmas
+pub mod RowLemmas
+pub mod KeyLemmas
+pub mod IntakeLemmas
+pub mod FaultLemmas

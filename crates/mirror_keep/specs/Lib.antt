@@ -1,0 +1,3 @@
+pub mod Intakes
+pub mod Faults
+pub mod Laws

@@ -1,0 +1,137 @@
+-- Answers, by the counts of faults and what was written.
+use Rattle.std.proofs.Common.{◌≡◌, ℕ, List, [], Bool, true, false, Option, None, Some, Result, Ok, Err, refl, sym, ◌∙◌, inl, inr}
+use Rattle.std.specs.Prelude.{◌&&◌, if◌then◌else◌}
+use Rattle.edge_io.proofs.ToldLemmas.{AppendedSome-whole}
+use Rattle.edge_io.specs.Told.{appended}
+use Rattle.kube_meta.specs.Rows.{RowData}
+use Rattle.line_stream.specs.Answers.{Counts}
+use Rattle.line_stream.specs.declared.refusal.LineNo.{LineNo}
+use Rattle.line_stream.specs.declared.refusal.LineNo.TheVariants as line
+use Rattle.select_all.specs.declared.selection.Kind.TheVariants.{Added, Modified, Deleted}
+use Rattle.select_all.specs.declared.selection.Selection.{Selection}
+use Rattle.select_all.specs.Selecting.{selects}
+use Rattle.watch_read.specs.declared.peer_line.PeerLine.{PeerLine}
+use Rattle.watch_read.specs.declared.peer_line.PeerLine.TheVariants as peer
+use Rattle.ask_watch.specs.declared.asking.AskNo.{AskNo}
+use Rattle.ask_watch.specs.declared.asking.AskNo.TheVariants as ask
+use Rattle.mirror_opening.specs.Asking.{IsAsked, CountsReads, CountsWrites}
+use Rattle.mirror_opening.specs.Reading.{Adds, HasNoRows, HasNoOpening, opening_fault, is_next, are_upto}
+use Rattle.mirror_opening.specs.Refusals.{reading_refusal, asking_refusal}
+use Rattle.mirror_opening.specs.declared.refusal.LinkNo.{LinkNo}
+use Rattle.mirror_opening.specs.declared.refusal.LinkNo.TheVariants.{BadHead, BadChunk, BadLine, Order, Gap, Refused, Told, CutShort, ReadFault, WriteFault, TooLong, Passed, Memory}
+
+-- the count of a source by a refusal of its reader
+pub counts_reads : (A B : Type 0) (fault : LineNo) (old new : ℕ) → Counts {A = A} (Err fault) old new → CountsReads {A = B} (Err (reading_refusal fault)) old new
+counts_reads A B line.BadHead old new counts = counts
+counts_reads A B (line.Refused code) old new counts = counts
+counts_reads A B line.BadChunk old new counts = counts
+counts_reads A B line.Overlong old new counts = counts
+counts_reads A B line.Unfinished old new counts = counts
+counts_reads A B line.Spent old new counts = counts
+counts_reads A B line.CutShort old new counts = counts
+counts_reads A B line.ReadFault old new counts = counts
+counts_reads A B line.Memory old new counts = counts
+
+-- an answer that is no fault of the source
+pub quiet : (A : Type 0) (why : LinkNo) (old new : ℕ) → ¬ (why ≡ ReadFault) → new ≡ old → CountsReads {A = A} (Err why) old new
+quiet A BadHead old new other same = same
+quiet A BadChunk old new other same = same
+quiet A BadLine old new other same = same
+quiet A (Order last got) old new other same = same
+quiet A (Gap last got) old new other same = same
+quiet A (Refused code) old new other same = same
+quiet A (Told code) old new other same = same
+quiet A CutShort old new other same = same
+quiet A ReadFault old new other same = absurd (other refl)
+quiet A WriteFault old new other same = same
+quiet A TooLong old new other same = same
+quiet A (Passed to at) old new other same = same
+quiet A Memory old new other same = same
+
+-- a sink that was written to, and counted no fault
+pub quiet_sink : (A : Type 0) (why : LinkNo) (old new : ℕ) → ¬ (why ≡ WriteFault) → new ≡ old → CountsWrites {A = A} (Err why) old new
+quiet_sink A BadHead old new other same = same
+quiet_sink A BadChunk old new other same = same
+quiet_sink A BadLine old new other same = same
+quiet_sink A (Order last got) old new other same = same
+quiet_sink A (Gap last got) old new other same = same
+quiet_sink A (Refused code) old new other same = same
+quiet_sink A (Told code) old new other same = same
+quiet_sink A CutShort old new other same = same
+quiet_sink A ReadFault old new other same = same
+quiet_sink A WriteFault old new other same = absurd (other refl)
+quiet_sink A TooLong old new other same = same
+quiet_sink A (Passed to at) old new other same = same
+quiet_sink A Memory old new other same = same
+
+-- a request that was written whole
+pub asked : (A : Type 0) (text : List ℕ) (why : LinkNo) (old new : Option (List ℕ)) → new ≡ appended old text → IsAsked {A = A} text (Err why) old new
+asked A text BadHead old new sent = sent
+asked A text BadChunk old new sent = sent
+asked A text BadLine old new sent = sent
+asked A text (Order last got) old new sent = sent
+asked A text (Gap last got) old new sent = sent
+asked A text (Refused code) old new sent = sent
+asked A text (Told code) old new sent = sent
+asked A text CutShort old new sent = sent
+asked A text ReadFault old new sent = sent
+asked A text WriteFault old new sent = AppendedSome-whole old new text sent
+asked A text TooLong old new sent = sent
+asked A text (Passed to at) old new sent = sent
+asked A text Memory old new sent = AppendedSome-whole old new text sent
+
+-- ---- what is wrong with a line is no fault of the ends
+
+either : (b : Bool) (why : LinkNo) → (if b then None else Some BadLine) ≡ Some why → why ≡ BadLine
+either true why is = cc
+either false why is = cc
+
+pub bad : (s : Selection) (rows : List RowData) (found : Option PeerLine) (why : LinkNo) → opening_fault s rows found ≡ Some why → ¬ (why ≡ ReadFault)
+bad s rows None why is fault = cc
+bad s rows (Some (peer.Told Added obj rev)) why is fault = let bad_line = either (selects s obj && is_next rows obj.key) why is in cc
+bad s rows (Some (peer.Told Modified obj rev)) why is fault = cc
+bad s rows (Some (peer.Told Deleted obj rev)) why is fault = cc
+bad s rows (Some (peer.Bookmark at closing)) why is fault = let bad_line = either (closing && are_upto rows at) why is in cc
+bad s rows (Some (peer.Error code)) why is fault = cc
+
+pub adds_quietly : (s : Selection) (rows : List RowData) (found : Option PeerLine) (result : Result (Option ℕ) LinkNo) (later : List RowData) (old new : ℕ) →
+    Adds s rows found result later → new ≡ old → CountsReads result old new
+adds_quietly s rows found (Ok None) later old new adds same = same
+adds_quietly s rows found (Ok (Some base)) later old new adds same = same
+adds_quietly s rows found (Err why) later old new adds same =
+    quiet (Option ℕ) why old new (elim adds [ inl memory ↦ (λ fault. cc (memory, fault)) | inr fault ↦ bad s rows found why fault ]) same
+
+-- ---- a request that wasn't asked is no fault of what was read
+
+no_write : (fault : LineNo) → ¬ (reading_refusal fault ≡ WriteFault)
+no_write line.BadHead is = cc
+no_write (line.Refused code) is = cc
+no_write line.BadChunk is = cc
+no_write line.Overlong is = cc
+no_write line.Unfinished is = cc
+no_write line.Spent is = cc
+no_write line.CutShort is = cc
+no_write line.ReadFault is = cc
+no_write line.Memory is = cc
+
+bad_line : (s : Selection) (rows : List RowData) (found : Option PeerLine) (why : LinkNo) → opening_fault s rows found ≡ Some why → ¬ (why ≡ WriteFault)
+bad_line s rows None why is fault = cc
+bad_line s rows (Some (peer.Told Added obj rev)) why is fault = let that = either (selects s obj && is_next rows obj.key) why is in cc
+bad_line s rows (Some (peer.Told Modified obj rev)) why is fault = cc
+bad_line s rows (Some (peer.Told Deleted obj rev)) why is fault = cc
+bad_line s rows (Some (peer.Bookmark at closing)) why is fault = let that = either (closing && are_upto rows at) why is in cc
+bad_line s rows (Some (peer.Error code)) why is fault = cc
+
+pub was_asked : (s : Selection) (bytes : List ℕ) (left : Option (List ℕ)) (why : LinkNo) → HasNoRows s bytes left why → ¬ (why ≡ WriteFault)
+was_asked s bytes left why (inl memory) is = cc (memory, is)
+was_asked s bytes left why (inr (inl head)) is = no_write head.fault (sym head.why_is ∙ is)
+was_asked s bytes left why (inr (inr (inl none))) is = elim none.fault [
+  | inl (fault, why_is, faults) ↦ no_write fault (sym why_is ∙ is)
+  | inr (why_is, room, over, part) ↦ cc (why_is, is)
+]
+was_asked s bytes left why (inr (inr (inr bad))) is = bad_line s bad.rows bad.found why bad.fault is
+
+-- nothing was taken
+pub unasked : (s : Selection) (left : Option (List ℕ)) (fault : AskNo) → HasNoOpening s [] left (asking_refusal fault)
+unasked s left ask.WriteFault = inl (refl, refl)
+unasked s left ask.Memory = inr (inl refl)

@@ -1,0 +1,4 @@
+pub mod Refusals
+pub mod Openings
+pub mod Reading
+pub mod Asking

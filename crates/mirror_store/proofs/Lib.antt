@@ -1,0 +1,5 @@
+pub mod PassLemmas
+pub mod MoveLemmas
+pub mod FaultLemmas
+pub mod StepLemmas
+pub mod LineLemmas

@@ -1,0 +1,2 @@
+pub mod MirrorLogs
+pub mod Kept
