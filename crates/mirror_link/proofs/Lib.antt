@@ -1,0 +1,5 @@
+pub mod FollowLemmas
+pub mod HearLemmas
+pub mod LineLemmas
+pub mod CallLemmas
+pub mod BeginLemmas

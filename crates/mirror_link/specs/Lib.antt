@@ -1,0 +1,7 @@
+pub mod Views
+pub mod Refusals
+pub mod Peers
+pub mod Lines
+pub mod Hearing
+pub mod Beginning
+pub mod Laws

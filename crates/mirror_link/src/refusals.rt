@@ -1,0 +1,42 @@
+//! Which refusal of a part is which of the whole.
+
+ghost use Rattle.std.specs.Prelude.{◌≡◌, Option, Result};
+ghost use Rattle.mirror_link.specs.Refusals as refusals;
+
+use crate::Heard;
+use mirror_keep::TakeNo;
+use mirror_opening::LinkNo;
+use mirror_store::MirrorNo;
+
+// Why a line isn't taken.
+fn taking_refusal(why: TakeNo) -> LinkNo
+    ensures { result ≡ refusals.taking_refusal why }
+{
+    match why {
+        TakeNo::BadLine => LinkNo::BadLine,
+        TakeNo::Order { last, got } => LinkNo::Order { last, got },
+        TakeNo::Gap { last, got } => LinkNo::Gap { last, got },
+    }
+}
+
+/// Why a line isn't heard by a mirror's log, which ends at `to`.
+pub(crate) fn hearing_refusal(to: u64, why: MirrorNo) -> LinkNo
+    ensures { result ≡ refusals.hearing_refusal to why }
+{
+    match why {
+        MirrorNo::Refused(why) => taking_refusal(why),
+        MirrorNo::Passed { at } => LinkNo::Passed { to, at },
+        MirrorNo::Memory => LinkNo::Memory,
+    }
+}
+
+/// The answer that is given again after this one, if any.
+pub(crate) fn kept_answer(answer: Result<Heard, LinkNo>) -> Option<Result<Heard, LinkNo>>
+    ensures { result ≡ refusals.kept_answer answer }
+{
+    match answer {
+        Ok(Heard::Line { .. }) => None,
+        Ok(Heard::Ended { to }) => Some(Ok(Heard::Ended { to })),
+        Err(why) => Some(Err(why)),
+    }
+}
