@@ -28,11 +28,11 @@ with_settings command =
 abbrev pub session : App
 session = with_settings (new_app (codes "session"))
 
--- the command `serve` as clap knows it: it is set as a session is, and takes connections at a port
+-- the command `serve` as clap knows it: it is set as a session is, takes connections at a port, and may have a peer
 abbrev pub serve : App
 serve =
-    with_rule (with_rule (with_rule (with_rule (with_settings (new_app (codes "serve")))
-    (option (codes "port"))) (option (codes "workers"))) (option (codes "open"))) (option (codes "connections"))
+    with_rule (with_rule (with_rule (with_rule (with_rule (with_settings (new_app (codes "serve")))
+    (option (codes "port"))) (option (codes "workers"))) (option (codes "open"))) (option (codes "connections"))) (option (codes "peer"))
 
 -- the command `load` as clap knows it: from what its requests are drawn, and how many
 abbrev pub load : App
@@ -55,6 +55,11 @@ within low high (Err fault) = None
 abbrev pub number : ℕ → ℕ → ℕ → Option Text → Option ℕ
 number low high default None = Some default
 number low high default (Some text) = within low high (revision_of text)
+
+-- what is given for an option that has no usual number, if anything is
+abbrev pub optional : ℕ → ℕ → Option Text → Option (Option ℕ)
+optional low high None = Some None
+optional low high (Some text) = option_map (λ n. Some n) (within low high (revision_of text))
 
 -- ---- what the options of a command give; nothing where a number isn't in its range
 
@@ -86,10 +91,15 @@ settings_of rows =
     (number window 102400 window (first_of (codes "window-max") rows)))
     (number 1 102400 usual.window (first_of (codes "window") rows))
 
--- how a server is set: the settings, and what is given of its port, its workers and the connections that it takes
+-- a server's options with what is given of its peer
+abbrev pub with_peer : List Row → ServeOptions → Option ServeOptions
+with_peer rows options =
+    option_map (λ given. record options { peer = given }) (optional 1 65535 (first_of (codes "peer") rows))
+
+-- how a server is set: the settings, and what is given of its port, its workers, the connections that it takes and its peer
 abbrev pub with_connections : List Row → Settings → Option ServeOptions
 with_connections rows settings =
-    option_and_then (λ port. option_and_then (λ workers. option_and_then (λ open_at_once. option_map (λ connections. record { port = port; workers = workers; «open» = open_at_once; connections = connections; settings = settings })
+    option_and_then (λ port. option_and_then (λ workers. option_and_then (λ open_at_once. option_and_then (λ connections. with_peer rows (record { port = port; workers = workers; «open» = open_at_once; connections = connections; peer = None; settings = settings }))
     (number 0 (2 ^ 62) 0 (first_of (codes "connections") rows)))
     (number 1 65536 16384 (first_of (codes "open") rows)))
     (number 1 64 4 (first_of (codes "workers") rows)))

@@ -1,5 +1,5 @@
 -- What the words of a command line ask for.
-use Rattle.std.specs.Prelude.{◌≡◌, ℕ, ◌≤◌, ◌^◌, List, [], ◌∷◌, Bool, true, false, ◌&&◌, not, Result, Ok, Err, codes, ⊤}
+use Rattle.std.specs.Prelude.{◌≡◌, ℕ, ◌≤◌, ◌^◌, List, [], ◌∷◌, Bool, true, false, ◌&&◌, not, Result, Ok, Err, IfSome, codes, ⊤}
 use Rattle.std.specs.List.{list_any}
 use Rattle.std.specs.Str.{bytes_eq}
 use Rattle.command_line.specs.declared.asked.Asked.{Asked}
@@ -57,6 +57,7 @@ pub record AreServed (options : ServeOptions) : Type 0 where
   pub workers : (1 ≤ options.workers) × (options.workers ≤ 64)
   pub open_at_once : (1 ≤ options.open) × (options.open ≤ 65536)
   pub connections : options.connections ≤ 2 ^ 62
+  pub peer : IfSome options.peer (λ port. (1 ≤ port) × (port ≤ 65535))
   pub settings : AreInRange options.settings
 
 -- what is asked for is within its ranges

@@ -32,6 +32,8 @@ pub struct ServeOptions {
     pub open: u64,
     /// Connections that are accepted before the server ends: 0 to 2^62, and 0 stands for 2^62.
     pub connections: u64,
+    /// The port of the server whose pods it mirrors, if it does: 1 to 65,535.
+    pub peer: Option<u16>,
     /// How each session is set.
     pub settings: Settings,
 }

@@ -6,7 +6,7 @@ ghost use Rattle.up_api.specs.Settings.{AreInRange};
 ghost use Rattle.command_line.specs.Options as spec;
 ghost use Rattle.command_line.specs.Words.{AreServed};
 
-use crate::options::{matched, number, with_option};
+use crate::options::{matched, number, optional, with_option};
 use crate::settings::{settings, with_settings};
 use crate::{LoadOptions, ServeOptions, WordsNo};
 use clap::{ArgMatches, Command};
@@ -55,7 +55,8 @@ fn serve_command<'a>(alloc: Global) -> Result<Command<'a>, Memory>
     let command = with_option(alloc, command, "port")?;
     let command = with_option(alloc, command, "workers")?;
     let command = with_option(alloc, command, "open")?;
-    with_option(alloc, command, "connections")
+    let command = with_option(alloc, command, "connections")?;
+    with_option(alloc, command, "peer")
 }
 
 fn serve_options(matches: &ArgMatches<'_>) -> Option<ServeOptions>
@@ -74,13 +75,30 @@ fn with_connections(matches: &ArgMatches<'_>, settings: Settings) -> Option<Serv
     let workers = number(matches, "workers", 1, 64, 4)? as usize;
     let open = number(matches, "open", 1, 65_536, 16_384)?;
     let connections = number(matches, "connections", 0, MAX_REVISION, 0)?;
-    Some(ServeOptions {
-        port,
-        workers,
-        open,
-        connections,
-        settings,
-    })
+    with_peer(
+        matches,
+        ServeOptions {
+            port,
+            workers,
+            open,
+            connections,
+            peer: None,
+            settings,
+        },
+    )
+}
+
+fn with_peer(matches: &ArgMatches<'_>, options: ServeOptions) -> Option<ServeOptions>
+    requires { AreServed options }
+    ensures value { result ≡ spec.with_peer (rows_of (found_of matches.now)) options }
+    ensures range { IfSome result AreServed }
+{
+    let mut options = options;
+    options.peer = match optional(matches, "peer", 1, 65_535)? {
+        Some(port) => Some(port as u16),
+        None => None,
+    };
+    Some(options)
 }
 
 /// The options that the words of a load give, the first of which is `load`.

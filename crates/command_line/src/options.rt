@@ -1,6 +1,6 @@
 //! The words of a command and the numbers of its options, by clap.
 
-ghost use Rattle.std.specs.Prelude.{◌≡◌, ◌≤◌, [], IfErr, IfOk, IfSome, map, string_bytes, true};
+ghost use Rattle.std.specs.Prelude.{◌≡◌, ◌≤◌, [], IfErr, IfOk, IfSome, Some, map, option_map, string_bytes, true};
 ghost use Rattle.clap.specs.Words.{app_of, fault_of, first_of, found_of, is_simple, is_simple_and_free, kind_of, matches_of, rows_of, with_rule};
 ghost use Rattle.kube_meta.specs.Revisions.{revision_of};
 ghost use Rattle.command_line.specs.Options as spec;
@@ -64,6 +64,31 @@ pub(crate) fn number(
     match matches.get_str(name) {
         None => Some(usual),
         Some(text) => within(text, low, high),
+    }
+}
+
+/// The number of an option that needn't be given. Nothing where it isn't in its range.
+pub(crate) fn optional(
+    matches: &ArgMatches<'_>,
+    name: &str,
+    low: u64,
+    high: u64,
+) -> Option<Option<u64>>
+    ensures value { result ≡ spec.optional low high (first_of name.now (rows_of (found_of matches.now))) }
+    ensures range { IfSome result (λ given. IfSome given (λ n. (low ≤ n) × (n ≤ high))) }
+{
+    match matches.get_str(name) {
+        None => Some(None),
+        Some(text) => given(within(text, low, high)),
+    }
+}
+
+fn given(number: Option<u64>) -> Option<Option<u64>>
+    ensures { result ≡ option_map (λ n. Some n) number }
+{
+    match number {
+        Some(n) => Some(Some(n)),
+        None => None,
     }
 }
 

@@ -3,16 +3,23 @@
 
 mod clock;
 mod doorbell;
+mod end;
+mod following;
 mod host;
 mod house;
 mod intake;
+mod mirror;
 mod pump;
+mod redial;
 mod ringing;
 mod schedule;
 mod server;
 mod shared;
+mod standing;
 mod tally;
 mod visitor;
 
 pub use intake::Served;
+pub use mirror::serve_mirror;
+pub use redial::{News, Redial};
 pub use server::{serve_all, serve_open};

@@ -1,9 +1,9 @@
 //! The pump, which feeds the caches and wakes the watches that they told something.
 
 use crate::doorbell::Doorbell;
+use crate::end::End;
 use bells::{Bell, NO_PEER};
 use edge_io::Clock;
-use once_cell::race::OnceBool;
 use shared_client::Cacher;
 use std::alloc::Global;
 use std::sync::{Arc, Wait};
@@ -15,7 +15,7 @@ const FEW_CALLS: usize = 16;
 /// For how many milliseconds.
 const GATHER_MS: u64 = 1;
 
-/// Feeds the caches, tells them the time and rings for the lanes that were told, by turns, until `ended` is set and the
+/// Feeds the caches, tells them the time and rings for the lanes that were told, by turns, until `end` is there and the
 /// bell rung. Where there is no memory for a pass it does not run: lists and watches follow the log themselves.
 pub fn pump<N: LogFacts, T: Clock, R: Wait + Copy>(
     rt: &R,
@@ -23,7 +23,7 @@ pub fn pump<N: LogFacts, T: Clock, R: Wait + Copy>(
     cacher: &Cacher<N, R>,
     clock: &mut T,
     doorbell: &Doorbell,
-    ended: &OnceBool,
+    end: &End,
 ) {
     let Ok(mut told) = cacher.pass() else {
         return;
@@ -33,7 +33,7 @@ pub fn pump<N: LogFacts, T: Clock, R: Wait + Copy>(
     doorbell.begin();
     for _ in rt.forever() {
         let count = doorbell.count();
-        if ended.get().is_some() {
+        if end.is_there() {
             break;
         }
         cacher.tick(clock.now().ms);

@@ -12,7 +12,6 @@ use crate::tally::Tally;
 use bells::Rung;
 use edge_io::{Clock, Listener};
 use kube_meta::Memory;
-use once_cell::race::OnceBool;
 use shared_client::Cacher;
 use std::alloc::Global;
 use std::marker::Brand;
@@ -104,10 +103,37 @@ where
         (λ served. MayEnd (L.over served.listener) (L.faults served.listener) served.accepted (limit_of connections)) }
     ensures sessions { IfOk result (λ served. IfSome served.sessions (λ sessions. sessions ≡ served.accepted)) }
 {
-    let limit = if connections == 0 { MOST } else { connections };
     let front = Front::new(rt, alloc, cacher, *settings);
+    serve_front(&front, listener, clock, workers, open, connections)
+}
+
+/// The same, over what its threads share.
+pub(crate) fn serve_front<L, N, T, R>(
+    front: &Front<'_, N, R>,
+    listener: L,
+    clock: &mut T,
+    workers: usize,
+    open: u64,
+    connections: u64,
+) -> Result<Served<L>, Memory>
+where
+    L: Listener + Send + Drop,
+    L::T: Rung,
+    N: LogFacts + Send + Sync,
+    T: Clock + Send,
+    R: Threads + Wait + Copy + Send + Sync,
+    requires connections { connections ≤ 2 ^ 62 }
+    requires fresh { (L.given listener ≡ 0) × (L.faults listener ≡ 0) }
+    ensures accepted { IfOk result (λ served. served.accepted ≡ L.given served.listener) }
+    ensures within { IfOk result (λ served. served.accepted ≤ limit_of connections) }
+    ensures faulted { IfOk result (λ served. IsTrue served.faulted ↔ (0 < L.faults served.listener)) }
+    ensures ended { IfOk result
+        (λ served. MayEnd (L.over served.listener) (L.faults served.listener) served.accepted (limit_of connections)) }
+    ensures sessions { IfOk result (λ served. IfSome served.sessions (λ sessions. sessions ≡ served.accepted)) }
+{
+    let limit = if connections == 0 { MOST } else { connections };
     let blank = Blank::new(PARTS);
-    serve_up_to::<Brand, L, N, T, R>(&front, blank, listener, clock, workers, open, limit)
+    serve_up_to::<Brand, L, N, T, R>(front, blank, listener, clock, workers, open, limit)
 }
 
 // The same, up to a limit that `B` names, and with its ledger.
@@ -166,20 +192,19 @@ where
     T: Clock + Send,
     R: Threads + Wait + Copy + Send + Sync,
 {
-    let ended = OnceBool::new();
     let pumping = || pump(
         front.rt,
         front.alloc,
         front.cacher,
         clock,
         &front.doorbell,
-        &ended,
+        &front.end,
     );
     let serving = ||
         requires { AreInRange front.now.settings }
     {
         let outcome = serve_beside(front, gate, workers, open);
-        let _ = ended.set(true);
+        front.end.come();
         front.doorbell.ring();
         outcome
     };

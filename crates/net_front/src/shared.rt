@@ -3,6 +3,7 @@
 ghost use Rattle.up_api.specs.Settings.{AreInRange};
 
 use crate::doorbell::Doorbell;
+use crate::end::End;
 use crate::house::House;
 use crate::intake::{Intake, Limit};
 use crate::tally::Tally;
@@ -12,7 +13,8 @@ use std::alloc::Global;
 use std::sync::{Mutex, Wait};
 use up_api::{LogFacts, Settings};
 
-/// What each of them serves by: the caches of the log, the bell of the pump, the counts of the host, and the settings.
+/// What each of them serves by: the caches of the log, the bell of the pump, the counts of the host, the end
+/// of the sessions, and the settings.
 #[derive(Drop)]
 pub struct Front<'a, N: LogFacts, R: Wait + Copy> {
     pub rt: &'a R,
@@ -21,6 +23,7 @@ pub struct Front<'a, N: LogFacts, R: Wait + Copy> {
     pub settings: Settings,
     pub doorbell: Doorbell,
     pub house: House,
+    pub end: End,
     ghost ranged: { AreInRange settings },
 }
 
@@ -41,6 +44,7 @@ impl<'a, N: LogFacts, R: Wait + Copy> Front<'a, N, R> {
             settings,
             doorbell: Doorbell::new(),
             house: House::new(),
+            end: End::new(),
         }
     }
 }

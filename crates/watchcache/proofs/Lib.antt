@@ -1,3 +1,4 @@
+pub mod PeerLemmas
 pub mod ServerLemmas
 pub mod InputLemmas
 pub mod TellingLemmas

@@ -1,5 +1,5 @@
 -- What the program does for the words of its command line: its exit status, the bytes that it took and those that it wrote.
-use Rattle.std.specs.Prelude.{◌≡◌, ℕ, ◌+◌, ◌<◌, ◌≤◌, ◌⊎◌, List, length, [], false, Option, Some, Result, Ok, Err}
+use Rattle.std.specs.Prelude.{◌≡◌, ℕ, ◌+◌, ◌<◌, ◌≤◌, ◌⊎◌, List, length, [], false, Option, Some, None, IfSome, Result, Ok, Err, ⊤}
 use Rattle.body_check.specs.Judging.{IsJudged}
 use Rattle.body_check.specs.declared.judging.Checked.{Checked}
 use Rattle.body_check.specs.declared.judging.Checked.TheVariants.{Lawful, Unlawful}
@@ -13,13 +13,20 @@ use Rattle.command_line.specs.declared.asked.WordsNo.TheVariants.{Bad, Memory}
 use Rattle.edge_io.specs.Counts.{Rose}
 use Rattle.edge_io.specs.Told.{prepended, appended, AppendedSome, Noted, IsExhausted}
 use Rattle.edge_io.specs.declared.clock.Reading.{Reading}
+use Rattle.kube_meta.specs.declared.resources.Resource.TheVariants.{Pods}
 use Rattle.load_gen.specs.Figures.{lines_of}
 use Rattle.load_gen.specs.Loads.{IsLoad}
 use Rattle.load_gen.specs.NewLogs.{new_pass, terms}
 use Rattle.load_gen.specs.declared.figures.Figures.{Figures}
+use Rattle.mirror_opening.specs.Openings.{OpeningData, IsOpeningOf}
+use Rattle.mirror_opening.specs.Reading.{HasOpening, HasNoOpening}
+use Rattle.mirror_opening.specs.declared.refusal.LinkNo.{LinkNo}
+use Rattle.mirror_opening.specs.declared.refusal.LinkNo.TheVariants.{ReadFault, WriteFault, Memory as NoMemory}
 use Rattle.net_front.specs.Ends.{limit_of}
 use Rattle.rev_front.specs.Passes.{Pass}
 use Rattle.rev_log.specs.Changes.{RevisionData}
+use Rattle.select_all.specs.Reading.{IsRead}
+use Rattle.select_all.specs.declared.selection.Selection.{Selection}
 use Rattle.sess_serve.specs.Ends.{UnlessBroken}
 use Rattle.sess_serve.specs.Session.{IsSession}
 use Rattle.sess_serve.specs.Status.{status_of}
@@ -28,7 +35,7 @@ use Rattle.up_api.specs.declared.settings.Settings.{Settings}
 use Rattle.watch_record.specs.Records.{fault_of, max_bytes, IsRecordOf}
 use Rattle.watch_record.specs.declared.records.Record.{Record}
 use Rattle.watch_record.specs.declared.refusals.RecordNo.{RecordNo}
-use Rattle.watchcache.specs.Texts.{help, version, bad_line, sessions, verdict}
+use Rattle.watchcache.specs.Texts.{help, version, bad_line, sessions, peer_line, verdict}
 
 -- ---- what went through the program's ends
 
@@ -72,24 +79,30 @@ ends_of left faults source_old source_new readings clock_old clock_new sent = re
   sent = sent;
 }
 
--- the net's count of faults; how many connections the listener had given that was shut last; and whether no more will
--- come to it
+-- the net's count of faults; how many connections the listener had given that was shut last; whether no more will come
+-- to it; and what the peer that is dialled first sends, where that is told
 pub record NetUse : Type 1 where
   pub faults_old : ℕ
   pub faults_new : ℕ
   pub served_old : ℕ
   pub served_new : ℕ
   pub over : Type 0
+  pub peer_old : Option (List ℕ)
 
--- how a net was used, by what it tells before and after
-abbrev pub use_of : {N : Type 0} → (N → ℕ) → (N → ℕ) → (N → Type 0) → N → N → NetUse
-use_of faults served ended old new = record {
+-- how a net was used whose peer sends this, by what it tells before and after
+abbrev pub use_with : {N : Type 0} → (N → ℕ) → (N → ℕ) → (N → Type 0) → Option (List ℕ) → N → N → NetUse
+use_with faults served ended sends old new = record {
   faults_old = faults old;
   faults_new = faults new;
   served_old = served old;
   served_new = served new;
   over = ∥ ended new ∥₁;
+  peer_old = sends;
 }
+
+-- how a net was used, by what it tells before and after
+abbrev pub use_of : {N : Type 0} → (N → ℕ) → (N → ℕ) → (N → Type 0) → (N → Option (List ℕ)) → N → N → NetUse
+use_of faults served ended peer old new = use_with faults served ended (peer old) old new
 
 -- nothing was read
 abbrev pub IsUnread : Ends → Type 0
@@ -171,12 +184,83 @@ pub record IsServed (options : ServeOptions) (net : NetUse) (sent : Sent) (statu
   pub ended : net.over ⊎ HasFailed net ⊎ (limit_of options.connections ≤ net.served_new)
   pub told : TellsSessions net sent status
 
--- what came of a server: it ended; or it told nothing and no listener was shut, as listening failed or there was no memory
+-- it told nothing and no listener was shut, as the net failed or there was no memory
+abbrev pub IsUnstarted : NetUse → Sent → ℕ → Type 0
+IsUnstarted net sent status =
+    (net.served_new ≡ net.served_old)
+    × ((HasFailed net × IsSilent 9 sent status) ⊎ ((net.faults_new ≡ net.faults_old) × IsSilent 8 sent status))
+
+-- what came of a server: it ended, or it never started
 abbrev pub RunsServer : ServeOptions → NetUse → Sent → ℕ → Type 0
-RunsServer options net sent status =
-    IsServed options net sent status
-    ⊎ ((net.served_new ≡ net.served_old)
-    × ((HasFailed net × IsSilent 9 sent status) ⊎ ((net.faults_new ≡ net.faults_old) × IsSilent 8 sent status)))
+RunsServer options net sent status = IsServed options net sent status ⊎ IsUnstarted net sent status
+
+-- ---- a server that mirrors a peer
+
+-- a selection of all pods
+abbrev pub IsOfAllPods : Selection → Type 0
+IsOfAllPods s = IsRead Pods None [] [] s
+
+-- what the peer sends begins with an opening of all its pods
+pub record SendsOpening (bytes : List ℕ) : Type 0 where
+  pub taken : List ℕ
+  pub left : Option (List ℕ)
+  pub opening : OpeningData
+  pub of_all : IsOfAllPods opening.selection
+  pub lawful : IsOpeningOf opening
+  pub front : Some bytes ≡ prepended taken left
+  pub has : HasOpening taken opening
+
+-- it doesn't, for this reason
+pub record SendsNone (bytes : List ℕ) (why : LinkNo) : Type 0 where
+  pub taken : List ℕ
+  pub left : Option (List ℕ)
+  pub selection : Selection
+  pub of_all : IsOfAllPods selection
+  pub front : Some bytes ≡ prepended taken left
+  pub fault : HasNoOpening selection taken left why
+
+-- the reason is one of those that the peer's bytes give
+abbrev pub IsOfBytes : LinkNo → Type 0
+IsOfBytes ReadFault = ⊥
+IsOfBytes WriteFault = ⊥
+IsOfBytes NoMemory = ⊥
+IsOfBytes why = ⊤
+
+-- what a peer sends is opened, where what was read of it is an opening, or refused
+abbrev pub Opens : Option (List ℕ) → Result OpeningData LinkNo → Type 0
+Opens sends (Ok opening) = IsOpeningOf opening → IfSome sends SendsOpening
+Opens sends (Err why) = IsOfBytes why → IfSome sends (λ bytes. SendsNone bytes why)
+
+-- what is told where a peer has no opening
+abbrev pub TellsNone : LinkNo → NetUse → Sent → ℕ → Type 0
+TellsNone why net sent status =
+    IsOfBytes why × ((net.faults_new ≡ net.faults_old) × (net.served_new ≡ net.served_old)) × IsTold (peer_line why) 13 sent status
+
+-- an opening is refused: why is told, or its connection failed, or there was no memory
+abbrev pub Refuses : LinkNo → NetUse → Sent → ℕ → Type 0
+Refuses why net sent status = TellsNone why net sent status ⊎ IsUnstarted net sent status
+
+-- the peer's opening was served
+pub record IsMirrored (options : ServeOptions) (net : NetUse) (sent : Sent) (status : ℕ) : Type 0 where
+  pub opened : IfSome net.peer_old SendsOpening
+  pub served : IsServed options net sent status
+
+-- the peer has none, and why was told
+pub record IsUnopened (net : NetUse) (sent : Sent) (status : ℕ) : Type 0 where
+  pub why : LinkNo
+  pub sends : IfSome net.peer_old (λ bytes. SendsNone bytes why)
+  pub told : TellsNone why net sent status
+
+-- what came of a server that mirrors a peer: it ended; or it didn't start, as the peer has no opening, the net failed,
+-- which an opening that is broken off counts as, or there was no memory
+abbrev pub RunsMirror : ServeOptions → NetUse → Sent → ℕ → Type 0
+RunsMirror options net sent status =
+    IsMirrored options net sent status ⊎ (IsUnopened net sent status ⊎ IsUnstarted net sent status)
+
+-- what came of a server, by whether it has a peer
+abbrev pub RunsEither : Option ℕ → ServeOptions → NetUse → Sent → ℕ → Type 0
+RunsEither None options net sent status = RunsServer options net sent status
+RunsEither (Some peer) options net sent status = RunsMirror options net sent status
 
 -- ---- a check
 
@@ -221,7 +305,7 @@ abbrev pub Does : Result Asked WordsNo → Ends → NetUse → ℕ → Type 0
 Does (Ok Help) ends net status = IsUnused net × IsIdle ends × IsTold help 0 ends.sent status
 Does (Ok Version) ends net status = IsUnused net × IsIdle ends × IsTold version 0 ends.sent status
 Does (Ok (Session settings)) ends net status = IsUnused net × RunsSession settings ends status
-Does (Ok (Serve options)) ends net status = IsUnread ends × RunsServer options net ends.sent status
+Does (Ok (Serve options)) ends net status = IsUnread ends × RunsEither options.peer options net ends.sent status
 Does (Ok (Load options)) ends net status = IsUnused net × IsIdle ends × TellsLoad options ends.sent status
 Does (Ok Check) ends net status =
     IsUnused net × (ends.readings_new ≡ ends.readings_old)

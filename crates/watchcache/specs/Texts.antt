@@ -3,6 +3,8 @@ use Rattle.std.specs.Prelude.{ℕ, List, [], ◌∷◌, ◌++◌, Result, Ok, Er
 use Rattle.std.specs.List.{concat}
 use Rattle.body_check.specs.declared.judging.Checked.{Checked}
 use Rattle.body_check.specs.declared.judging.Checked.TheVariants.{Lawful, Unlawful}
+use Rattle.mirror_opening.specs.Refusals.{name_of as link_name}
+use Rattle.mirror_opening.specs.declared.refusal.LinkNo.{LinkNo}
 use Rattle.watch_record.specs.declared.refusals.RecordNo.{RecordNo}
 use Rattle.watch_record.specs.declared.refusals.RecordNo.TheVariants.{TooLong, BadHeader, NoBody, BadLog, BadFloor, BadAsk, Memory}
 
@@ -34,6 +36,7 @@ help =
     ∷ codes "  --workers N       threads that serve connections from the start on: 1 to 64, default 4\n"
     ∷ codes "  --open N          connections that are served side by side, by threads that come as they are wanted: 1 to 65536, default 16384\n"
     ∷ codes "  --connections N   connections that are accepted before it ends: 0 to 4611686018427387904, default 0, which is all\n"
+    ∷ codes "  --peer N          the port of a server whose pods it mirrors: 1 to 65535, default none\n"
     ∷ codes "\n"
     ∷ codes "those of load:\n"
     ∷ codes "  --from N          what the requests are drawn from: 0 to 4611686018427387904, default 1\n"
@@ -48,14 +51,19 @@ help =
     ∷ codes "  6   the input went on with what is no request, as its reply says\n"
     ∷ codes "  7   1000000 requests were answered\n"
     ∷ codes "  8   memory ran out\n"
-    ∷ codes "  9   listening or accepting failed\n"
+    ∷ codes "  9   dialling the peer, its opening, listening or accepting failed\n"
     ∷ codes "  11  the body of a record is unlawful\n"
     ∷ codes "  12  what was to be checked is no record\n"
+    ∷ codes "  13  what the peer sent is no streaming list\n"
     ∷ [])
 
 -- how many sessions a server served
 abbrev pub sessions : ℕ → List ℕ
 sessions accepted = codes "sessions " ++ decimal accepted ++ codes "\n"
+
+-- why a peer has no opening
+abbrev pub peer_line : LinkNo → List ℕ
+peer_line why = codes "peer: " ++ link_name why ++ codes "\n"
 
 -- what is written for `--version`: the program's name and its version
 abbrev pub version : List ℕ

@@ -6,19 +6,20 @@ ghost use Rattle.watchcache.specs.Run.{Does, ends_of, sent_through, use_of};
 
 use crate::checks::check_record;
 use crate::loads::load;
-use crate::server::serve;
+use crate::peer::serve_any;
 use crate::session::run_session;
 use crate::statuses::OUT_OF_MEMORY;
 use crate::texts::{write_bad_line, write_help, write_version};
 use bells::Rung;
 use command_line::{Asked, WordsNo};
 use edge_io::{Clock, Listener, Net, Sink, Source};
+use net_front::Redial;
 use std::alloc::Global;
 use std::sync::Wait;
 use std::thread::Threads;
 
 /// Does what is asked for, or refuses what asks for nothing. Answers the exit status.
-pub fn perform<R, S, K, T, N>(
+pub fn perform<R, S, K, T, N, D>(
     rt: R,
     alloc: Global,
     asked: Result<Asked, WordsNo>,
@@ -26,6 +27,7 @@ pub fn perform<R, S, K, T, N>(
     sink: &mut K,
     clock: &mut T,
     net: &mut N,
+    redial: &mut D,
 ) -> u8
 where
     R: Threads + Wait + Copy + Send + Sync,
@@ -34,18 +36,19 @@ where
     T: Clock + Send,
     N: Net,
     <N::L as Listener>::T: Rung,
+    D: Redial + Send,
     requires range { IfOk asked IsInRange }
     requires few_faults { N.faults net.old < 2 ^ 62 }
     ensures { Does asked
         (ends_of S.left S.faults source.old source.new T.readings clock.old clock.new
         (sent_through K.written K.settled K.faults sink.old sink.new))
-        (use_of N.faults N.served N.ended net.old net.new) result }
+        (use_of N.faults N.served N.ended N.peer net.old net.new) result }
 {
     match asked {
         Ok(Asked::Help) => write_help(sink),
         Ok(Asked::Version) => write_version(sink),
         Ok(Asked::Session(settings)) => run_session(alloc, &settings, source, sink, clock),
-        Ok(Asked::Serve(options)) => serve(rt, alloc, options, sink, clock, net),
+        Ok(Asked::Serve(options)) => serve_any(rt, alloc, options, sink, clock, net, redial),
         Ok(Asked::Load(options)) => load(alloc, options, sink),
         Ok(Asked::Check) => check_record(alloc, source, sink),
         Err(WordsNo::Bad) => write_bad_line(sink),

@@ -10,6 +10,8 @@ mod checks;
 mod commands;
 mod inputs;
 mod loads;
+mod peer;
+mod redial;
 mod server;
 mod session;
 mod statuses;
@@ -23,6 +25,8 @@ use bells::Rung;
 use command_line::read_words;
 use commands::perform;
 use edge_io::{Clock, Listener, Net, ReadEnd, Sink, Source, StepClock, SystemClock, WriteEnd};
+use net_front::Redial;
+use redial::LoopbackRedial;
 use statuses::OUT_OF_MEMORY;
 use std::alloc::{AllocError, Global};
 use std::env::{self, Env};
@@ -37,12 +41,14 @@ use tcp_net::LoopbackNet;
 ///
 /// `session` with its options is one session over `source` and `sink`, with a client that answers from caches of a
 /// log of its own, whose first revision is 1. `serve` serves each connection to a port by such a session, over one
-/// log, and tells on `sink` how many there were; the status is 9 where `net` failed. `load` serves a session of drawn
+/// log, and tells on `sink` how many there were; the status is 9 where `net` failed. Where it has a peer, the log is a
+/// mirror of the peer's pods, which is followed by `redial` too; where what the peer sends first is no opening, that is
+/// told on `sink`: status 13. `load` serves a session of drawn
 /// requests in memory, and tells on `sink` what came of it. `check` reads a record from `source`, and tells on `sink`
 /// how the body in it is judged: status 0 where it is lawful, 11 where it isn't, 12 where the bytes are no record.
 /// `--help` and `--version`, at any place, are told on `sink`: status 0. All else is a bad command line: status 2. The
 /// status is 4 where `sink` failed, and 8 where memory ran out.
-pub fn run<R, S, K, T, N>(
+pub fn run<R, S, K, T, N, D>(
     rt: R,
     alloc: Global,
     words: &[String],
@@ -50,6 +56,7 @@ pub fn run<R, S, K, T, N>(
     sink: &mut K,
     clock: &mut T,
     net: &mut N,
+    redial: &mut D,
 ) -> u8
 where
     R: Threads + Wait + Copy + Send + Sync,
@@ -58,14 +65,15 @@ where
     T: Clock + Send,
     N: Net,
     <N::L as Listener>::T: Rung,
+    D: Redial + Send,
     requires { N.faults net.old < 2 ^ 62 }
     ensures { IsRun (map string_bytes words.now)
         (ends_of S.left S.faults source.old source.new T.readings clock.old clock.new
         (sent_through K.written K.settled K.faults sink.old sink.new))
-        (use_of N.faults N.served N.ended net.old net.new) result }
+        (use_of N.faults N.served N.ended N.peer net.old net.new) result }
 {
     let asked = read_words(alloc, words);
-    perform(rt, alloc, asked, source, sink, clock, net)
+    perform(rt, alloc, asked, source, sink, clock, net, redial)
 }
 
 // Runs over standard input and output and TCP. A server shows the time; all else reads a clock that steps.
@@ -77,6 +85,7 @@ fn main(rt: HostRuntime) -> ExitCode {
     let mut source = ReadEnd::new(rt.reader());
     let mut sink = WriteEnd::new(alloc, rt.stdout());
     let mut net = LoopbackNet::new(alloc, rt);
+    let mut redial = LoopbackRedial::new(alloc, rt);
     let status = if is_server(&words) {
         let mut clock = SystemClock::new(rt);
         run(
@@ -87,6 +96,7 @@ fn main(rt: HostRuntime) -> ExitCode {
             &mut sink,
             &mut clock,
             &mut net,
+            &mut redial,
         )
     } else {
         let mut clock = StepClock::new();
@@ -98,6 +108,7 @@ fn main(rt: HostRuntime) -> ExitCode {
             &mut sink,
             &mut clock,
             &mut net,
+            &mut redial,
         )
     };
     ExitCode::from(status)

@@ -1,6 +1,6 @@
 //! A server of many connections.
 
-ghost use Rattle.std.specs.Prelude.{◌≡◌, ◌<◌, ◌≤◌, ◌^◌, ◌↔◌, ◌==◌, if◌then◌else◌, [], false, IsTrue, IfOk};
+ghost use Rattle.std.specs.Prelude.{◌≡◌, ◌<◌, ◌^◌, ◌↔◌, [], false, IsTrue};
 ghost use Rattle.command_line.specs.Words.{AreServed};
 ghost use Rattle.up_api.specs.Settings.{AreInRange};
 ghost use Rattle.watchcache.specs.Run.{IsTold, RunsServer, TellsSessions, sent_through, use_of};
@@ -27,9 +27,6 @@ use up_store::{Store, StoreDoor};
 /// The first revision of a new log.
 const FIRST: u64 = 1;
 
-/// How many changes a served window may grow to, where the options don't let it grow.
-const GROWN: usize = 102_400;
-
 /// Serves the connections to a port, over caches of one new log, and tells how many there were. Answers the status.
 pub fn serve<R, K, T, N>(
     rt: R,
@@ -47,7 +44,7 @@ where
     <N::L as Listener>::T: Rung,
     requires range { AreServed options }
     requires few_faults { N.faults net.old < 2 ^ 62 }
-    ensures { RunsServer options (use_of N.faults N.served N.ended net.old net.new)
+    ensures { RunsServer options (use_of N.faults N.served N.ended N.peer net.old net.new)
         (sent_through K.written K.settled K.faults sink.old sink.new) result }
 {
     match blank(alloc, FIRST) {
@@ -79,10 +76,10 @@ where
     requires window { L.window ≡ options.settings.window }
     requires range { AreServed options }
     requires few_faults { N.faults net.old < 2 ^ 62 }
-    ensures { RunsServer options (use_of N.faults N.served N.ended net.old net.new)
+    ensures { RunsServer options (use_of N.faults N.served N.ended N.peer net.old net.new)
         (sent_through K.written K.settled K.faults sink.old sink.new) result }
 {
-    match cacher_of::<L, R>(rt, alloc, made, &growing(options.settings)) {
+    match cacher_of::<L, R>(rt, alloc, made, &options.settings) {
         Ok(cacher) => {
             let status = serve_port(rt, alloc, &cacher, options, sink, clock, net);
             cacher.close();
@@ -90,21 +87,6 @@ where
         }
         Err(_) => OUT_OF_MEMORY,
     }
-}
-
-// The settings of served caches, whose window grows while changes are fresh: a watch that is told nothing takes a turn
-// each half minute alone, and goes on from where it stands.
-fn growing(settings: Settings) -> Settings
-    requires range { AreInRange settings }
-    ensures range { AreInRange result }
-    ensures window { result.window ≡ settings.window }
-    ensures grows { result.window_max ≡ (if settings.window_max == settings.window then 102400 else settings.window_max) }
-{
-    let mut settings = settings;
-    if settings.window_max == settings.window {
-        settings.window_max = GROWN;
-    }
-    settings
 }
 
 // The caches of a new log, behind their locks.
@@ -146,7 +128,7 @@ where
     <N::L as Listener>::T: Rung,
     requires range { AreServed options }
     requires few_faults { N.faults net.old < 2 ^ 62 }
-    ensures { RunsServer options (use_of N.faults N.served N.ended net.old net.new)
+    ensures { RunsServer options (use_of N.faults N.served N.ended N.peer net.old net.new)
         (sent_through K.written K.settled K.faults sink.old sink.new) result }
 {
     let Ok(listener) = net.listen(options.port) else {
@@ -169,15 +151,15 @@ where
     }
 }
 
-// Shuts the listener, and tells how many sessions it gave. That the net failed goes before a failed write.
-fn finish<K: Sink, N: Net>(served: Served<N::L>, sink: &mut K, net: &mut N) -> u8
+/// Shuts the listener, and tells how many sessions it gave. That the net failed goes before a failed write.
+pub fn finish<K: Sink, N: Net>(served: Served<N::L>, sink: &mut K, net: &mut N) -> u8
     requires accepted { served.accepted ≡ N.L.given served.listener }
     requires faulted { IsTrue served.faulted ↔ (0 < N.L.faults served.listener) }
     requires few_faults { N.faults net.old < 2 ^ 62 }
     ensures served { N.served net.new ≡ N.L.given served.listener }
     ensures ended { N.ended net.new ↔ N.L.over served.listener }
     ensures failed { 0 < N.L.faults served.listener → N.faults net.old < N.faults net.new }
-    ensures told { TellsSessions (use_of N.faults N.served N.ended net.old net.new)
+    ensures told { TellsSessions (use_of N.faults N.served N.ended N.peer net.old net.new)
         (sent_through K.written K.settled K.faults sink.old sink.new) result }
 {
     let (accepted, faulted) = (served.accepted, served.faulted);

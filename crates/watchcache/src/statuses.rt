@@ -15,7 +15,7 @@ pub const WRITE_FAULT: u8 = 4;
 /// Memory ran out.
 pub const OUT_OF_MEMORY: u8 = 8;
 
-/// Listening or accepting failed.
+/// Dialling, listening or accepting failed.
 pub const NET_FAULT: u8 = 9;
 
 /// A recorded body is unlawful.
@@ -23,3 +23,6 @@ pub const UNLAWFUL: u8 = 11;
 
 /// What was to be checked is no record.
 pub const NO_RECORD: u8 = 12;
+
+/// What the peer sent is no opening.
+pub const NO_OPENING: u8 = 13;

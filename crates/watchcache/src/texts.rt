@@ -34,6 +34,7 @@ and of serve:
   --workers N       threads that serve connections from the start on: 1 to 64, default 4
   --open N          connections that are served side by side, by threads that come as they are wanted: 1 to 65536, default 16384
   --connections N   connections that are accepted before it ends: 0 to 4611686018427387904, default 0, which is all
+  --peer N          the port of a server whose pods it mirrors: 1 to 65535, default none
 
 those of load:
   --from N          what the requests are drawn from: 0 to 4611686018427387904, default 1
@@ -48,9 +49,10 @@ exit status:
   6   the input went on with what is no request, as its reply says
   7   1000000 requests were answered
   8   memory ran out
-  9   listening or accepting failed
+  9   dialling the peer, its opening, listening or accepting failed
   11  the body of a record is unlawful
   12  what was to be checked is no record
+  13  what the peer sent is no streaming list
 ";
 
 const VERSION: &[u8] = b"watchcache 0.1.0\n";

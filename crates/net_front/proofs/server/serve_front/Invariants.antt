@@ -1,4 +1,4 @@
-use Rattle.net_front.proofs.server.serve_open.Given as goal
+use Rattle.net_front.proofs.server.serve_front.Given as goal
 
 -- the limit that was asked for
 abbrev pub ghosts-serve_up_to-B-Limit : goal.ghosts-serve_up_to-B-Limit

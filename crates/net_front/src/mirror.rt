@@ -1,0 +1,70 @@
+//! The server of a mirror.
+
+ghost use Rattle.std.specs.Prelude.{◌≡◌, ◌↔◌, ◌<◌, ◌≤◌, ◌^◌, IsTrue, IfOk, IfSome};
+ghost use Rattle.net_front.specs.Ends.{MayEnd, limit_of};
+ghost use Rattle.up_api.specs.Settings.{AreInRange};
+
+use crate::following::follow;
+use crate::intake::Served;
+use crate::redial::Redial;
+use crate::server::serve_front;
+use crate::shared::Front;
+use bells::Rung;
+use edge_io::{Clock, Listener, Source};
+use kube_meta::Memory;
+use mirror_link::Mirror;
+use shared_client::Cacher;
+use std::alloc::Global;
+use std::sync::Wait;
+use std::thread::{self, Threads};
+use up_api::{LogFacts, Settings};
+
+/// Serves as [`serve_open`](crate::serve_open) does, over the caches of a mirror's log, and follows the peer beside
+/// that: what comes from `source` is heard, and where the stream is over it is asked for again, over connections by
+/// `redial` to `port`. It is said there what becomes of that. The following ends where a line can't be heard, or the
+/// peer has another log; the server goes on with what it has then.
+///
+/// Whoever follows waits for the peer's bytes, so this may return only once the next line has come.
+pub fn serve_mirror<L, N, S, D, T, R>(
+    rt: &R,
+    alloc: Global,
+    listener: L,
+    cacher: &Cacher<N, R>,
+    mirror: &mut Mirror<N, R>,
+    source: &mut S,
+    redial: &mut D,
+    port: u16,
+    clock: &mut T,
+    workers: usize,
+    open: u64,
+    connections: u64,
+    settings: &Settings,
+) -> Result<Served<L>, Memory>
+where
+    L: Listener + Send + Drop,
+    L::T: Rung,
+    N: LogFacts + Send + Sync,
+    S: Source + Send,
+    D: Redial + Send,
+    T: Clock + Send,
+    R: Threads + Wait + Copy + Send + Sync,
+    requires workers { (1 ≤ workers) × (workers ≤ 64) }
+    requires connections { connections ≤ 2 ^ 62 }
+    requires fresh { (L.given listener ≡ 0) × (L.faults listener ≡ 0) }
+    requires settings { AreInRange settings.now }
+    ensures accepted { IfOk result (λ served. served.accepted ≡ L.given served.listener) }
+    ensures within { IfOk result (λ served. served.accepted ≤ limit_of connections) }
+    ensures faulted { IfOk result (λ served. IsTrue served.faulted ↔ (0 < L.faults served.listener)) }
+    ensures ended { IfOk result
+        (λ served. MayEnd (L.over served.listener) (L.faults served.listener) served.accepted (limit_of connections)) }
+    ensures sessions { IfOk result (λ served. IfSome served.sessions (λ sessions. sessions ≡ served.accepted)) }
+{
+    let front = Front::new(rt, alloc, cacher, *settings);
+    let following = ||
+        requires { AreInRange front.settings }
+    { follow(&front, mirror, source, redial, port) };
+    let serving = ||
+        requires { (L.given listener ≡ 0) × (L.faults listener ≡ 0) × (connections ≤ 2 ^ 62) }
+    { serve_front(&front, listener, clock, workers, open, connections) };
+    thread::join(rt, following, serving).1
+}

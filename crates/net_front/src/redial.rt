@@ -1,0 +1,31 @@
+//! What a mirror's server needs to follow its peer over one connection after the other.
+
+use edge_io::{Failed, Sink, Source};
+
+/// What has become of following a peer.
+#[derive(Clone, Copy, Debug, PartialEq, Eq)]
+pub enum News {
+    /// The peer at this port is followed, from a revision on.
+    Follows { port: u16, from: u64 },
+    /// Its stream is over, for this cause. It is asked for again.
+    IsOver { why: &'static str },
+    /// It is followed again, from a revision on.
+    FollowsAgain { from: u64 },
+    /// It is no longer followed, for this cause.
+    Ends { why: &'static str },
+}
+
+/// Connects to a peer again and again, and says what becomes of that. Nothing is counted: a peer that is away for a
+/// while is no fault of the server.
+pub trait Redial {
+    /// What a connection's bytes come from.
+    type S: Source + Send + Drop;
+    /// What bytes to a connection go to.
+    type K: Sink + Send + Drop;
+
+    /// Connects to a port of this machine's loopback address.
+    fn redial(&mut self, port: u16) -> Result<(Self::S, Self::K), Failed>;
+
+    /// Tells an operator.
+    fn say(&mut self, news: News);
+}

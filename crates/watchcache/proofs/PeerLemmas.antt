@@ -1,0 +1,33 @@
+-- What a server that mirrors a peer comes to.
+use Rattle.std.proofs.Common.{◌≡◌, subst, inl, inr, ℕ, List, Option, Some, None, IfSome}
+use Rattle.command_line.specs.declared.asked.ServeOptions.{ServeOptions}
+use Rattle.watchcache.specs.Run.{RunsMirror, RunsServer, SendsNone, SendsOpening, Sent}
+
+-- what holds of all that a source has left holds of what its peer sends, where that is told
+pub sent_by : (P : List ℕ → Type 0) (peer left : Option (List ℕ)) → IfSome peer (λ bytes. left ≡ Some bytes) → IfSome left P → IfSome peer P
+sent_by P None left same holds = tt
+sent_by P (Some bytes) left same holds = subst (λ l. IfSome l P) same holds
+
+-- an opening was read, and served over; whatever another peer sends
+pub opened : (options : ServeOptions) (sent : Sent) (status f f-new s s-new : ℕ) (over : Type 0) (left other : Option (List ℕ)) → IfSome left SendsOpening →
+    RunsServer options (record { faults_old = f; faults_new = f-new; served_old = s; served_new = s-new; over = over; peer_old = other }) sent status →
+    RunsMirror options (record { faults_old = f; faults_new = f-new; served_old = s; served_new = s-new; over = over; peer_old = left }) sent status
+opened options sent status f f-new s s-new over left other has (inl served) =
+    inl (record { opened = has; served = record { ended = served.ended; told = served.told } })
+opened options sent status f f-new s s-new over left other has (inr unstarted) = inr (inr unstarted)
+
+-- the counts before the dial, and what the peer sends, tell it as well
+pub dialled : (options : ServeOptions) (sent : Sent) (status f f-mid f-new s s-mid s-new : ℕ) (over : Type 0) (peer left : Option (List ℕ)) → f-mid ≡ f → s-mid ≡ s →
+    IfSome peer (λ bytes. left ≡ Some bytes) →
+    RunsMirror options (record { faults_old = f-mid; faults_new = f-new; served_old = s-mid; served_new = s-new; over = over; peer_old = left }) sent status →
+    RunsMirror options (record { faults_old = f; faults_new = f-new; served_old = s; served_new = s-new; over = over; peer_old = peer }) sent status
+dialled options sent status f f-mid f-new s s-mid s-new over peer left f-is s-is same runs =
+    by_peer (subst (λ (n : ℕ). RunsMirror options (record { faults_old = f; faults_new = f-new; served_old = n; served_new = s-new; over = over; peer_old = left }) sent status) s-is
+    (subst (λ (n : ℕ). RunsMirror options (record { faults_old = n; faults_new = f-new; served_old = s-mid; served_new = s-new; over = over; peer_old = left }) sent status) f-is runs))
+  where
+    by_peer : RunsMirror options (record { faults_old = f; faults_new = f-new; served_old = s; served_new = s-new; over = over; peer_old = left }) sent status →
+        RunsMirror options (record { faults_old = f; faults_new = f-new; served_old = s; served_new = s-new; over = over; peer_old = peer }) sent status
+    by_peer (inl m) = inl (record { opened = sent_by SendsOpening peer left same m.opened; served = record { ended = m.served.ended; told = m.served.told } })
+    by_peer (inr (inl u)) =
+        inr (inl (record { why = u.why; sends = sent_by (λ bytes. SendsNone bytes u.why) peer left same u.sends; told = u.told }))
+    by_peer (inr (inr unstarted)) = inr (inr unstarted)
