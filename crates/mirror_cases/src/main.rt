@@ -1,15 +1,23 @@
-//! Cases of mirrors, as data: texts that are read as lines of a peer's watch, and streams of bytes that are read as
-//! lines. Each file that the command line names has rows, each a step and the answer that is wanted. How they are
-//! written stands in `data/README.txt`.
+//! Cases of mirrors, as data: texts that are read as lines of a peer's watch, streams of bytes that are read as lines,
+//! requests, openings, and logs that hear lines. Each file that the command line names has rows, each a step and the
+//! answer that is wanted. How they are written stands in `data/README.txt`.
 #![tactic(auto)]
 
+mod asks;
+mod logs;
+mod openings;
 mod streams;
 mod texts;
+mod whose;
 mod words;
 
+use asks::Asks;
 use case_rows::{Lines, Tally, run_rows};
+use logs::Logs;
+use openings::Openings;
 use std::alloc::Global;
 use std::rt::Runtime;
+use std::sync::Wait;
 use std::{env, fs, io};
 use streams::Streams;
 use texts::Texts;
@@ -29,7 +37,7 @@ fn main(rt: HostRuntime) -> io::Result<()> {
 }
 
 /// Makes the steps of a file. A file whose subject isn't known is one mismatch.
-fn run_file<R: Runtime>(
+fn run_file<R: Runtime + Wait>(
     rt: &R,
     alloc: Global,
     lines: Lines<'_>,
@@ -37,6 +45,9 @@ fn run_file<R: Runtime>(
 ) -> io::Result<()> {
     match lines.file {
         "lines.txt" => run_rows(rt, alloc, lines, &mut Texts, tally),
+        "asks.txt" => run_rows(rt, alloc, lines, &mut Asks, tally),
+        "openings.txt" => run_rows(rt, alloc, lines, &mut Openings, tally),
+        "logs.txt" => run_rows(rt, alloc, lines, &mut Logs { rt }, tally),
         "streams.txt" => run_rows(rt, alloc, lines, &mut Streams, tally),
         _ => {
             tally.count(false);

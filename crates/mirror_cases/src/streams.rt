@@ -44,8 +44,8 @@ fn room_of(step: &str) -> (u64, &str) {
     (ROOM, step)
 }
 
-// The bytes that words stand for. Those between `[` and `]` are one chunk, those between `[` and `]]` a chunk each.
-fn bytes_of(alloc: Global, words: &str) -> Result<Vec<u8>, Memory> {
+/// The bytes that words stand for. Those between `[` and `]` are one chunk, those between `[` and `]]` a chunk each.
+pub fn bytes_of(alloc: Global, words: &str) -> Result<Vec<u8>, Memory> {
     let mut bytes = Vec::new(alloc);
     let mut data = Vec::new(alloc);
     let mut within = false;

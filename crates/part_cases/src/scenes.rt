@@ -1,11 +1,11 @@
 //! What is told by one line of code each.
 
-use crate::pumps::pump;
-use crate::words::{NO_STEP, words};
-use crate::{caches, laws, systems};
+use crate::{laws, systems};
 use case_rows::Steps;
 use kube_meta::Memory;
+use script_cases::{empty_cache, pump};
 use std::alloc::Global;
+use step_cases::{NO_STEP, words};
 use up_api::Settings;
 
 /// Scenes need the system, and what two threads told, which were started before.
@@ -19,7 +19,7 @@ impl Steps for Scenes {
     fn answer(&mut self, alloc: Global, step: &str) -> Result<String, Memory> {
         match step {
             "the usual settings" => Ok(format!(in alloc; "{:?}", Settings::usual())?),
-            "the cache of an empty log" => caches::empty(alloc),
+            "the cache of an empty log" => empty_cache(alloc),
             "a pump that misses nothing" => pump(alloc, false),
             "a pump without memory" => pump(alloc, true),
             "two threads at one log" => words(alloc, self.threads.as_str()),

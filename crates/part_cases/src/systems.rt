@@ -1,12 +1,11 @@
 //! The ends, the clock and the net of the system.
 
-use crate::ends::send;
-use crate::words::words;
 use edge_io::{Clock, Listener, Net, ReadEnd, Source, SystemClock, WriteEnd};
 use kube_meta::Memory;
 use std::alloc::Global;
 use std::io;
 use std::net::TcpListener;
+use step_cases::{send, words};
 use tcp_net::LoopbackNet;
 
 /// Standard input gives nothing to an empty buffer, and standard output takes a line.

@@ -74,11 +74,10 @@ impl Case {
         Some(&self.answer)
     }
 
-    /// What is wanted back where so many bytes are sent, and whether no request is cut in two there.
-    pub fn answered<'a>(&self, answer: &'a Answer, sent: usize) -> (&'a [u8], bool) {
-        let whole = answer.bytes.as_slice();
+    /// How much is wanted back where so many bytes are sent, and whether no request is cut in two there.
+    pub fn answered(&self, answer: &Answer, sent: usize) -> (usize, bool) {
         if sent >= self.requests.bytes.len() {
-            return (whole, true);
+            return (answer.bytes.len(), true);
         }
         let (mut length, mut is_between) = (0, false);
         for begin in &self.begins {
@@ -87,7 +86,7 @@ impl Case {
                 is_between = begin.sent == sent;
             }
         }
-        (whole.get(..length).unwrap_or(whole), is_between)
+        (length, is_between)
     }
 
     /// Takes in a line, and answers whether it is one of a case.

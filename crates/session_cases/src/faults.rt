@@ -4,8 +4,9 @@ use crate::answer::Answer;
 use crate::case::Case;
 use crate::kind::Kind;
 use crate::serving::{Ends, Outcome, serve};
+use crate::sink::CaseSink;
 use case_rows::{number, split};
-use edge_io::{MemSink, MemSource};
+use edge_io::MemSource;
 use kube_meta::Memory;
 use sess_serve::SessionEnd;
 use std::alloc::Global;
@@ -18,15 +19,24 @@ pub enum Breaks {
     Input,
     /// The source, which gives a byte in each call, and fails at one of them.
     Source,
-    /// The sink, which takes at most so many bytes in a call, and fails at one of them: at each one of so many.
-    Sink { step: usize, every: usize },
+    /// The sink, which takes at most so many bytes in a call, and fails at one of them: at the first of each so many;
+    /// with one kind of client alone, where that is said.
+    Sink {
+        step: usize,
+        every: usize,
+        only: Option<Kind>,
+    },
 }
 
 /// The most bytes that are read or written at once where that doesn't matter.
 const PIECE: usize = 65_536;
 
-/// The most calls of a sink.
-const MOST_CALLS: usize = 100_000;
+/// How a session is to come out that breaks off at one place: its end, and how much of the answer it writes.
+#[derive(Clone, Copy)]
+struct BrokenOff {
+    length: usize,
+    end: SessionEnd,
+}
 
 impl Breaks {
     /// What words name.
@@ -37,9 +47,11 @@ impl Breaks {
             "source" => Some(Breaks::Source),
             "sink" => {
                 let (step, every) = split(step);
+                let (every, only) = split(every);
                 Some(Breaks::Sink {
                     step: number(step) as usize,
                     every: (number(every) as usize).max(1),
+                    only: Kind::named(only),
                 })
             }
             _ => None,
@@ -55,81 +67,119 @@ impl Breaks {
         }
     }
 
-    // At how many places a case may break off.
-    fn places(self, case: &Case) -> usize {
+    /// Whether it is tried with this kind of client.
+    pub fn is_tried_with(self, kind: Kind) -> bool {
         match self {
-            Breaks::Input | Breaks::Source => case.requests.bytes.len().saturating_add(1),
-            Breaks::Sink { .. } => MOST_CALLS,
+            Breaks::Sink {
+                only: Some(only),
+                ..
+            } => only == kind,
+            _ => true,
+        }
+    }
+
+    // How a case is to come out at each place where it may break off.
+    fn places<R: Wait + Copy + Drop>(
+        self,
+        rt: R,
+        alloc: Global,
+        kind: Kind,
+        case: &Case,
+        answer: &Answer,
+    ) -> Result<Vec<BrokenOff>, Memory> {
+        match self {
+            Breaks::Input => cut_short(alloc, case, answer),
+            Breaks::Source => read_faults(alloc, case, answer),
+            Breaks::Sink { step, every, .. } => write_faults(rt, alloc, kind, case, step, every),
         }
     }
 
     // The ends of a session that breaks off at this place.
     fn ends(self, alloc: Global, case: &Case, at: usize) -> Result<Ends, Memory> {
         let whole = case.requests.bytes.as_slice();
-        let (mut input, mut read, mut write) = (whole, PIECE, PIECE);
-        let (mut at_source, mut at_sink) = (Vec::new(alloc), Vec::new(alloc));
+        let (mut input, mut read, mut fails) = (whole, PIECE, Vec::new(alloc));
+        let mut sink = CaseSink::new(alloc, PIECE);
         match self {
             Breaks::Input => input = whole.get(..at).unwrap_or(whole),
             Breaks::Source => {
                 read = 1;
-                at_source.push(at as u64)?;
+                fails.push(at as u64)?;
             }
-            Breaks::Sink { step, every } => {
-                write = step;
-                at_sink.push(at.saturating_mul(every) as u64)?;
+            Breaks::Sink { step, every, .. } => {
+                sink = CaseSink::failing(alloc, step, at.saturating_mul(every))?;
             }
         }
-        let (read, write) = (read.max(1), write.max(1));
         Ok(Ends {
-            source: MemSource::new(input.to_vec(alloc)?, read, at_source),
-            sink: MemSink::new(write, at_sink),
+            source: MemSource::new(input.to_vec(alloc)?, read.max(1), fails),
+            sink,
             clock: case.options.clock(),
         })
     }
-
-    // Whether a session that breaks off at this place ends so, and wrote what is wanted: the answers of the requests
-    // that were read whole; or where the sink fails, a beginning that is longer by the calls between than `before`,
-    // which is how much was written where it failed a place earlier.
-    fn is_as_wanted(
-        self,
-        case: &Case,
-        answer: &Answer,
-        at: usize,
-        before: usize,
-        outcome: &Outcome,
-    ) -> bool {
-        let (wanted, is_between) = case.answered(answer, at);
-        match self {
-            Breaks::Input if is_between => is_exactly(outcome, SessionEnd::Done, wanted),
-            Breaks::Input => is_exactly(outcome, SessionEnd::CutShort, wanted),
-            Breaks::Source => is_exactly(outcome, SessionEnd::ReadFault, wanted),
-            Breaks::Sink { step, every } => {
-                let more = step.saturating_mul(every);
-                let most = if at == 0 {
-                    0
-                } else {
-                    before.saturating_add(more)
-                };
-                let length = outcome.bytes().len();
-                outcome.end == SessionEnd::WriteFault
-                    && before <= length
-                    && length <= most
-                    && answer.bytes.as_slice().starts_with(outcome.bytes())
-            }
-        }
-    }
-
-    // Whether a session that wasn't broken off any more is what ends the places.
-    fn is_over(self, answer: &Answer, outcome: &Outcome) -> bool {
-        match self {
-            Breaks::Input | Breaks::Source => false,
-            Breaks::Sink { .. } => outcome.bytes() == answer.bytes.as_slice(),
-        }
-    }
 }
 
-fn is_exactly(outcome: &Outcome, end: SessionEnd, wanted: &[u8]) -> bool {
-    outcome.end == end && outcome.bytes() == wanted
+// The input ends behind each number of its bytes: what was asked whole is answered.
+fn cut_short(alloc: Global, case: &Case, answer: &Answer) -> Result<Vec<BrokenOff>, Memory> {
+    let mut places = Vec::new(alloc);
+    for sent in 0..case.requests.bytes.len().saturating_add(1) {
+        let (length, is_between) = case.answered(answer, sent);
+        let end = if is_between {
+            SessionEnd::Done
+        } else {
+            SessionEnd::CutShort
+        };
+        places.push(BrokenOff { length, end })?;
+    }
+    Ok(places)
+}
+
+// The source fails behind each number of the input's bytes: what was asked whole is answered.
+fn read_faults(alloc: Global, case: &Case, answer: &Answer) -> Result<Vec<BrokenOff>, Memory> {
+    let end = SessionEnd::ReadFault;
+    let mut places = Vec::new(alloc);
+    for sent in 0..case.requests.bytes.len().saturating_add(1) {
+        let (length, _) = case.answered(answer, sent);
+        places.push(BrokenOff { length, end })?;
+    }
+    Ok(places)
+}
+
+// The sink fails at the first of each so many calls: what the calls before wrote is written.
+fn write_faults<R: Wait + Copy + Drop>(
+    rt: R,
+    alloc: Global,
+    kind: Kind,
+    case: &Case,
+    step: usize,
+    every: usize,
+) -> Result<Vec<BrokenOff>, Memory> {
+    let ends = Ends {
+        source: MemSource::new(
+            case.requests.bytes.as_slice().to_vec(alloc)?,
+            PIECE,
+            Vec::new(alloc),
+        ),
+        sink: CaseSink::noting(alloc, step),
+        clock: case.options.clock(),
+    };
+    let whole = serve(rt, alloc, kind, &case.options, ends)?;
+    let end = SessionEnd::WriteFault;
+    let mut places = Vec::new(alloc);
+    for length in whole.before_calls().iter().step_by(every.max(1)) {
+        places.push(BrokenOff {
+            length: *length,
+            end,
+        })?;
+    }
+    Ok(places)
+}
+
+impl BrokenOff {
+    // Whether a session came out so.
+    fn is(&self, answer: &Answer, outcome: &Outcome) -> bool {
+        outcome.end == self.end
+            && outcome.bytes().len() == self.length
+            && answer.bytes.as_slice().starts_with(outcome.bytes())
+    }
 }
 
 /// The first place at which a case that breaks off there doesn't come out as it is wanted.
@@ -141,15 +191,13 @@ pub fn first_amiss<R: Wait + Copy + Drop>(
     answer: &Answer,
     breaks: Breaks,
 ) -> Result<Option<usize>, Memory> {
-    let mut before = 0;
-    for at in 0..breaks.places(case) {
+    let places = breaks.places(rt, alloc, kind, case, answer)?;
+    for (at, wanted) in places.iter().enumerate() {
         let ends = breaks.ends(alloc, case, at)?;
         let outcome = serve(rt, alloc, kind, &case.options, ends)?;
-        if !breaks.is_as_wanted(case, answer, at, before, &outcome) {
-            let is_over = breaks.is_over(answer, &outcome);
-            return Ok(if is_over { None } else { Some(at) });
+        if !wanted.is(answer, &outcome) {
+            return Ok(Some(at));
         }
-        before = outcome.bytes().len();
     }
     Ok(None)
 }

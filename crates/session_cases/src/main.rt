@@ -19,6 +19,7 @@ mod load;
 mod options;
 mod request;
 mod serving;
+mod sink;
 mod sockets;
 mod storm;
 mod trying;

@@ -6,8 +6,9 @@ ghost use Rattle.up_api.specs.Settings.{AreInRange};
 use crate::clock::CaseClock;
 use crate::kind::Kind;
 use crate::options::Options;
+use crate::sink::CaseSink;
 use client_api::Client;
-use edge_io::{MemSink, MemSource};
+use edge_io::MemSource;
 use kube_meta::Memory;
 use local_client::LocalClient;
 use plain_client::PlainClient;
@@ -25,7 +26,7 @@ use up_store::{Store, StoreDoor};
 #[derive(Drop)]
 pub struct Ends {
     pub source: MemSource,
-    pub sink: MemSink,
+    pub sink: CaseSink,
     pub clock: CaseClock,
 }
 
@@ -33,13 +34,18 @@ pub struct Ends {
 #[derive(Drop)]
 pub struct Outcome {
     pub end: SessionEnd,
-    sink: MemSink,
+    sink: CaseSink,
 }
 
 impl Outcome {
     /// What was written.
     pub fn bytes(&self) -> &[u8] {
         self.sink.bytes()
+    }
+
+    /// How much was written before each call of the sink, where it noted that.
+    pub fn before_calls(&self) -> &[usize] {
+        self.sink.before_calls()
     }
 }
 
@@ -164,7 +170,7 @@ pub fn in_pieces<R: Wait + Copy + Drop>(
     let step = step.max(1);
     let ends = Ends {
         source: MemSource::new(input.to_vec(alloc)?, step, Vec::new(alloc)),
-        sink: MemSink::new(step, Vec::new(alloc)),
+        sink: CaseSink::new(alloc, step),
         clock: options.clock(),
     };
     serve(rt, alloc, kind, options, ends)

@@ -91,6 +91,9 @@ fn try_breaks<R: Wait + Copy + Drop>(
 ) -> Result<(), Memory> {
     let alloc = report.alloc;
     for breaks in &case.breaks {
+        if !breaks.is_tried_with(kind) {
+            continue;
+        }
         if let Some(at) = first_amiss(rt, alloc, kind, case, answer, *breaks)? {
             let amiss = format!(in alloc;
                 "otherwise where its {} breaks off at {at}",

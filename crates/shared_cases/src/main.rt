@@ -8,23 +8,16 @@
 ghost use Rattle.std.specs.Prelude.{◌≡◌, [], false};
 ghost use Rattle.up_api.specs.Settings.{AreInRange};
 
-mod asks;
 mod play;
-mod pods;
-mod seat;
-mod start;
-mod steps;
 mod storm;
-mod texts;
-mod told;
 
 use case_rows::{Lines, Tally};
+use client_cases::Start;
 use kube_meta::Memory;
 use play::{Cast, Stage, play};
 use rev_front::{Blank, blank};
 use rev_log::Revision;
 use shared_client::Cacher;
-use start::Start;
 use std::alloc::Global;
 use std::marker::Brand;
 use std::rt::Runtime;

@@ -1,11 +1,10 @@
 //! A script as it is played: its store and caches, its clients, and its rows.
 
 use crate::Host;
-use crate::seat::Seat;
-use crate::steps::answer;
-use crate::storm::{Storm, weather};
+use crate::storm::weather;
 use case_rows::{Lines, NO_ROW, Row, Tally, meets, number, split};
 use client_api::Client;
+use client_cases::{Seat, Storm, answer};
 use kube_meta::Memory;
 use shared_client::{Cacher, SharedClient};
 use std::alloc::Global;

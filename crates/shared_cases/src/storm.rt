@@ -1,80 +1,13 @@
 //! Storms: writers, watchers and operations at once, over the clients of one log, each in a thread of its own.
 
 use crate::Host;
-use crate::asks::list_ask;
-use crate::pods::{some_selection, some_write};
-use crate::seat::Seat;
-use crate::told::Told;
-use case_rows::Draws;
-use client_api::Client;
+use client_cases::{Part, Progress, Seat, Storm, WATCHERS, WRITERS, newest_of, outcome, play_part};
 use kube_meta::Memory;
-use select_all::Meaning;
 use shared_client::Cacher;
 use std::alloc::Global;
 use std::sync::Wait;
-use std::sync::atomic::AtomicU64;
-use std::sync::atomic::Ordering::SeqCst;
 use std::thread::{self, Threads};
-use std::time::Duration;
 use up_api::LogFacts;
-use up_store::Operate;
-
-/// How many write, and how many watch. One more makes operations.
-const WRITERS: usize = 8;
-
-const WATCHERS: usize = 64;
-
-/// How many operations are made.
-const OPERATIONS: u64 = 40;
-
-/// How many turns a watcher takes at most, and how often a part looks whether it may go on.
-const TURNS: u64 = 40_000;
-
-/// A storm: the seed of its draws, and how many writes each writer asks for.
-#[derive(Clone, Copy)]
-pub struct Storm {
-    pub seed: u64,
-    pub writes: u64,
-}
-
-/// How far a storm is: how many watchers have begun, and how many writers and operators aren't done.
-#[derive(Drop)]
-struct Progress {
-    begun: AtomicU64,
-    busy: AtomicU64,
-}
-
-/// What a part of a storm came to: how much was wrong, how much it wrote and was told, and how many states that it was
-/// told it compared with lists.
-#[derive(Clone, Copy, Drop)]
-struct Part {
-    wrongs: u64,
-    accepted: u64,
-    lines: u64,
-    compared: u64,
-}
-
-impl Part {
-    // Nothing was wrong, and nothing was done.
-    fn new() -> Part {
-        Part {
-            wrongs: 0,
-            accepted: 0,
-            lines: 0,
-            compared: 0,
-        }
-    }
-
-    // Both parts together.
-    fn with(self, other: Part) -> Part {
-        Part {
-            wrongs: self.wrongs.saturating_add(other.wrongs),
-            accepted: self.accepted.saturating_add(other.accepted),
-            lines: self.lines.saturating_add(other.lines),
-            compared: self.compared.saturating_add(other.compared),
-        }
-    }
-}
 
 /// What a storm leaves, in words: `right`, or what isn't.
 pub fn weather<N: LogFacts + Send + Sync, R: Host>(
@@ -86,17 +19,7 @@ pub fn weather<N: LogFacts + Send + Sync, R: Host>(
     let first = newest(alloc, cacher)?;
     let sum = rage(&rt, alloc, cacher, storm)?;
     let last = newest(alloc, cacher)?;
-    if sum.wrongs > 0 {
-        return Ok(format!(in alloc; "{} things went wrong", sum.wrongs)?);
-    }
-    if last != first.saturating_add(sum.accepted) {
-        let accepted = sum.accepted;
-        return Ok(format!(in alloc; "{accepted} writes accepted, from {first} to {last}")?);
-    }
-    if sum.accepted == 0 || sum.lines == 0 || sum.compared < WATCHERS as u64 {
-        return Ok(format!(in alloc; "little was done")?);
-    }
-    Ok(format!(in alloc; "right")?)
+    outcome(alloc, first, last, sum)
 }
 
 // The revision that the log has reached.
@@ -108,12 +31,6 @@ fn newest<N: LogFacts, R: Wait + std::time::Clock + Copy>(
     newest_of(alloc, &mut seat)
 }
 
-fn newest_of<C: Client>(alloc: Global, seat: &mut Seat<C>) -> Result<u64, Memory> {
-    let ask = list_ask(alloc, some_selection(alloc, 0)?, Meaning::MostRecent)?;
-    let listed = seat.list(&ask).map_err(|_| Memory)?;
-    Ok(listed.rev)
-}
-
 // All parts of a storm, side by side.
 fn rage<N: LogFacts + Send + Sync, R: Threads + Wait + std::time::Clock + Copy + Send + Sync>(
     rt: &R,
@@ -121,10 +38,7 @@ fn rage<N: LogFacts + Send + Sync, R: Threads + Wait + std::time::Clock + Copy +
     cacher: &Cacher<N, R>,
     storm: Storm,
 ) -> Result<Part, Memory> {
-    let progress = Progress {
-        begun: AtomicU64::new(0),
-        busy: AtomicU64::new(WRITERS as u64 + 1),
-    };
+    let progress = Progress::new();
     let part = |number: usize| play::<N, R>(*rt, alloc, cacher, &progress, storm, number);
     let parts = thread::map_indices(rt, alloc, WRITERS + 1 + WATCHERS, &part)?;
     let mut sum = Part::new();
@@ -144,123 +58,5 @@ fn play<N: LogFacts, R: Wait + std::time::Clock + Copy>(
     number: usize,
 ) -> Result<Part, Memory> {
     let mut seat = Seat::new(cacher.client()?);
-    play_by(rt, alloc, &mut seat, progress, storm, number)
-}
-
-fn play_by<C: Client, R: Wait + std::time::Clock + Copy>(
-    rt: R,
-    alloc: Global,
-    seat: &mut Seat<C>,
-    progress: &Progress,
-    storm: Storm,
-    number: usize,
-) -> Result<Part, Memory> {
-    let mut draws = Draws::from_seed(storm.seed.wrapping_add(number as u64));
-    if number > WRITERS {
-        return watch(rt, alloc, seat, &mut draws, (progress, number));
-    }
-    wait_until(rt, &progress.begun, WATCHERS as u64);
-    let part = if number == WRITERS {
-        Ok(operate(rt, seat, &mut draws, storm.writes))
-    } else {
-        write(rt, alloc, seat, &mut draws, storm.writes)
-    };
-    progress.busy.fetch_sub(1, SeqCst);
-    part
-}
-
-// Asks for writes, and counts those that are accepted. None is older than the one before.
-fn write<C: Client, R: Wait + std::time::Clock + Copy>(
-    rt: R,
-    alloc: Global,
-    seat: &mut Seat<C>,
-    draws: &mut Draws,
-    writes: u64,
-) -> Result<Part, Memory> {
-    let mut part = Part::new();
-    let mut last = 0u64;
-    for _ in 0..writes {
-        if let Ok(written) = seat.write(&some_write(alloc, draws)?) {
-            part.accepted = part.accepted.saturating_add(1);
-            if written.rev <= last {
-                part.wrongs = part.wrongs.saturating_add(1);
-            }
-            last = written.rev;
-        }
-        doze(rt, draws.below(3));
-    }
-    Ok(part)
-}
-
-// Cuts, compacts and restarts. A compaction that is refused changes nothing.
-fn operate<C: Client, R: Wait + std::time::Clock + Copy>(
-    rt: R,
-    seat: &mut Seat<C>,
-    draws: &mut Draws,
-    writes: u64,
-) -> Part {
-    for _ in 0..OPERATIONS {
-        doze(rt, draws.below(20));
-        let ask = match draws.below(4) {
-            0 => Operate::Cut,
-            1 => Operate::Restart,
-            _ => Operate::Compact {
-                at: draws.below(writes.max(1)).saturating_mul(WRITERS as u64),
-            },
-        };
-        let _ = seat.operate(ask);
-    }
-    Part::new()
-}
-
-// Watches until nobody is busy and all is told, and compares with lists by chance. Each ninth watcher doesn't read
-// until then.
-fn watch<C: Client, R: Wait + std::time::Clock + Copy>(
-    rt: R,
-    alloc: Global,
-    seat: &mut Seat<C>,
-    draws: &mut Draws,
-    place: (&Progress, usize),
-) -> Result<Part, Memory> {
-    let (progress, number) = place;
-    let mut told = Told::new(alloc, some_selection(alloc, number)?);
-    told.begin(seat)?;
-    progress.begun.fetch_add(1, SeqCst);
-    if number % 9 == 0 {
-        wait_until(rt, &progress.busy, 0);
-    }
-    let mut part = Part::new();
-    for _ in 0..TURNS {
-        let is_last = progress.busy.load(SeqCst) == 0;
-        if told.turn(seat)? {
-            if is_last {
-                break;
-            }
-            if draws.below(8) == 0 && told.compare(seat)? {
-                part.compared = part.compared.saturating_add(1);
-            }
-            doze(rt, 1);
-        }
-    }
-    let is_listed = told.compare(seat)?;
-    told.expect(is_listed);
-    part.compared = part.compared.saturating_add(1);
-    part.wrongs = told.wrongs;
-    part.lines = told.lines;
-    Ok(part)
-}
-
-// Waits until a count is this one.
-fn wait_until<R: Wait + std::time::Clock + Copy>(rt: R, count: &AtomicU64, wanted: u64) {
-    for _ in 0..TURNS {
-        if count.load(SeqCst) == wanted {
-            return;
-        }
-        doze(rt, 1);
-    }
-}
-
-// Sleeps for so many milliseconds.
-fn doze<R: Wait + std::time::Clock + Copy>(rt: R, ms: u64) {
-    thread::sleep(&rt, Duration::from_millis(ms));
+    play_part(rt, alloc, &mut seat, progress, storm, number)
 }

@@ -1,0 +1,145 @@
+//! A store, the cache of its pods, and watches of the cache.
+
+ghost use Rattle.std.specs.Prelude.{◌≡◌, ◌≤◌, [], false};
+ghost use Rattle.kube_meta.specs.declared.resources.Resource.TheVariants.{Pods};
+
+use crate::hub::start::Start;
+use cache_hub::{CatchNo, Caught, Hub};
+use kube_meta::{Memory, Resource};
+use reflect_core::{Pumped, Reflector};
+use rev_front::Blank;
+use rev_log::Revision;
+use select_all::Selection;
+use std::alloc::Global;
+use std::marker::Model;
+use up_api::{LogFacts, Pass, Upstream};
+use up_store::{OpNo, ScriptedStore, Store, Transaction, TxWriteNo, WriteAsk, WriteNo, Written};
+use watch_lane::LaneOut;
+
+/// A watch: the number of its lane, the lane, its selection, and up to where it was told everything.
+#[derive(Drop)]
+pub struct Watch<N: LogFacts> {
+    pub id: u64,
+    pub lane: LaneOut<N>,
+    pub selection: Selection,
+    pub position: u64,
+    ghost of: { selection.resource ≡ Pods },
+}
+
+/// A store, a pass of it, the cache of its pods, and what keeps that up to date.
+#[derive(Drop)]
+pub struct Scene<N: LogFacts> {
+    pub store: ScriptedStore<N>,
+    pub told: Pass<N>,
+    pub hub: Hub<N>,
+    pub reflector: Reflector,
+}
+
+/// A scene, and the watches of its cache in the order in which they began.
+#[derive(Drop)]
+pub struct Stage<N: LogFacts> {
+    pub scene: Scene<N>,
+    pub watches: Vec<Watch<N>>,
+}
+
+impl<N: LogFacts> Model for Scene<N> {
+    ghost use Rattle.cache_hub.specs.Hubs.{HubData};
+
+    ghost Value = { HubData };
+
+    ghost view = { λ s. s.hub };
+
+    ghost use Rattle.script_cases.specs.Scenes.{IsScene};
+
+    ghost invariant = { λ s. IsScene N.base s.hub s.told s.reflector };
+}
+
+impl<N: LogFacts> Scene<N> {
+    /// A new store and a cache at its first revision.
+    pub fn new(alloc: Global, made: Blank<Revision>, start: Start) -> Result<Scene<N>, Memory>
+        requires name { made ≡ N.log }
+        requires base { N.base ≡ [] }
+        requires own { N.mirror ≡ false }
+    {
+        let settings = start.settings();
+        let Start {
+            cuts,
+            compactions,
+            ..
+        } = start;
+        let mut store = Store::new(alloc, made, settings.history)?;
+        let mut told = store.pass()?;
+        let history = store.history(Resource::Pods, &mut told)?;
+        let hub = Hub::new(alloc, Resource::Pods, history, &settings, &mut told)?;
+        let mut scripted = ScriptedStore::new(store, cuts);
+        scripted.also_compact(compactions);
+        Ok(Scene {
+            store: scripted,
+            told,
+            hub,
+            reflector: Reflector::with_batch(Resource::Pods, settings.batch),
+        })
+    }
+
+    /// A write.
+    pub fn write(&mut self, ask: &WriteAsk) -> Result<Written, WriteNo> {
+        self.store.store().write(ask, &mut self.told)
+    }
+
+    /// A transaction.
+    pub fn transact(&mut self, transaction: &Transaction) -> Result<Vec<Written>, TxWriteNo> {
+        self.store.store().transact(transaction, &mut self.told)
+    }
+
+    /// Cuts all feeds.
+    pub fn cut(&mut self) -> Result<u64, OpNo> {
+        self.store.store().drop_feeds(&mut self.told)
+    }
+
+    /// Compacts the log.
+    pub fn compact(&mut self, at: u64) -> Result<u64, OpNo> {
+        self.store.store().compact(at, &mut self.told)
+    }
+
+    /// The cache follows at least to a revision, or to the last one where that is below it.
+    pub fn pump(&mut self, until: u64) -> Result<Pumped, Memory> {
+        let until = until.min(self.told.shown());
+        self.reflector
+            .pump(&mut self.hub, &mut self.store, &mut self.told, until)
+    }
+
+    /// The cache is told the time.
+    pub fn tick(&mut self, ms: u64) {
+        self.hub.tick(ms);
+    }
+
+    /// A lane of the cache, and its number.
+    pub fn open(
+        &mut self,
+        selection: &Selection,
+        position: u64,
+    ) -> Result<(u64, LaneOut<N>), Memory>
+        requires { selection.now.resource ≡ Pods }
+    {
+        self.hub.open_lane(selection, position)
+    }
+
+    /// What a watch is told that catches up.
+    pub fn catch_up(
+        &mut self,
+        id: u64,
+        selection: &Selection,
+        position: u64,
+        many: usize,
+    ) -> Result<Caught, CatchNo>
+        requires of { selection.now.resource ≡ Pods }
+        requires some { 1 ≤ many }
+    {
+        self.hub.catch_up(Some(id), selection, position, many)
+    }
+
+    /// Closes a lane.
+    pub fn close(&mut self, id: u64) {
+        self.hub.close_lane(id);
+    }
+}

@@ -1,0 +1,161 @@
+//! Scripts of steps on a store, on doors to one, or on a mirror's store. A script begins with a line that says what is
+//! opened. How they are written stands in `data/store/README.txt`.
+
+ghost use Rattle.std.specs.Prelude.{◌≡◌, ◌≤◌, [], ◌∷◌, false, true, IfOk};
+
+pub mod calls;
+mod opening;
+mod served;
+pub mod writes;
+
+use crate::store::calls::{Client, Doors, Mirror, twenty};
+use crate::store::opening::{Kind, Script};
+use crate::store::served::Served;
+use crate::store::writes::row;
+use case_rows::{Lines, Tally, run_rows};
+use kube_meta::{Memory, Row};
+use rev_front::{Blank, blank};
+use rev_log::Revision;
+use std::alloc::Global;
+use std::io;
+use std::marker::Brand;
+use std::rt::Runtime;
+use std::sync::Wait;
+use std::thread::{self, Threads};
+use up_api::LogFacts;
+use up_store::{ScriptedStore, Store, StoreDoor};
+
+/// Opens what the first line of a script says, and makes its steps. One that opens nothing is a mismatch.
+pub fn run_store<R: Runtime + Wait + Threads + Sync>(
+    rt: &R,
+    alloc: Global,
+    head: &str,
+    rows: Lines<'_>,
+    tally: &mut Tally,
+) -> io::Result<()> {
+    let Some(script) = Script::read(alloc, head)? else {
+        tally.count(false);
+        return println!(rt; "{}:{}: nothing is opened so", rows.file, rows.first);
+    };
+    let first = script.first();
+    let made = blank(alloc, first)?;
+    match script.kind {
+        Kind::Store => store::<Brand, R>(rt, alloc, script, made, rows, tally),
+        Kind::Door => doors::<Brand, R>(rt, alloc, script, made, rows, tally),
+        Kind::Threads => threads::<Brand, R>(rt, alloc, script, made, rows, tally),
+        Kind::Mirror => {
+            let base = row(alloc, "base", first)?;
+            mirror::<Brand, R>(rt, alloc, script, made, base, rows, tally)
+        }
+    }
+}
+
+/// The steps on a store that cuts and compacts by a script of its own.
+fn store<N: LogFacts, R: Runtime>(
+    rt: &R,
+    alloc: Global,
+    script: Script,
+    made: Blank<Revision>,
+    rows: Lines<'_>,
+    tally: &mut Tally,
+) -> io::Result<()>
+    requires name { made ≡ N.log }
+    requires base { N.base ≡ [] }
+    requires own { N.mirror ≡ false }
+{
+    let store: Store<N> = Store::new(alloc, made, script.history())?;
+    let mut scripted = ScriptedStore::new(store, script.cuts);
+    scripted.also_compact(script.compactions);
+    run_rows(rt, alloc, rows, &mut client_of(scripted)?, tally)
+}
+
+/// The steps on two doors to one store, by turns.
+fn doors<N: LogFacts, R: Runtime + Wait>(
+    rt: &R,
+    alloc: Global,
+    script: Script,
+    made: Blank<Revision>,
+    rows: Lines<'_>,
+    tally: &mut Tally,
+) -> io::Result<()>
+    requires name { made ≡ N.log }
+    requires base { N.base ≡ [] }
+    requires own { N.mirror ≡ false }
+{
+    let store: Store<N> = Store::new(alloc, made, script.history())?;
+    let door = StoreDoor::new(rt, store)?;
+    let second = client_of(door.again()?)?;
+    let first = client_of(door)?;
+    let mut doors = Doors {
+        first,
+        second,
+        is_second: true,
+    };
+    run_rows(rt, alloc, rows, &mut doors, tally)
+}
+
+/// Two threads create pods through doors of their own, and then the steps are made.
+fn threads<N: LogFacts + Send + Sync, R: Runtime + Wait + Threads + Sync>(
+    rt: &R,
+    alloc: Global,
+    script: Script,
+    made: Blank<Revision>,
+    rows: Lines<'_>,
+    tally: &mut Tally,
+) -> io::Result<()>
+    requires name { made ≡ N.log }
+    requires base { N.base ≡ [] }
+    requires own { N.mirror ≡ false }
+{
+    let store: Store<N> = Store::new(alloc, made, script.history())?;
+    let door = StoreDoor::new(rt, store)?;
+    let first = client_of(door.again()?)?;
+    let second = client_of(door.again()?)?;
+    let (one, other) = thread::join(
+        rt,
+        move || twenty(alloc, first, "a"),
+        move || twenty(alloc, second, "b"),
+    );
+    one?;
+    other?;
+    run_rows(rt, alloc, rows, &mut client_of(door)?, tally)
+}
+
+/// The steps on a mirror's store, which begins with one pod.
+fn mirror<N: LogFacts, R: Runtime>(
+    rt: &R,
+    alloc: Global,
+    script: Script,
+    made: Blank<Revision>,
+    base: Row,
+    rows: Lines<'_>,
+    tally: &mut Tally,
+) -> io::Result<()>
+    requires name { made ≡ N.log }
+    requires base { N.base ≡ base ∷ [] }
+    requires old { base.rev ≤ made.first }
+    requires mirror { N.mirror ≡ true }
+{
+    let held = alone(alloc, base)?;
+    let store: Store<N> = Store::from_base(alloc, made, held, script.history())?;
+    let client = client_of(ScriptedStore::new(store, script.cuts))?;
+    run_rows(rt, alloc, rows, &mut Mirror { client }, tally)
+}
+
+/// The list of this row.
+fn alone(alloc: Global, row: Row) -> Result<Vec<Row>, Memory>
+    ensures { IfOk result (λ rows. rows.items ≡ row ∷ []) }
+{
+    let mut rows = Vec::new(alloc);
+    rows.push(row)?;
+    Ok(rows)
+}
+
+fn client_of<N: LogFacts, U: Served<N> + Drop>(mut served: U) -> Result<Client<N, U>, Memory> {
+    let told = served.pass()?;
+    Ok(Client {
+        served,
+        told,
+        feed: None,
+    })
+}

@@ -1,0 +1,86 @@
+//! Replies, streams and chunks as bytes.
+
+ghost use Rattle.std.specs.Prelude.{◌≤◌, ◌<◌, ◌^◌};
+
+use crate::answers::{NO_STEP, visible, words};
+use crate::faults::{Writing, fails};
+use case_rows::{Steps, number, split};
+use edge_io::{MemSink, Sink};
+use http_send::{
+    SendNo, begin_chunk, begin_reply, begin_stream, end_chunk, end_stream, part, send_chunk,
+};
+use kube_meta::Memory;
+use std::alloc::Global;
+
+/// Replies need nothing that stands from step to step.
+#[derive(Clone, Copy)]
+pub struct Replies;
+
+impl Steps for Replies {
+    fn answer(&mut self, alloc: Global, step: &str) -> Result<String, Memory> {
+        let (verb, rest) = split(step);
+        let mut sink = MemSink::new(usize::MAX, Vec::new(alloc));
+        let sent = match verb {
+            "reply" => reply(&mut sink, rest),
+            "stream" => stream(&mut sink),
+            "length" => begin_chunk(&mut sink, length_of(rest)),
+            "line" => line(&mut sink, rest.as_bytes()),
+            "fails" => return fails(alloc, &WholeStream, 16),
+            _ => return words(alloc, NO_STEP),
+        };
+        match sent {
+            Ok(()) => visible(alloc, sink.bytes()),
+            Err(no) => Ok(format!(in alloc; "{no:?}")?),
+        }
+    }
+}
+
+/// A length from 1 to 2^63 - 1.
+pub fn length_of(word: &str) -> u64
+    ensures some { 1 ≤ result }
+    ensures told { result < 2 ^ 63 }
+{
+    number(word).clamp(1, u64::MAX / 2)
+}
+
+/// The head of a reply: `CODE LENGTH`, and behind them `again`, `close`, and `body` where a body follows.
+fn reply(sink: &mut MemSink, text: &str) -> Result<(), SendNo> {
+    let (code, rest) = split(text);
+    let (length, flags) = split(rest);
+    let code = number(code).min(999) as u16;
+    let (again, close) = (flags.contains("again"), flags.contains("close"));
+    begin_reply(sink, code, again, close, number(length))?;
+    if flags.contains("body") {
+        part(sink, b"{}\n")?;
+    }
+    Ok(())
+}
+
+/// The head and the end of a stream.
+fn stream(sink: &mut MemSink) -> Result<(), SendNo> {
+    begin_stream(sink)?;
+    end_stream(sink)
+}
+
+/// The chunk of a line, whose line feed is added.
+fn line(sink: &mut MemSink, text: &[u8]) -> Result<(), SendNo> {
+    begin_chunk(sink, (text.len() as u64 % 1000).saturating_add(1))?;
+    part(sink, text)?;
+    part(sink, b"\n")?;
+    end_chunk(sink)
+}
+
+/// The head of a stream, a chunk and the end.
+struct WholeStream;
+
+impl Writing for WholeStream {
+    fn write<K: Sink>(&self, sink: &mut K) -> bool {
+        send_all(sink).is_ok()
+    }
+}
+
+fn send_all<K: Sink>(sink: &mut K) -> Result<(), SendNo> {
+    begin_stream(sink)?;
+    send_chunk(sink, &[b"{}", b"\n"])?;
+    end_stream(sink)
+}
