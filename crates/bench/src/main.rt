@@ -5,20 +5,12 @@
 //! of some runs that take turns.
 #![tactic(auto)]
 
-mod figures;
-mod front;
-mod http;
-mod hub;
-mod json;
-mod select;
-mod store;
-
 use std::alloc::Global;
 use std::rt::Runtime;
 use std::{env, io};
 
 /// What can be timed.
-const SUBJECTS: [&str; 6] = ["front", "http", "hub", "json", "select", "store"];
+const SUBJECTS: [&str; 7] = ["front", "http", "hub", "json", "select", "store", "session"];
 
 fn main(rt: HostRuntime) -> io::Result<()> {
     let mut is_timed = false;
@@ -37,12 +29,8 @@ fn main(rt: HostRuntime) -> io::Result<()> {
 /// Times a subject, or has it check itself.
 fn run<R: Runtime>(rt: &R, alloc: Global, subject: &str, timed: bool) -> io::Result<()> {
     match subject {
-        "front" => front::run(rt, alloc, timed),
-        "http" => http::run(rt, alloc, timed),
-        "hub" => hub::run(rt, alloc, timed),
-        "json" => json::run(rt, alloc, timed),
-        "select" => select::run(rt, alloc, timed),
-        "store" => store::run(rt, alloc, timed),
-        _ => println!(rt; "bench: nothing is timed by the name {subject}"),
+        "hub" => bench_hub::run(rt, alloc, timed),
+        "session" => bench_session::run(rt, alloc, timed),
+        _ => bench_parts::run(rt, alloc, subject, timed),
     }
 }

@@ -1,6 +1,6 @@
 use Rattle.std.proofs.Common.{◌≡◌, ◌++◌}
 use Rattle.obj_tree.specs.Pages.{values_of}
-use Rattle.bench.proofs.store.rising.collected.Given as goal
+use Rattle.bench_parts.proofs.store.rising.collected.Given as goal
 
 -- what was collected, and what is still lent, are the rows
 abbrev pub invariant-loop-shown : goal.invariant-loop-shown

@@ -1,4 +1,4 @@
-use Rattle.bench.proofs.front.run.Given as goal
+use Rattle.bench_parts.proofs.front.run.Given as goal
 
 -- the log that was just made
 abbrev pub ghosts-run_on : goal.ghosts-run_on

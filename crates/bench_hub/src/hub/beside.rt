@@ -3,10 +3,10 @@
 ghost use Rattle.std.specs.Prelude.{◌≡◌};
 ghost use Rattle.kube_meta.specs.declared.resources.Resource.TheVariants.{Pods};
 
-use crate::figures::{Laps, NONE, Pair, ZERO, print_pair};
 use crate::hub::plain::Plain;
 use crate::hub::scene::{Scene, WINDOW};
 use crate::hub::things::{change, config_map, node};
+use bench_parts::{Laps, NONE, Pair, ZERO, print_pair};
 use kube_meta::{Memory, Resource, Row};
 use select_all::Selection;
 use std::alloc::Global;

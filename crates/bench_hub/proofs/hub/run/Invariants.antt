@@ -1,5 +1,5 @@
 use Rattle.std.proofs.Common.{[], false}
-use Rattle.bench.proofs.hub.run.Given as goal
+use Rattle.bench_hub.proofs.hub.run.Given as goal
 
 -- the log that was just made
 abbrev pub ghosts-run_on-N-LogName : goal.ghosts-run_on-N-LogName

@@ -7,9 +7,9 @@
 //! requests. The ratio is the session's time over the time of both together. What it has above 1 is what the session
 //! itself costs: replies and lines as texts, their heads, and the order of it all.
 //!
-//! With the word `time` it asks for 10,000 objects, and prints for each kind of request how many a session answers in a
+//! Timed, it asks for 10,000 objects, and prints for each kind of request how many a session answers in a
 //! second, the nanoseconds of one, of the parts, and the ratio, each time as the best of some runs that take turns.
-//! Without words it asks for 100 objects each way, and prints what came out.
+//! Else it asks for 100 objects each way, and prints what came out.
 #![tactic(auto)]
 
 mod kinds;
@@ -22,16 +22,16 @@ mod ways;
 use kinds::Size;
 use parts::Part;
 use std::alloc::Global;
+use std::io;
 use std::rt::Runtime;
-use std::{env, io};
 use ways::{Passes, Way, over_new_client};
 
-fn main(rt: HostRuntime) -> io::Result<()> {
-    let timed = env::args(&rt)?.count() > 1;
+/// Times sessions, or has them check themselves.
+pub fn run<R: Runtime>(rt: &R, alloc: Global, timed: bool) -> io::Result<()> {
     if timed {
-        timing::report(&rt, rt.alloc())
+        timing::report(rt, alloc)
     } else {
-        check(&rt, rt.alloc())
+        check(rt, alloc)
     }
 }
 

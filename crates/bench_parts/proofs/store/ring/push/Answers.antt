@@ -2,7 +2,7 @@ use Rattle.std.proofs.Common.{◌≡◌, [], ◌∷◌, ◌++◌, List, sym, ap,
 use Rattle.event_ring.specs.Events.{EventRows}
 use Rattle.event_ring.specs.Rings.{IsNext}
 use Rattle.event_ring.proofs.PlaceLemmas.{next_one}
-use Rattle.bench.proofs.store.ring.push.Goals as goal
+use Rattle.bench_parts.proofs.store.ring.push.Goals as goal
 
 pub push_revision-dropped-requires : goal.push_revision-dropped-requires
 push_revision-dropped-requires c =

@@ -3,8 +3,8 @@
 ghost use Rattle.std.specs.Prelude.{◌≡◌, [], false};
 ghost use Rattle.kube_meta.specs.declared.resources.Resource.TheVariants.{Pods};
 
-use crate::figures::Laps;
 use crate::hub::things::creation;
+use bench_parts::Laps;
 use cache_hub::Hub;
 use kube_meta::{Memory, Resource, Row};
 use rev_front::Blank;
