@@ -316,7 +316,7 @@ def log_line(changes, at):
 
 
 def record_word(word):
-    """What a word of crates/check_cases/data/records.txt stands for."""
+    """What a word of crates/part_cases/data/records/records.txt stands for."""
     name, _, rest = word.partition(":")
     if name == "H":
         members = {**MEMBERS, **dict(it.split("=", 1) for it in rest.split(";") if it)}
@@ -335,14 +335,14 @@ def record_word(word):
 
 
 def rows_of(name):
-    for line in open(f"{ROOT}/crates/check_cases/data/{name}", encoding="utf-8"):
+    for line in open(f"{ROOT}/crates/part_cases/data/records/{name}", encoding="utf-8"):
         row = line.rstrip("\n").split("  #")[0]
         if " => " in row and not row.startswith("#"):
             yield row.rsplit(" => ", 1)
 
 
 def stored_records():
-    """The records of crates/check_cases, each with what is said of it."""
+    """The records of crates/part_cases, each with what is said of it."""
     found = []
     for step, answer in rows_of("records.txt"):
         words = step.split(" ")
@@ -366,7 +366,7 @@ def shown(resource, key, label, at):
 
 
 def body_record(step):
-    """The record that a row of crates/check_cases/data/bodies.txt stands for."""
+    """The record that a row of crates/part_cases/data/records/bodies.txt stands for."""
     numbers, log, namespace, query, body = step.split("|")
     first, floor, window = numbers.split()
     lines = [record_word("H:" + f'first={first};floor={floor};window={window};namespace="{namespace.strip()}"').replace(

@@ -13,6 +13,8 @@ from replies import Amiss, same
 
 WAIT = 20
 CONNECTIONS = 100
+# how many bytes a server's system takes at least of a client whose watch goes on: behind more of them only a reset is seen
+TAKEN_UNREAD = 65_536
 # how a client goes on once it sent what it sends
 WAYS = ["whole"] * 4 + ["slow"] * 2 + ["stays", "stops", "resets", "reads nothing"]
 
@@ -101,9 +103,13 @@ class Visit:
             self.one.shutdown(socket.SHUT_WR)
         except OSError:
             self.is_reset = True
-        if not self.read():
-            raise Amiss(f"a connection isn't ended within {WAIT} s")
+        is_over = self.read()
         output = replies.read(self.out, may_break=True)
+        if not is_over:
+            if output.lines is not None and len(data) > TAKEN_UNREAD:
+                self.one.setsockopt(socket.SOL_SOCKET, socket.SO_LINGER, struct.pack("ii", 1, 0))
+                return output
+            raise Amiss(f"a connection isn't ended within {WAIT} s")
         if self.is_reset:
             return output
         if output.lines is None:
