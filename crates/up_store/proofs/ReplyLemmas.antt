@@ -45,7 +45,7 @@ compaction-replied at w after p q (Err (UsedUp other)) first covered knows is = 
 compaction-replied at w after p q (Err Memory) first covered knows is = tt
 
 -- the log of a pass that has seen these revisions of a log with this first one
-log-is : (base : List RowData) (q : Pass RevisionData) (first : ℕ) (revisions : List RevisionData) →
+pub log-is : (base : List RowData) (q : Pass RevisionData) (first : ℕ) (revisions : List RevisionData) →
     q.first ≡ first → q.seen ≡ revisions → log_of base q ≡ record { first = first; base = base; revisions = revisions }
 log-is base q first revisions same seen =
     ap (λ (z : ℕ × List RevisionData). record { first = z.0; base = base; revisions = z.1 }) {x = (q.first, q.seen)} {y = (first, revisions)} (λ i. (same i, seen i))

@@ -1,5 +1,5 @@
 -- Which write of a transaction is refused first, and what an accepted one is answered and leaves.
-use Rattle.std.proofs.Common.{◌≡◌, ℕ, zero, suc, ◌+◌, ◌^◌, ◌<◌, ◌≤◌, ◌⊎◌, inl, inr, Bool, true, false, ◌&&◌, ◌==◌, cond, List, [], ◌∷◌, ◌++◌, length, map, take, drop, get_or, Option, Some, None, option_map, Result, Ok, Err, All, refl, sym, ap, ◌∙◌, subst, arith, eq-eqb, eqb-true}
+use Rattle.std.proofs.Common.{◌≡◌, ℕ, zero, suc, ◌+◌, ◌^◌, ◌<◌, ◌≤◌, ◌⊎◌, inl, inr, Bool, true, false, ◌==◌, cond, List, [], ◌∷◌, ◌++◌, length, map, take, drop, get_or, Option, Some, None, option_map, Result, Ok, Err, All, refl, sym, ap, ◌∙◌, subst, arith, eq-eqb, eqb-true}
 use Rattle.std.specs.List.{list_any}
 use Rattle.std.specs.Option.{option_or}
 use Rattle.std.specs.List.Sorted.{IsPermutation}
@@ -8,7 +8,7 @@ use Rattle.std.proofs.lemmas.List.{take_more, drop_more, get_or-map, get_or-take
 use Rattle.std.proofs.lemmas.List.Elements.{All-map}
 use Rattle.std.proofs.lemmas.List.Folds.{list_any-from_Any}
 use Rattle.kube_meta.specs.Rows.{RowData}
-use Rattle.rev_front.specs.Passes.{Pass, Whole, Covers, revision}
+use Rattle.rev_front.specs.Passes.{Whole, revision}
 use Rattle.rev_log.specs.Changes.{ChangeData, RevisionData, AreOfDistinctObjects, same_object, IsRevision}
 use Rattle.rev_log.specs.Logs.{Log, end_of, Fits}
 use Rattle.kube_meta.specs.declared.resources.Resource.{Resource}
@@ -23,7 +23,7 @@ use Rattle.up_store.specs.declared.writes.WriteNo.{WriteNo}
 use Rattle.up_store.specs.declared.writes.Written.{Written}
 use Rattle.up_store.specs.Stores.{IsStore, log_in, accepted}
 use Rattle.up_store.specs.Transacting.{first_fault, tx_used_up, tx_refusal_of, IsRevisionOf, AreWritten, IsTransactionAnswer, IsTxPrepared}
-use Rattle.up_store.specs.Transactions.{target_of, same_target, stands_before, AreDistinct, AreTransaction}
+use Rattle.up_store.specs.Transactions.{target_of, same_target, AreTransaction}
 use Rattle.up_store.specs.Writes.{fault_at, fault_of, row_before, change_of, IsWritten}
 use Rattle.up_store.proofs.Repeats.{stands_before_among, in_targets}
 use Rattle.up_store.proofs.WriteLemmas.{fault-there, change-number}

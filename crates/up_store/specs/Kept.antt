@@ -1,5 +1,5 @@
 -- What a store keeps of its log: the rows of each resource at its compaction floor and at its end, and the revisions after the floor.
-use Rattle.std.specs.Prelude.{◌≡◌, ℕ, ◌+◌, ◌^◌, ◌<◌, ◌≤◌, List, length, fold, Option}
+use Rattle.std.specs.Prelude.{◌≡◌, ℕ, ◌+◌, ◌^◌, ◌≤◌, List, length, fold, Option}
 use Rattle.std.specs.BTreeMap.{BTreeMap}
 use Rattle.std.specs.VecDeque.{deque_len, deque_capacity}
 use Rattle.kube_meta.specs.Rows.{RowData}
@@ -61,6 +61,6 @@ pub record AreBounded (kept : Kept) : Type 0 where
   pub behind : kept.last_at ≤ kept.from + length kept.revisions.items
   pub bounded : kept.from + length kept.revisions.items ≤ 2 ^ 62
 
--- there is room for one more revision
-abbrev pub HasRoom : Kept → Type 0
-HasRoom kept = deque_len kept.revisions < deque_capacity kept.revisions
+-- there is room for this many more revisions
+abbrev pub HasRoom : ℕ → Kept → Type 0
+HasRoom count kept = deque_len kept.revisions + count ≤ deque_capacity kept.revisions

@@ -1,8 +1,8 @@
 //! Commits, and the floor that follows them.
 
-ghost use Rattle.std.specs.Prelude.{◌≡◌, ◌+◌, ◌^◌, ◌<◌, ◌≤◌, List, OnOk};
+ghost use Rattle.std.specs.Prelude.{◌≡◌, ℕ, ◌+◌, ◌^◌, ◌<◌, ◌≤◌, List, [], ◌∷◌, ◌++◌, length, OnOk};
 ghost use Rattle.kube_meta.specs.Rows.{RowData};
-ghost use Rattle.rev_front.specs.Passes.{revision as reached};
+ghost use Rattle.rev_front.specs.Passes.{FitFrom, revision as reached};
 ghost use Rattle.rev_log.specs.Logs.{Fits};
 ghost use Rattle.up_store.specs.Kept.{Keeps, HasRoom};
 ghost use Rattle.up_store.specs.Stores.{accepted, log_in, IsCutAnswer, IsCompactionAnswer};
@@ -89,14 +89,61 @@ pub fn commit<N: LogFacts>(
     requires last { reached pen.old < 2 ^ 62 }
     requires fits { Fits (reached pen.old + 1) revision }
     requires history { 1 ≤ history }
-    requires room { HasRoom kept.old }
+    requires room { HasRoom 1 kept.old }
     requires keeps { (base : List RowData) × Keeps (log_in base pen.old) pen.old.floor kept.old }
     ensures log { pen.new ≡ accepted history pen.old revision }
     ensures keeps { (base : List RowData) → Keeps (log_in base pen.old) pen.old.floor kept.old → Keeps (log_in base pen.new) pen.new.floor kept.new }
     ensures done { OnOk result (kept.new.from ≡ pen.new.floor) }
 {
-    let end = pen.commit(&revision);
-    kept.push(revision);
+    let end = put(pen, kept, revision);
     let floor = pen.floor().max(end.saturating_sub(history));
     raise(pen, kept, floor)
+}
+
+/// Adds revisions, for which there is room, to the log, and raises the floor to its new end, which is answered.
+pub fn commit_all<N: LogFacts>(
+    pen: &mut Pen<Revision, N>,
+    kept: &mut Kept,
+    revisions: Vec<Revision>,
+) -> u64
+    requires last { reached pen.old + length revisions.items ≤ 2 ^ 62 }
+    requires fits { FitFrom Fits (reached pen.old) revisions.items }
+    requires room { HasRoom (length revisions.items) kept.old }
+    requires keeps { (base : List RowData) × Keeps (log_in base pen.old) pen.old.floor kept.old }
+    ensures answer { result ≡ reached pen.old + length revisions.items }
+    ensures log { pen.new ≡ record pen.old { log = pen.old.log ++ revisions.items; floor = result } }
+    ensures keeps { (base : List RowData) → Keeps (log_in base pen.old) pen.old.floor kept.old → Keeps (log_in base pen.new) pen.new.floor kept.new }
+{
+    put_all(pen, kept, revisions);
+    let end = pen.revision();
+    let _ = raise(pen, kept, end);
+    end
+}
+
+// Adds revisions, for which there is room, to the log. The floor stays.
+fn put_all<N: LogFacts>(pen: &mut Pen<Revision, N>, kept: &mut Kept, revisions: Vec<Revision>)
+    requires last { reached pen.old + length revisions.items ≤ 2 ^ 62 }
+    requires fits { FitFrom Fits (reached pen.old) revisions.items }
+    requires room { HasRoom (length revisions.items) kept.old }
+    ensures log { pen.new ≡ record pen.old { log = pen.old.log ++ revisions.items } }
+    ensures keeps { (base : List RowData) → Keeps (log_in base pen.old) pen.old.floor kept.old → Keeps (log_in base pen.new) pen.new.floor kept.new }
+{
+    for revision in revisions {
+        put(pen, kept, revision);
+    }
+}
+
+// Adds a revision, for which there is room, to the log, and answers its number. The floor stays.
+fn put<N: LogFacts>(pen: &mut Pen<Revision, N>, kept: &mut Kept, revision: Revision) -> u64
+    requires last { reached pen.old < 2 ^ 62 }
+    requires fits { Fits (reached pen.old + 1) revision }
+    requires room { HasRoom 1 kept.old }
+    ensures answer { result ≡ reached pen.old + 1 }
+    ensures log { pen.new ≡ record pen.old { log = pen.old.log ++ revision ∷ [] } }
+    ensures room { (count : ℕ) → HasRoom (count + 1) kept.old → HasRoom count kept.new }
+    ensures keeps { (base : List RowData) → Keeps (log_in base pen.old) pen.old.floor kept.old → Keeps (log_in base pen.new) pen.new.floor kept.new }
+{
+    let end = pen.commit(&revision);
+    kept.push(revision);
+    end
 }

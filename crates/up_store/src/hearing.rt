@@ -1,17 +1,17 @@
 //! The store of a mirror: its log begins with pods, and its revisions come from a peer.
 
-ghost use Rattle.std.specs.Prelude.{◌≡◌, ◌+◌, ◌^◌, ◌<◌, ◌≤◌, List, All, IfOk, true};
+ghost use Rattle.std.specs.Prelude.{◌≡◌, ◌+◌, ◌^◌, ◌<◌, ◌≤◌, List, length, All, IfOk, true};
 ghost use Rattle.kube_meta.specs.Rows.{RowData, AreRising};
 ghost use Rattle.kube_meta.specs.declared.resources.Resource.TheVariants.{Pods};
-ghost use Rattle.rev_front.specs.Passes.{Covers, empty_log, revision as reached};
+ghost use Rattle.rev_front.specs.Passes.{Covers, FitFrom, empty_log, revision as reached};
 ghost use Rattle.rev_log.specs.Logs.{Fits};
 ghost use Rattle.up_api.specs.Sections.{Learns};
-ghost use Rattle.up_store.specs.Hearing.{IsHeard, IsHearAnswer, IsHearReply};
+ghost use Rattle.up_store.specs.Hearing.{IsHeard, IsHearAnswer, IsHearReply, IsHearAllAnswer, IsHearAllReply};
 ghost use Rattle.up_store.specs.Kept.{Keeps};
 ghost use Rattle.up_store.specs.Stores.{KnowsAll, log_in};
 
 use crate::Store;
-use crate::committing::commit;
+use crate::committing::{commit, commit_all};
 use crate::kept::Kept;
 use crate::store::meet;
 use crate::tables::Tables;
@@ -103,6 +103,32 @@ impl<N: LogFacts> Store<N> {
             Err(_) => Err(HearNo::Memory),
         }
     }
+
+    /// Adds the revisions of the peer's log that follow `from`, if that is the log's end, and raises the floor to the
+    /// last of them: from then on states and feeds below it are refused. It adds all of them or none. Answers the
+    /// log's end.
+    pub fn hear_all(
+        &mut self,
+        from: u64,
+        revisions: Vec<Revision>,
+        told: &mut Pass<N>,
+    ) -> Result<u64, HearNo>
+        requires mirror { N.mirror ≡ true }
+        requires fits { FitFrom Fits from revisions.items }
+        requires last { from + length revisions.items ≤ 2 ^ 62 }
+        requires pods { All (λ revision. All (λ change. change.resource ≡ Pods) revision.changes) revisions.items }
+        ensures covered { Covers self.old.whole told.old }
+        ensures learns { Learns told.old told.new }
+        ensures tells { KnowsAll self.new.whole told.new }
+        ensures answer { IsHearAllAnswer from revisions.items self.old.whole self.new.whole result }
+        ensures reply { IsHearAllReply N.base told.old from revisions.items result told.new }
+        ensures rest { self.new ≡ record self.old { whole = self.new.whole } }
+    {
+        meet(&mut self.pen, told);
+        let answer = append_all(&mut self.pen, &mut self.kept, from, revisions);
+        meet(&mut self.pen, told);
+        answer
+    }
 }
 
 // Adds the next revision to the log, if there is memory to keep it.
@@ -120,8 +146,30 @@ fn append<N: LogFacts>(
     ensures keeps { (base : List RowData) → Keeps (log_in base pen.old) pen.old.floor kept.old → Keeps (log_in base pen.new) pen.new.floor kept.new }
     ensures generation { pen.new.gen ≡ pen.old.gen }
 {
-    kept.reserve()?;
+    kept.reserve(1)?;
     let rev = revision.rev;
     let _ = commit(pen, kept, history, revision);
     Ok(rev)
+}
+
+// Adds the revisions that follow the log's end, if there is memory to keep them all, and raises the floor to the last.
+fn append_all<N: LogFacts>(
+    pen: &mut Pen<Revision, N>,
+    kept: &mut Kept,
+    from: u64,
+    revisions: Vec<Revision>,
+) -> Result<u64, HearNo>
+    requires last { from + length revisions.items ≤ 2 ^ 62 }
+    requires fits { FitFrom Fits from revisions.items }
+    requires keeps { (base : List RowData) × Keeps (log_in base pen.old) pen.old.floor kept.old }
+    ensures answer { IsHearAllAnswer from revisions.items pen.old pen.new result }
+    ensures keeps { (base : List RowData) → Keeps (log_in base pen.old) pen.old.floor kept.old → Keeps (log_in base pen.new) pen.new.floor kept.new }
+    ensures generation { pen.new.gen ≡ pen.old.gen }
+{
+    let at = pen.revision();
+    if from != at {
+        return Err(HearNo::Passed { at });
+    }
+    kept.reserve(revisions.len())?;
+    Ok(commit_all(pen, kept, revisions))
 }

@@ -80,21 +80,22 @@ impl Kept {
         Ok(())
     }
 
-    /// Makes room for one more revision.
-    pub fn reserve(&mut self) -> Result<(), Memory>
+    /// Makes room for this many more revisions.
+    pub fn reserve(&mut self, count: usize) -> Result<(), Memory>
         ensures same { self.new ≡ record self.old { revisions = self.new.revisions } }
         ensures items { self.new.revisions.items ≡ self.old.revisions.items }
-        ensures room { OnOk result (HasRoom self.new) }
+        ensures room { OnOk result (HasRoom count self.new) }
     {
-        self.revisions.reserve(1)?;
+        self.revisions.reserve(count)?;
         Ok(())
     }
 
     /// Adds the revision that the log got, for which there is room.
     pub fn push(&mut self, revision: Revision)
-        requires { HasRoom self.old }
+        requires { HasRoom 1 self.old }
         ensures same { self.new ≡ record self.old { revisions = self.new.revisions } }
         ensures items { self.new.revisions.items ≡ self.old.revisions.items ++ revision ∷ [] }
+        ensures room { (count : ℕ) → HasRoom (count + 1) self.old → HasRoom count self.new }
     {
         self.revisions.push_back_reserved(revision);
     }

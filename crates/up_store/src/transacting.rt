@@ -132,7 +132,7 @@ pub fn prepare_all(
     requires bounded { AreBounded kept.old }
     ensures keeps { (log : Log) (floor : ℕ) → Keeps log floor kept.old → Keeps log floor kept.new }
     ensures prepared { IfOk result (λ p. (log : Log) (floor : ℕ) → Keeps log floor kept.old → at ≡ end_of log → IsTxPrepared log asks.now p.0.items p.1) }
-    ensures room { OnOk result (HasRoom kept.new) }
+    ensures room { OnOk result (HasRoom 1 kept.new) }
     ensures last { OnOk result (at < 2 ^ 62) }
     ensures refused { IfErr result (λ no. (no ≡ TxWriteNo.Memory) ⊎ ((log : Log) (floor : ℕ) → Keeps log floor kept.old → at ≡ end_of log → tx_refusal_of false log asks.now ≡ Some no)) }
 {
@@ -145,7 +145,7 @@ pub fn prepare_all(
     }
     let answers = answers(alloc, kept, asks, shared, at)?;
     let revision = Revision::sorted(at + 1, changes(alloc, asks, shared, at + 1)?);
-    kept.reserve()?;
+    kept.reserve(1)?;
     Ok((answers, revision))
 }
 

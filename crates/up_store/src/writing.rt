@@ -122,7 +122,7 @@ pub fn prepare(
     requires bounded { AreBounded kept.old }
     ensures keeps { (log : Log) (floor : ℕ) → Keeps log floor kept.old → Keeps log floor kept.new }
     ensures prepared { IfOk result (λ p. (log : Log) (floor : ℕ) → Keeps log floor kept.old → at ≡ end_of log → IsPrepared log ask.now p.0 p.1) }
-    ensures room { OnOk result (HasRoom kept.new) }
+    ensures room { OnOk result (HasRoom 1 kept.new) }
     ensures last { OnOk result (at < 2 ^ 62) }
     ensures refused { IfErr result (λ no. (no ≡ WriteNo.Memory) ⊎ ((log : Log) (floor : ℕ) → Keeps log floor kept.old → at ≡ end_of log → refusal_of false log ask.now ≡ Some no)) }
 {
@@ -134,7 +134,7 @@ pub fn prepare(
     }
     let rev = at + 1;
     let revision = Revision::single(alloc, change(ask, rev, shared)?)?;
-    kept.reserve()?;
+    kept.reserve(1)?;
     let written = Written {
         rev,
         row: Row { obj, rev },

@@ -1,6 +1,6 @@
 use Rattle.std.proofs.Common.{◌∙◌, arith}
 use Rattle.up_store.specs.Transacting.{object_in}
-use Rattle.up_store.specs.Writes.{change_of, new_object}
+use Rattle.up_store.specs.Writes.{new_object}
 use Rattle.up_store.proofs.TransactLemmas.{mapped-at}
 use Rattle.up_store.proofs.transacting.changes.Goals as goal
 
