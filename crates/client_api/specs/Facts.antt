@@ -1,5 +1,6 @@
 -- What a client tells of itself in contracts, and what holds of what it knows.
-use Rattle.std.specs.Prelude.{ℕ, ◌<◌, ◌≤◌, Option, length}
+use Rattle.std.specs.Prelude.{ℕ, ◌<◌, ◌≤◌, max, Option, Some, None, option_map, length, if◌then◌else◌}
+use Rattle.kube_meta.specs.Resources.{same_resource}
 use Rattle.kube_meta.specs.declared.resources.Resource.{Resource}
 use Rattle.rev_front.specs.Passes.{Pass, IsPass, Extends}
 use Rattle.rev_log.specs.Changes.{RevisionData}
@@ -24,6 +25,16 @@ pub record Facts : Type 0 where
 pub record Cached : Type 0 where
   pub reads : ℕ
   pub ends : Resource → ℕ
+
+-- the greatest times that the caches were told, one of each resource that has a cache, after that of a resource was told
+-- one more
+abbrev pub with_time : Resource → ℕ → (Resource → Option ℕ) → Resource → Option ℕ
+with_time told ms times resource = option_map (λ heard. if same_resource resource told then max heard ms else heard) (times resource)
+
+-- a tick tells its time to the cache of the watch's resource, where there is a watch
+abbrev pub ticked : Option Watched → ℕ → (Resource → Option ℕ) → Resource → Option ℕ
+ticked None ms times = times
+ticked (Some watched) ms times = with_time watched.selection.resource ms times
 
 -- what is known goes on: nothing is forgotten, nothing goes back, and what holds of every pass stays
 pub record IsOnward (p q : Pass RevisionData) : Type 0 where

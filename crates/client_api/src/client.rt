@@ -1,14 +1,15 @@
 //! What a client of a log promises.
 
-ghost use Rattle.std.specs.Prelude.{◌≡◌, ◌≤◌, ℕ, max, Bool, List, None, IsSome, OnOk, IfSome};
+ghost use Rattle.std.specs.Prelude.{◌≡◌, ◌≤◌, ℕ, max, Bool, List, Option, None, IsSome, OnOk, IfSome};
 ghost use Rattle.kube_meta.specs.Rows.{RowData};
+ghost use Rattle.kube_meta.specs.declared.resources.Resource.{Resource};
 ghost use Rattle.rev_front.specs.Passes.{Pass};
 ghost use Rattle.rev_log.specs.Changes.{RevisionData};
 ghost use Rattle.up_store.specs.Replies.{IsWriteReply, IsTransactionReply, IsOperationReply};
 ghost use Rattle.up_store.specs.Transacting.{answers_in};
 ghost use Rattle.client_api.specs.Alone.{SoleRead, SoleTake, SoleWrite, SoleTransact, SoleOperate};
 ghost use Rattle.client_api.specs.Caches.{ListsCache, GetsCache, BeginsCache, TakesCache};
-ghost use Rattle.client_api.specs.Facts.{Facts, Cached, IsOnward};
+ghost use Rattle.client_api.specs.Facts.{Facts, Cached, IsOnward, ticked};
 ghost use Rattle.client_api.specs.Gets.{IsGetAnswer};
 ghost use Rattle.client_api.specs.Lists.{IsListAnswer};
 ghost use Rattle.client_api.specs.Starts.{IsWatchAnswer, begun_watch};
@@ -43,11 +44,15 @@ pub trait Client {
     // of a log that nobody else holds: how often its store was read, and how far the caches are
     ghost cached: { Self → Cached };
 
+    // the greatest time that the cache of each resource was told, where there is a cache
+    ghost times: { Self → Resource → Option ℕ };
+
     /// Asks for a write. An accepted one adds exactly its change to the log, at a revision of its own.
     fn write(&mut self, ask: &WriteAsk) -> Result<Written, WriteNo>
         ensures onward { IsOnward (pass self.old) (pass self.new) }
         ensures answer { IsWriteReply base mirror (pass self.old) ask.now result (pass self.new) }
         ensures facts { facts self.new ≡ facts self.old }
+        ensures times { times self.new ≡ times self.old }
         ensures sole { whole self.old → IfSome (facts self.old).sole_history
             (λ history. SoleWrite base mirror history (pass self.old) ask.now result (pass self.new)) }
         ensures kept { whole self.old → IsToldWrite result → whole self.new }
@@ -58,6 +63,7 @@ pub trait Client {
         ensures onward { IsOnward (pass self.old) (pass self.new) }
         ensures answer { IsTransactionReply base mirror (pass self.old) ask.now (answers_in result) (pass self.new) }
         ensures facts { facts self.new ≡ facts self.old }
+        ensures times { times self.new ≡ times self.old }
         ensures sole { whole self.old → IfSome (facts self.old).sole_history
             (λ history. SoleTransact base mirror history (pass self.old) ask.now (answers_in result) (pass self.new)) }
         ensures kept { whole self.old → IsToldTx result → whole self.new }
@@ -68,6 +74,7 @@ pub trait Client {
         ensures onward { IsOnward (pass self.old) (pass self.new) }
         ensures answer { IsGetAnswer base (pass self.old) ask.now result (pass self.new) }
         ensures facts { facts self.new ≡ facts self.old }
+        ensures times { times self.new ≡ times self.old }
         ensures sole { whole self.old → SoleRead (pass self.old) result (pass self.new) }
         ensures kept { whole self.old → IsToldRead result → whole self.new }
         ensures cached { whole self.old →
@@ -78,6 +85,7 @@ pub trait Client {
         ensures onward { IsOnward (pass self.old) (pass self.new) }
         ensures answer { IsListAnswer base (pass self.old) ask.now result (pass self.new) }
         ensures facts { facts self.new ≡ facts self.old }
+        ensures times { times self.new ≡ times self.old }
         ensures sole { whole self.old → SoleRead (pass self.old) result (pass self.new) }
         ensures kept { whole self.old → IsToldRead result → whole self.new }
         ensures cached { whole self.old →
@@ -89,6 +97,7 @@ pub trait Client {
         ensures onward { IsOnward (pass self.old) (pass self.new) }
         ensures answer { IsWatchAnswer base (facts self.old).window (pass self.old) ask.now result (pass self.new) }
         ensures facts { facts self.new ≡ record (facts self.old) { watching = begun_watch ask.now result } }
+        ensures times { times self.new ≡ times self.old }
         ensures sole { whole self.old → SoleRead (pass self.old) result (pass self.new) }
         ensures kept { whole self.old → IsToldRead result → whole self.new }
         ensures cached { whole self.old →
@@ -103,6 +112,7 @@ pub trait Client {
             (pass self.new) }
         ensures facts { facts self.new ≡
             record (facts self.old) { watching = watch_left result (facts self.old).watching } }
+        ensures times { times self.new ≡ times self.old }
         ensures sole { whole self.old → SoleTake (pass self.old) result (pass self.new) }
         ensures kept { whole self.old → OnOk result (whole self.new) }
         ensures cached { whole self.old → IfSome (facts self.old).watching
@@ -112,6 +122,7 @@ pub trait Client {
     fn end_watch(&mut self)
         ensures pass { pass self.new ≡ pass self.old }
         ensures facts { facts self.new ≡ record (facts self.old) { watching = None } }
+        ensures times { times self.new ≡ times self.old }
         ensures whole { whole self.old → whole self.new }
         ensures cached { cached self.new ≡ cached self.old };
 
@@ -120,6 +131,7 @@ pub trait Client {
         ensures onward { IsOnward (pass self.old) (pass self.new) }
         ensures answer { IsOperationReply (pass self.old) ask result (pass self.new) }
         ensures facts { facts self.new ≡ facts self.old }
+        ensures times { times self.new ≡ times self.old }
         ensures sole { whole self.old → SoleOperate (pass self.old) ask result (pass self.new) }
         ensures kept { whole self.old → IsToldOperation result → whole self.new };
 
@@ -127,6 +139,7 @@ pub trait Client {
     fn tick(&mut self, ms: u64)
         ensures pass { pass self.new ≡ pass self.old }
         ensures facts { facts self.new ≡ record (facts self.old) { heard = max (facts self.old).heard ms } }
+        ensures times { times self.new ≡ ticked (facts self.old).watching ms (times self.old) }
         ensures whole { whole self.old → whole self.new }
         ensures cached { cached self.new ≡ cached self.old };
 }

@@ -10,7 +10,7 @@ use Rattle.rev_log.specs.Logs.{Log}
 use Rattle.up_api.specs.declared.feeds.Feed.{Feed}
 use Rattle.up_api.specs.Sections.{StandsAt, log_upto, raised_once}
 use Rattle.up_api.proofs.SectionLemmas.{stands-later}
-use Rattle.reflect_core.specs.Pumps.{ReflectorState, IsKnown, HasCause, RisesFor, raised_where_told}
+use Rattle.reflect_core.specs.Pumps.{ReflectorState, IsKnown, HasCause, MayRiseFor, RisesFor, raised_where_told}
 use Rattle.cache_hub.specs.Hubs.{HubData, StandsFor}
 use Rattle.local_client.specs.Caches.{ResourceCacheData, CachesData, cache_of, with_cache, IsFollowing, AreFollowing, FollowsOn, FollowOn}
 
@@ -49,23 +49,36 @@ pumped_follows base p q old new later cache reflector window_same stands known b
   ];
 }
 
--- the same, of what is seen of a cache's fields
-pub pumped_as : (base : List RowData) (p q : Pass RevisionData) (now : ResourceCacheData) (hub later : HubData) (reflector next : ReflectorState) → record { hub = hub; reflector = reflector } ≡ now → Extends p q →
-    later.cache.resource ≡ hub.cache.resource → next.resource ≡ reflector.resource → later.cache.ring.window ≡ hub.cache.ring.window →
-    StandsAt (λ log. StandsFor log later) base q later.cache.end → IsKnown next.feed q →
-    (later.cache.base ≡ hub.cache.base) ⊎ (later.cache.base ≤ q.floor) → FollowsOn base p now q (record { hub = later; reflector = next })
-pumped_as base p q now hub later reflector next view grows cache same window stands known based =
-    subst (λ (c : ResourceCacheData). FollowsOn base p c q (record { hub = later; reflector = next })) view
-    (pumped_follows base p q (record { hub = hub; reflector = reflector }) (record { hub = later; reflector = next }) grows cache same window stands known based)
+-- a hub that was told a time
+abbrev with-time : HubData → ℕ → HubData
+with-time hub time = record hub { cache = record hub.cache { time = time } }
+
+-- the same, of what is seen of a cache's fields, which is told its time again then
+pub pumped_as : (base : List RowData) (p q : Pass RevisionData) (now : ResourceCacheData) (hub mid later : HubData) (reflector next : ReflectorState) (heard time : ℕ) →
+    record { hub = hub; reflector = reflector; heard = heard } ≡ now → Extends p q →
+    mid.cache.resource ≡ hub.cache.resource → next.resource ≡ reflector.resource → mid.cache.ring.window ≡ hub.cache.ring.window →
+    StandsAt (λ log. StandsFor log mid) base q mid.cache.end → IsKnown next.feed q →
+    (mid.cache.base ≡ hub.cache.base) ⊎ (mid.cache.base ≤ q.floor) →
+    later ≡ with-time mid time → ((log : Log) → StandsFor log mid → StandsFor log later) →
+    FollowsOn base p now q (record { hub = later; reflector = next; heard = heard })
+pumped_as base p q now hub mid later reflector next heard time view grows cache same window stands known based ticked still =
+    subst (λ (c : ResourceCacheData). FollowsOn base p c q (record { hub = later; reflector = next; heard = heard })) view
+    (pumped_follows base p q (record { hub = hub; reflector = reflector; heard = heard }) (record { hub = later; reflector = next; heard = heard }) grows
+    (ap (λ (h : HubData). h.cache.resource) ticked ∙ cache) same (ap (λ (h : HubData). h.cache.ring.window) ticked ∙ window)
+    (subst (λ e. StandsAt (λ log. StandsFor log later) base q e) (sym (ap (λ (h : HubData). h.cache.end) ticked))
+    (record { begun = stands.begun; within = stands.within; stands = still (log_upto base q mid.cache.end) stands.stands }))
+    known (subst (λ b. (b ≡ hub.cache.base) ⊎ (b ≤ q.floor)) (sym (ap (λ (h : HubData). h.cache.base) ticked)) based))
 
 -- one that was built anew: its reflector stays as it is
-pub rebuilt_as : (base : List RowData) (p q : Pass RevisionData) (now : ResourceCacheData) (hub later : HubData) (reflector : ReflectorState) → record { hub = hub; reflector = reflector } ≡ now → Extends p q →
-    later.cache.resource ≡ hub.cache.resource → later.cache.ring.window ≡ hub.cache.ring.window → StandsAt (λ log. StandsFor log later) base q later.cache.end →
-    (later.cache.base ≡ hub.cache.base) ⊎ (later.cache.base ≤ q.floor) → FollowsOn base p now q (record { hub = later; reflector = reflector })
-rebuilt_as base p q now hub later reflector view grows cache same stands based =
-    subst (λ (c : ResourceCacheData). FollowsOn base p c q (record { hub = later; reflector = reflector })) view
-    (λ window resource is. pumped_follows base p q (record { hub = hub; reflector = reflector }) (record { hub = later; reflector = reflector }) grows cache refl same stands
-    (known-later p q reflector.feed grows.gen_on is.known) based window resource is)
+pub rebuilt_as : (base : List RowData) (p q : Pass RevisionData) (now : ResourceCacheData) (hub mid later : HubData) (reflector : ReflectorState) (heard time : ℕ) →
+    record { hub = hub; reflector = reflector; heard = heard } ≡ now → Extends p q →
+    mid.cache.resource ≡ hub.cache.resource → mid.cache.ring.window ≡ hub.cache.ring.window → StandsAt (λ log. StandsFor log mid) base q mid.cache.end →
+    (mid.cache.base ≡ hub.cache.base) ⊎ (mid.cache.base ≤ q.floor) →
+    later ≡ with-time mid time → ((log : Log) → StandsFor log mid → StandsFor log later) →
+    FollowsOn base p now q (record { hub = later; reflector = reflector; heard = heard })
+rebuilt_as base p q now hub mid later reflector heard time view grows cache same stands based ticked still window resource is =
+    let was : IsFollowing base window resource p (record { hub = hub; reflector = reflector; heard = heard }) = subst (IsFollowing base window resource p) (sym view) is in
+    pumped_as base p q now hub mid later reflector reflector heard time view grows cache refl same stands (known-later p q reflector.feed grows.gen_on was.known) based ticked still window resource is
 
 -- from which revision it was built
 pub built_from : {A E : Type 0} (answer : Result A E) (old new : HubData) (floor low : ℕ) → OnOk answer (new.cache.base ≡ floor) → OnErr answer (new ≡ old) → floor ≤ low →
@@ -74,19 +87,19 @@ built_from (Ok done) old new floor low is kept within = inr (omega (arith, is, w
 built_from (Err memory) old new floor low is kept within = inl (ap (λ (h : HubData). h.cache.base) kept)
 
 -- a cache that was told the time
-pub ticked_follows : (base : List RowData) (p : Pass RevisionData) (now : ResourceCacheData) (hub later : HubData) (reflector : ReflectorState) → record { hub = hub; reflector = reflector } ≡ now →
-    later.cache.resource ≡ hub.cache.resource → later.cache.ring.window ≡ hub.cache.ring.window → later.cache.base ≡ hub.cache.base → later.cache.end ≡ hub.cache.end →
-    ((log : Log) → StandsFor log hub → StandsFor log later) → FollowsOn base p now p (record { hub = later; reflector = reflector })
-ticked_follows base p now hub later reflector view cache window based end stands w resource is =
-    let was : IsFollowing base w resource p (record { hub = hub; reflector = reflector }) = subst (IsFollowing base w resource p) (sym view) is in
+pub ticked_follows : (base : List RowData) (p : Pass RevisionData) (now : ResourceCacheData) (hub later : HubData) (reflector : ReflectorState) (heard now_heard time : ℕ) →
+    record { hub = hub; reflector = reflector; heard = heard } ≡ now → later ≡ with-time hub time →
+    ((log : Log) → StandsFor log hub → StandsFor log later) → FollowsOn base p now p (record { hub = later; reflector = reflector; heard = now_heard })
+ticked_follows base p now hub later reflector heard now_heard time view ticked still w resource is =
+    let was : IsFollowing base w resource p (record { hub = hub; reflector = reflector; heard = heard }) = subst (IsFollowing base w resource p) (sym view) is in
     record {
-      cache_is = cache ∙ was.cache_is;
+      cache_is = ap (λ (h : HubData). h.cache.resource) ticked ∙ was.cache_is;
       reflector_is = was.reflector_is;
-      window_is = window ∙ was.window_is;
-      stands = subst (λ e. StandsAt (λ log. StandsFor log later) base p e) (sym end)
-          (record { begun = was.stands.begun; within = was.stands.within; stands = stands (log_upto base p hub.cache.end) was.stands.stands });
+      window_is = ap (λ (h : HubData). h.cache.ring.window) ticked ∙ was.window_is;
+      stands = subst (λ e. StandsAt (λ log. StandsFor log later) base p e) (sym (ap (λ (h : HubData). h.cache.end) ticked))
+          (record { begun = was.stands.begun; within = was.stands.within; stands = still (log_upto base p hub.cache.end) was.stands.stands });
       known = was.known;
-      built = omega (arith, based, was.built);
+      built = omega (arith, ap (λ (h : HubData). h.cache.base) ticked, was.built);
     }
 
 -- ---- all caches
@@ -174,6 +187,13 @@ pub rises_done : (rebuilds old new : ℕ) (cause : Type 0) → rebuilds ≤ 1 �
 rises_done zero old new cause few is why = inl (same-count new old is)
 rises_done (suc zero) old new cause few is why = inr (same-count new (raised_once old) is, why refl)
 rises_done (suc (suc n)) old new cause few is why = absurd (omega (arith, few))
+
+-- after one that had no memory
+pub rises_may : (old new : ℕ) (cause : Type 0) → MayRiseFor cause (Some old) (Some new) → RisesFor cause old new
+rises_may old new cause may = elim may [
+  | inl same ↦ inl (same-count new old same)
+  | inr rose ↦ inr (same-count new (raised_once old) rose.0, rose.1)
+]
 
 -- a second cut is a cut
 pub cause_of : (end cuts : ℕ) (p q : Pass RevisionData) → (end < q.floor) ⊎ ((cuts ≡ 2) × (p.gen < q.gen)) → HasCause end p q

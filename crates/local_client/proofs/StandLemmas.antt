@@ -22,7 +22,7 @@ use Rattle.up_api.proofs.SectionLemmas.{log_upto-end}
 use Rattle.up_store.specs.Stores.{StoreData}
 use Rattle.cache_hub.specs.Catching.{CaughtData, IsCaught}
 use Rattle.cache_hub.specs.Hubs.{StandsFor}
-use Rattle.local_client.specs.Caches.{AreFollowing, CachesData, FollowOn, IsFollowing, ResourceCacheData, cache_of, end_at}
+use Rattle.local_client.specs.Caches.{AreFollowing, CachesData, FollowOn, IsFollowing, ResourceCacheData, cache_of, end_at, times_of}
 use Rattle.local_client.specs.CachedLogs.{CachedLogData, GoesOn, window_of}
 use Rattle.local_client.specs.Watching.{IsTold}
 use Rattle.local_client.proofs.CacheLemmas.{window_stays}
@@ -125,7 +125,7 @@ module _ (base : List RowData) (now : CachedLogData) (store : StoreData) (caches
 
   -- a call goes on
   pub goes_on_as : (later : StoreData) (new : CachesData) (q : Pass RevisionData) → Extends told q → IsPass Fits q → later.history ≡ store.history → FollowOn base told caches q new →
-      GoesOn now (record { store = later; caches = new; pass = q })
-  goes_on_as later new q extends lawful history goes =
+      times_of new ≡ times_of caches → GoesOn now (record { store = later; caches = new; pass = q })
+  goes_on_as later new q extends lawful history goes times =
       subst (λ (l : CachedLogData). GoesOn l (record { store = later; caches = new; pass = q })) view
-      (record { onward = record { extends = extends; lawful = λ _. lawful }; history = history; window = window_stays base told q caches new following goes })
+      (record { onward = record { extends = extends; lawful = λ _. lawful }; history = history; window = window_stays base told q caches new following goes; times = times })

@@ -5,7 +5,7 @@ use Rattle.rev_log.specs.Changes.{RevisionData}
 use Rattle.up_api.specs.declared.settings.Settings.{Settings}
 use Rattle.up_store.specs.Stores.{StoreData, KnowsAll}
 use Rattle.client_api.specs.Facts.{Cached, IsOnward}
-use Rattle.local_client.specs.Caches.{CachesData, end_at}
+use Rattle.local_client.specs.Caches.{CachesData, end_at, times_of}
 
 -- the store, the caches, and what is known of the log
 pub record CachedLogData : Type 0 where
@@ -31,8 +31,9 @@ pub record IsNewLog (first : ℕ) (settings : Settings) (log : CachedLogData) : 
   pub history_is : log.store.history ≡ settings.history
   pub window_is : window_of log ≡ settings.window
 
--- what each call keeps: what is known goes on, and the two numbers stay
+-- what each call keeps: what is known goes on, and the two numbers and the times that the caches were told stay
 pub record GoesOn (old new : CachedLogData) : Type 0 where
   pub onward : IsOnward old.pass new.pass
   pub history : new.store.history ≡ old.store.history
   pub window : window_of new ≡ window_of old
+  pub times : times_of new.caches ≡ times_of old.caches

@@ -1,5 +1,5 @@
 -- The caches of all resources as plain data, and when they follow what is known of a log.
-use Rattle.std.specs.Prelude.{◌≡◌, ℕ, ◌≤◌, List}
+use Rattle.std.specs.Prelude.{◌≡◌, ℕ, ◌≤◌, List, Option, Some}
 use Rattle.kube_meta.specs.Rows.{RowData}
 use Rattle.kube_meta.specs.declared.resources.Resource.{Resource}
 use Rattle.kube_meta.specs.declared.resources.Resource.TheVariants.{Pods, ConfigMaps, Deployments}
@@ -9,10 +9,11 @@ use Rattle.up_api.specs.Sections.{StandsAt, raised_once}
 use Rattle.reflect_core.specs.Pumps.{ReflectorState, IsKnown}
 use Rattle.cache_hub.specs.Hubs.{HubData, StandsFor}
 
--- the cache of one resource, and what keeps it up to date
+-- the cache of one resource, what keeps it up to date, and the greatest time that it was told
 pub record ResourceCacheData : Type 0 where
   pub hub : HubData
   pub reflector : ReflectorState
+  pub heard : ℕ
 
 pub record CachesData : Type 0 where
   pub pods : ResourceCacheData
@@ -33,6 +34,10 @@ with_cache caches Deployments cache = record caches { deployments = cache }
 -- the revision up to which the cache of a resource stands for the log
 abbrev pub end_at : CachesData → Resource → ℕ
 end_at caches resource = (cache_of caches resource).hub.cache.end
+
+-- the greatest time that the cache of each resource was told
+abbrev pub times_of : CachesData → Resource → Option ℕ
+times_of caches resource = Some (cache_of caches resource).heard
 
 -- The cache of a resource follows what is known of a log: it and its reflector are of the resource, its window is this
 -- one, it stands for the log up to its end, which is seen, its reflector's feed is of no later generation than is

@@ -12,7 +12,8 @@ ghost use Rattle.up_store.specs.Transacting.{answers_in};
 ghost use Rattle.up_store.specs.declared.operations.Operate.TheVariants as operations;
 ghost use Rattle.cache_hub.specs.Catching.{RefusesCatch};
 ghost use Rattle.client_api.specs.Alone.{SoleWrite, SoleTransact, SoleOperate};
-ghost use Rattle.local_client.specs.Caches.{AreBuiltAnew, AreFollowing, cache_of, end_at};
+ghost use Rattle.client_api.specs.Facts.{with_time};
+ghost use Rattle.local_client.specs.Caches.{AreBuiltAnew, AreFollowing, cache_of, end_at, times_of};
 ghost use Rattle.local_client.specs.CachedLogs.{IsNewLog, GoesOn, KnowsWhole, cached_in, window_of};
 ghost use Rattle.local_client.specs.Following.{HasFollowed, ReadsFor, StaysWholeIfTold};
 ghost use Rattle.local_client.specs.Reads.{IsReadBehind, IsStateAnswer};
@@ -267,6 +268,7 @@ impl<N: LogFacts> CachedLog<N> {
         ensures pass { self.new.pass ≡ self.old.pass }
         ensures store { self.new.store ≡ self.old.store }
         ensures time { (cache_of self.new.caches resource).hub.cache.time ≡ max (cache_of self.old.caches resource).hub.cache.time ms }
+        ensures times { times_of self.new.caches ≡ with_time resource ms (times_of self.old.caches) }
         ensures cached { cached_in self.new ≡ cached_in self.old }
         ensures window { window_of self.new ≡ window_of self.old }
     {

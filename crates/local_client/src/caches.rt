@@ -9,7 +9,8 @@ ghost use Rattle.up_api.specs.Settings.{AreInRange};
 ghost use Rattle.reflect_core.specs.Pumps.{HasCause, RisesFor};
 ghost use Rattle.cache_hub.specs.Catching.{IsCaught, RefusesCatch};
 ghost use Rattle.cache_hub.specs.Hubs.{StandsFor};
-ghost use Rattle.local_client.specs.Caches.{AreBuiltAnew, AreFollowing, FollowOn, cache_of, end_at};
+ghost use Rattle.client_api.specs.Facts.{with_time};
+ghost use Rattle.local_client.specs.Caches.{AreBuiltAnew, AreFollowing, FollowOn, cache_of, end_at, times_of};
 
 use crate::resource_cache::ResourceCache;
 use cache_answers::both;
@@ -91,6 +92,7 @@ impl<N: LogFacts> Caches<N> {
         ensures follow { FollowOn N.base told.old self.old told.new self.new }
         ensures reached { OnOk result (until ≤ end_at self.new resource) }
         ensures reads { RisesFor (HasCause (end_at self.old resource) told.old told.new) store.old.reads store.new.reads }
+        ensures times { times_of self.new ≡ times_of self.old }
     {
         match resource {
             Resource::Pods => self.pods.pump(store, told, until),
@@ -109,6 +111,7 @@ impl<N: LogFacts> Caches<N> {
         ensures knows { Knows store.old.whole told.old → Knows store.old.whole told.new }
         ensures follow { FollowOn N.base told.old self.old told.new self.new }
         ensures anew { OnOk result (AreBuiltAnew self.old self.new) }
+        ensures times { times_of self.new ≡ times_of self.old }
     {
         self.pods.rebuild(Resource::Pods, store, told)?;
         self.config_maps.rebuild(Resource::ConfigMaps, store, told)?;
@@ -139,6 +142,7 @@ impl<N: LogFacts> Caches<N> {
     /// Tells the cache of a resource the time.
     pub fn tick(&mut self, resource: Resource, ms: u64)
         ensures time { (cache_of self.new resource).hub.cache.time ≡ max (cache_of self.old resource).hub.cache.time ms }
+        ensures times { times_of self.new ≡ with_time resource ms (times_of self.old) }
         ensures ends { end_at self.new ≡ end_at self.old }
         ensures window { self.new.pods.hub.cache.ring.window ≡ self.old.pods.hub.cache.ring.window }
         ensures follow { (p : PassData RevisionData) → FollowOn N.base p self.old p self.new }

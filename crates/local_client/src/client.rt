@@ -64,6 +64,7 @@ impl<N: LogFacts> LocalClient<N> {
 
 impl<N: LogFacts> Client for LocalClient<N> {
     ghost use Rattle.std.specs.Prelude.{Some};
+    ghost use Rattle.local_client.specs.Caches.{times_of};
     ghost use Rattle.local_client.specs.CachedLogs.{KnowsWhole, cached_in, window_of};
 
     ghost base = { N.base };
@@ -82,6 +83,8 @@ impl<N: LogFacts> Client for LocalClient<N> {
     ghost whole = { λ c. KnowsWhole c.log };
 
     ghost cached = { λ c. cached_in c.log };
+
+    ghost times = { λ c. times_of c.log.caches };
 
     fn write(&mut self, ask: &WriteAsk) -> Result<Written, WriteNo> {
         self.log.write(ask)

@@ -25,19 +25,25 @@ use std::marker::Model;
 use up_api::{Held, LogFacts, Pass, Settings, Upstream};
 use up_store::Store;
 
-/// The cache of one resource, and the reflector that keeps it up to date.
+/// The cache of one resource, the reflector that keeps it up to date, and the greatest time that it was told. What is
+/// promised of any cache that is fed doesn't say that its time stays, so it is told that time again then.
 #[derive(Drop)]
 pub struct ResourceCache<N: LogFacts> {
     hub: Hub<N>,
     reflector: Reflector,
+    heard: u64,
 }
 
 impl<N: LogFacts> Model for ResourceCache<N> {
+    ghost use Rattle.std.specs.Prelude.{◌≤◌};
     ghost use Rattle.local_client.specs.Caches.{ResourceCacheData};
 
     ghost Value = { ResourceCacheData };
 
-    ghost view = { λ c. record { hub = c.hub; reflector = c.reflector } };
+    ghost view = { λ c. record { hub = c.hub; reflector = c.reflector; heard = c.heard } };
+
+    // the cache has that time, or a later one
+    ghost invariant = { λ c. c.heard ≤ c.hub.cache.time };
 }
 
 impl<N: LogFacts> ResourceCache<N> {
@@ -58,7 +64,11 @@ impl<N: LogFacts> ResourceCache<N> {
         let history = store.history(resource, told)?;
         let hub = Hub::new(alloc, resource, history, settings, told)?;
         let reflector = Reflector::with_batch(resource, settings.batch);
-        Ok(ResourceCache { hub, reflector })
+        Ok(ResourceCache {
+            hub,
+            reflector,
+            heard: 0,
+        })
     }
 
     /// Brings the cache to a revision that was shown.
@@ -78,8 +88,11 @@ impl<N: LogFacts> ResourceCache<N> {
         ensures follows { FollowsOn N.base told.old self.old told.new self.new }
         ensures reached { OnOk result (until ≤ self.new.hub.cache.end) }
         ensures reads { RisesFor (HasCause self.old.hub.cache.end told.old told.new) store.old.reads store.new.reads }
+        ensures heard { self.new.heard ≡ self.old.heard }
     {
-        self.reflector.pump(&mut self.hub, store, told, until)?;
+        let pumped = self.reflector.pump(&mut self.hub, store, told, until);
+        self.hub.tick(self.heard);
+        pumped?;
         Ok(())
     }
 
@@ -98,9 +111,12 @@ impl<N: LogFacts> ResourceCache<N> {
         ensures knows { Knows store.old.whole told.old → Knows store.old.whole told.new }
         ensures follows { FollowsOn N.base told.old self.old told.new self.new }
         ensures anew { OnOk result (self.new.hub.rebuilds ≡ raised_once self.old.hub.rebuilds) }
+        ensures heard { self.new.heard ≡ self.old.heard }
     {
         let history = store.history(resource, told)?;
-        self.hub.rebuild(history, told)
+        let rebuilt = self.hub.rebuild(history, told);
+        self.hub.tick(self.heard);
+        rebuilt
     }
 
     /// The revision up to which it stands for the log.
@@ -154,11 +170,13 @@ impl<N: LogFacts> ResourceCache<N> {
 
     /// Is told the time.
     pub fn tick(&mut self, ms: u64)
+        ensures heard { self.new.heard ≡ max self.old.heard ms }
         ensures time { self.new.hub.cache.time ≡ max self.old.hub.cache.time ms }
         ensures end { self.new.hub.cache.end ≡ self.old.hub.cache.end }
         ensures window { self.new.hub.cache.ring.window ≡ self.old.hub.cache.ring.window }
         ensures follows { (p : PassData RevisionData) → FollowsOn N.base p self.old p self.new }
     {
+        self.heard = self.heard.max(ms);
         self.hub.tick(ms);
     }
 }

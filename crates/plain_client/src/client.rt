@@ -60,7 +60,7 @@ impl PlainClient {
 }
 
 impl Client for PlainClient {
-    ghost use Rattle.std.specs.Prelude.{[], false};
+    ghost use Rattle.std.specs.Prelude.{[], false, None};
     ghost use Rattle.rev_front.specs.Passes.{end_from};
     ghost use Rattle.up_api.specs.Sections.{HasSeenAll};
 
@@ -75,6 +75,9 @@ impl Client for PlainClient {
     ghost whole = { λ c. HasSeenAll c.pass };
 
     ghost cached = { λ c. record { reads = 0; ends = λ resource. end_from c.pass.first c.pass.seen } };
+
+    // there are no caches
+    ghost times = { λ _ _. None };
 
     fn write(&mut self, ask: &WriteAsk) -> Result<Written, WriteNo> {
         let (written, revision) = prepare(self.alloc, &self.log, ask)?;

@@ -110,6 +110,9 @@ impl<N: LogFacts, R: Wait + Copy> Client for SharedClient<'_, N, R> {
 
     ghost cached = { λ _. record { reads = 0; ends = λ _. 0 } };
 
+    // the caches are those of all clients
+    ghost times = { λ _ _. None };
+
     fn write(&mut self, ask: &WriteAsk) -> Result<Written, WriteNo> {
         let answer = self.door.write(ask, &mut self.told);
         let _known = self.told.shown();

@@ -36,7 +36,7 @@ returns-in_err-pumped-clause-goes_on g c =
     let learns = extends_trans i.told c.look-loaded.new.self c.tell.new.told c.look-loaded.ensures.extends c.tell.ensures.learns.extends in
     let on = looked_on g.N.LogFacts.base i.told c.look-loaded.new.self c.tell.new.told step.new.told i.caches step.new.self c.look-loaded.ensures.extends c.tell.ensures.learns.extends step.ensures.follow in
     goes_on_as g.N.LogFacts.base c.args.self.now i.store i.caches i.told c.self.view_is c.self.invariant step.new.store step.new.self step.new.told (extends_trans i.told c.tell.new.told step.new.told learns step.ensures.learns.extends)
-    c.shown-known.ensures.lawful (step.ensures.history ∙ ap (λ (s : StoreData). s.history) c.tell.ensures.same) on
+    c.shown-known.ensures.lawful (step.ensures.history ∙ ap (λ (s : StoreData). s.history) c.tell.ensures.same) on step.ensures.times
 
 pub returns-clause-goes_on : goal.returns-clause-goes_on
 returns-clause-goes_on g c =
@@ -45,7 +45,7 @@ returns-clause-goes_on g c =
     let learns = extends_trans i.told c.look-loaded.new.self c.tell.new.told c.look-loaded.ensures.extends c.tell.ensures.learns.extends in
     let on = looked_on g.N.LogFacts.base i.told c.look-loaded.new.self c.tell.new.told step.new.told i.caches step.new.self c.look-loaded.ensures.extends c.tell.ensures.learns.extends step.ensures.follow in
     goes_on_as g.N.LogFacts.base c.args.self.now i.store i.caches i.told c.self.view_is c.self.invariant step.new.store step.new.self step.new.told (extends_trans i.told c.tell.new.told step.new.told learns step.ensures.learns.extends)
-    c.shown-known.ensures.lawful (step.ensures.history ∙ ap (λ (s : StoreData). s.history) c.tell.ensures.same) on
+    c.shown-known.ensures.lawful (step.ensures.history ∙ ap (λ (s : StoreData). s.history) c.tell.ensures.same) on step.ensures.times
 
 pub returns-clause-followed : goal.returns-clause-followed
 returns-clause-followed g c =

@@ -16,10 +16,10 @@ pub returns-in_err-rebuilt-clause-goes_on : goal.returns-in_err-rebuilt-clause-g
 returns-in_err-rebuilt-clause-goes_on g c =
     let i = c.self.inside in
     let step = c.rebuild-rebuilt in
-    goes_on_as g.N.LogFacts.base c.args.self.now i.store i.caches i.told c.self.view_is c.self.invariant step.new.store step.new.self step.new.told step.ensures.learns.extends c.shown-known.ensures.lawful step.ensures.history step.ensures.follow
+    goes_on_as g.N.LogFacts.base c.args.self.now i.store i.caches i.told c.self.view_is c.self.invariant step.new.store step.new.self step.new.told step.ensures.learns.extends c.shown-known.ensures.lawful step.ensures.history step.ensures.follow step.ensures.times
 
 pub returns-clause-goes_on : goal.returns-clause-goes_on
 returns-clause-goes_on g c =
     let i = c.self.inside in
     let step = c.rebuild-rebuilt in
-    goes_on_as g.N.LogFacts.base c.args.self.now i.store i.caches i.told c.self.view_is c.self.invariant step.new.store step.new.self step.new.told step.ensures.learns.extends c.shown-known.ensures.lawful step.ensures.history step.ensures.follow
+    goes_on_as g.N.LogFacts.base c.args.self.now i.store i.caches i.told c.self.view_is c.self.invariant step.new.store step.new.self step.new.told step.ensures.learns.extends c.shown-known.ensures.lawful step.ensures.history step.ensures.follow step.ensures.times
