@@ -1,8 +1,10 @@
 //! The laws.
 
+ghost use Rattle.mirrored_streams.specs.Openings.{OpeningsAreOne};
 ghost use Rattle.mirrored_streams.specs.Streams.{WatchesAreRead};
 
-use watch_read::{lines_read_back, texts_have_no_line_feed};
+use stream_laws::readings_agree;
+use watch_read::{lines_are_one, lines_read_back, texts_have_no_line_feed};
 
 /// Whoever stands in a beginning of what a session writes to a watch, in chunks of whole objects, stands with the texts
 /// of lines that begin a lawful body over the log that the session knew at the end.
@@ -11,4 +13,12 @@ pub fn watches_are_read()
 {
     lines_read_back();
     texts_have_no_line_feed();
+}
+
+/// Bytes have one opening at most, and bytes that follow don't change it.
+pub fn openings_are_one()
+    ensures { OpeningsAreOne }
+{
+    lines_are_one();
+    readings_agree();
 }

@@ -8,10 +8,10 @@ use Rattle.httparse.proofs.GrammarLemmas.{response_prefix_free}
 use Rattle.httparse.specs.Grammar.{print_chunk_line, print_extension}
 use Rattle.line_stream.specs.Chunks.{Piece, sized, byte, ended, piece_bytes, piece_data, Follows, Leads}
 use Rattle.line_stream.specs.Readers.{ReaderData, IsWithinLine}
-use Rattle.line_stream.specs.Standing.{IsLine, lines_bytes, Stands}
+use Rattle.line_stream.specs.Standing.{IsLine, HoldsLines, lines_bytes, Stands}
 use Rattle.line_stream.proofs.PieceLemmas.{pieces-agree}
 use Rattle.line_stream.proofs.IdleLemmas.{within-none}
-use Rattle.stream_laws.specs.Streams.{reader_at, AreRead, StreamsReadBack}
+use Rattle.stream_laws.specs.Streams.{reader_at, AreRead, StreamsReadBack, ReadingsAgree}
 use Rattle.stream_laws.proofs.StreamLemmas.{streams-stand}
 use Rattle.line_stream.specs.declared.place.Place.{Place}
 use Rattle.line_stream.specs.declared.place.Place.TheVariants.{AtSize, Over}
@@ -123,3 +123,35 @@ module _ (lines read : List (List ℕ)) (room : Option ℕ) (bytes more : List �
 pub streams-read-back : StreamsReadBack
 streams-read-back lines read room bytes more reader all x e =
     reads-first lines read room bytes more reader x (subst (λ b. Stands None b lines (reader_at Over)) (sym e) (streams-stand lines all).1)
+
+-- ---- two readers
+
+-- more pieces have more data
+data_on : (pieces others behind : List Piece) (content other : List ℕ) → content ≡ flat_map piece_data pieces → other ≡ flat_map piece_data others → others ≡ pieces ++ behind
+    → other ≡ content ++ flat_map piece_data behind
+data_on pieces others behind content other one two e =
+    two ∙ ap (flat_map piece_data) e ∙ flat_map-append piece_data pieces behind ∙ ap (λ l. l ++ flat_map piece_data behind) (sym one)
+
+-- and more data has more lines
+lines_on : (content other data_behind : List ℕ) (lines others : List (List ℕ)) (part open_part : List ℕ) → HoldsLines content lines part → HoldsLines other others open_part → other ≡ content ++ data_behind
+    → (later : List (List ℕ)) × (others ≡ lines ++ later)
+lines_on content other data_behind lines others part open_part x y e =
+    let later = lines_agree lines others (part ++ data_behind) open_part x.lines_are y.lines_are y.part_is.0
+    (sym (append_assoc (lines_bytes lines) part data_behind) ∙ ap (λ l. l ++ data_behind) (sym x.joined) ∙ sym e ∙ y.joined) in
+    (later.0, later.1)
+
+pub readings-agree : ReadingsAgree
+readings-agree lines others room bound bytes more reader other x y =
+    let body : x.body ++ more ≡ y.body = (response_prefix_free bytes more x.begins.0 y.begins.0 x.body y.body x.begins.1.reads y.begins.1.reads).1 in
+    let ps : List Piece = x.passes.carries.pieces in
+    let qs : List Piece = y.passes.carries.pieces in
+    let same : flat_map piece_bytes ps ++ (reader.kept ++ more) ≡ flat_map piece_bytes qs ++ other.kept =
+    sym (append_assoc (flat_map piece_bytes ps) reader.kept more)
+    ∙ ap (λ l. (l ++ reader.kept) ++ more) (sym x.passes.carries.bytes_are) ∙ ap (λ l. l ++ more) (sym x.passes.bytes_are)
+    ∙ body ∙ y.passes.bytes_are ∙ ap (λ l. l ++ other.kept) y.passes.carries.bytes_are in
+    elim (pieces-agree AtSize ps qs reader.place other.place (reader.kept ++ more) other.kept x.passes.carries.leads y.passes.carries.leads same) [
+      | inl b ↦ inl (lines_on x.content y.content (flat_map piece_data b.more) lines others reader.part other.part x.holds y.holds
+          (data_on ps qs b.more x.content y.content x.passes.carries.content_are y.passes.carries.content_are b.joined))
+      | inr b ↦ inr (lines_on y.content x.content (flat_map piece_data b.more) others lines other.part reader.part y.holds x.holds
+          (data_on qs ps b.more y.content x.content y.passes.carries.content_are x.passes.carries.content_are b.joined))
+    ]

@@ -1,5 +1,5 @@
 -- Streams that are written and read.
-use Rattle.std.specs.Prelude.{◌≡◌, ℕ, List, [], ◌∷◌, ◌++◌, Option, None, All}
+use Rattle.std.specs.Prelude.{◌≡◌, ◌⊎◌, ℕ, List, [], ◌∷◌, ◌++◌, Option, None, All}
 use Rattle.std.specs.List.{flat_map}
 use Rattle.http_send.specs.Replies.{stream_head_text, chunk_text, stream_end_text}
 use Rattle.line_stream.specs.Readers.{ReaderData}
@@ -36,3 +36,10 @@ abbrev pub StreamsReadBack : Type 0
 StreamsReadBack =
     (lines read : List (List ℕ)) (room : Option ℕ) (bytes more : List ℕ) (reader : ReaderData) → All IsLine lines
     → Stands room bytes read reader → bytes ++ more ≡ whole_stream lines → AreRead lines read reader
+
+-- of the lines that stand in some bytes, and in them and those that follow, the ones begin the others
+abbrev pub ReadingsAgree : Type 0
+ReadingsAgree =
+    (lines others : List (List ℕ)) (room bound : Option ℕ) (bytes more : List ℕ) (reader other : ReaderData)
+    → Stands room bytes lines reader → Stands bound (bytes ++ more) others other
+    → ((later : List (List ℕ)) × (others ≡ lines ++ later)) ⊎ ((later : List (List ℕ)) × (lines ≡ others ++ later))

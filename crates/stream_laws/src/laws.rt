@@ -10,6 +10,11 @@ pub fn streams_are_read_back()
     ensures read { law.StreamsReadBack }
 {}
 
+/// Of the lines that stand in some bytes, and in them and those that follow, the ones begin the others.
+pub fn readings_agree()
+    ensures { law.ReadingsAgree }
+{}
+
 /// From a reader, over some bytes, the reading of a line has one outcome: the line, the end of the body or one refusal;
 /// and it has that one however the bytes came in pieces.
 pub fn outcomes_agree()

@@ -4,4 +4,4 @@
 
 mod laws;
 
-pub use laws::{outcomes_agree, streams_are_read_back};
+pub use laws::{outcomes_agree, readings_agree, streams_are_read_back};
