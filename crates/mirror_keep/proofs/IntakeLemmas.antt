@@ -68,6 +68,16 @@ last_bound to (t ∷ kept) within next = omega (arith, within, (recursion_from_A
 
 -- ---- what stands
 
+-- where nothing is kept, and the keys are those that stand
+pub anew : (new : IntakeData) (log : Log) → new.to ≡ end_of log → new.kept ≡ [] → ((key : List ℕ) → has new.keys key ≡ is_some (row_at log Pods (end_of log) key)) → IsAtEnd new log
+anew new log end none keys = record {
+  end = end;
+  keys = λ key. keys key ∙ sym (or_false (is_some (row_at log Pods (end_of log) key)))
+      ∙ ap (λ (l : List TransitionData). is_some (row_at log Pods (end_of log) key) || tells Added l key) (sym none);
+  fits = subst (All (λ t. fits_kind t.kind (is_some (row_at log Pods (end_of log) t.obj.key)) ≡ true)) (sym none)
+      (All-nil (λ t. fits_kind t.kind (is_some (row_at log Pods (end_of log) t.obj.key)) ≡ true));
+}
+
 module _ (i : IntakeData) (is : IsIntake i) (log : Log) (at : IsAtEnd i log) where
   rows : Standing
   rows = row_at log Pods (end_of log)
@@ -110,13 +120,7 @@ module _ (i : IntakeData) (is : IsIntake i) (log : Log) (at : IsAtEnd i log) whe
       }
 
   pub forgets : (new : IntakeData) → new.to ≡ i.to → new.kept ≡ [] → ((key : List ℕ) → has new.keys key ≡ (has i.keys key && not (tells Added i.kept key))) → IsAtEnd new log
-  forgets new to none keys = record {
-    end = to ∙ at.end;
-    keys = λ key. keys key ∙ stands key ∙ sym (or_false (is_some (row_at log Pods (end_of log) key)))
-        ∙ ap (λ (l : List TransitionData). is_some (row_at log Pods (end_of log) key) || tells Added l key) (sym none);
-    fits = subst (All (λ t. fits_kind t.kind (is_some (row_at log Pods (end_of log) t.obj.key)) ≡ true)) (sym none)
-        (All-nil (λ t. fits_kind t.kind (is_some (row_at log Pods (end_of log) t.obj.key)) ≡ true));
-  }
+  forgets new to none keys = anew new log (to ∙ at.end) none (λ key. keys key ∙ stands key)
 
   or_assoc : (a b c : Bool) → ((a || b) || c) ≡ (a || (b || c))
   or_assoc true b c = refl

@@ -9,7 +9,7 @@ ghost use Rattle.select_all.specs.Listings.{row_told};
 ghost use Rattle.select_all.specs.Streams.{TransitionData};
 ghost use Rattle.mirror_law.specs.Mirrors.{IsRevisionTold, change_told, opened_log};
 ghost use Rattle.mirror_law.specs.Taking.{row_before};
-ghost use Rattle.mirror_keep.specs.Intakes.{IsAtEnd, IsClear, Keeps, most_kept};
+ghost use Rattle.mirror_keep.specs.Intakes.{IsAtEnd, IsClear, Keeps, has, most_kept};
 ghost use Rattle.mirror_keep.specs.Intakes as intakes;
 ghost use Rattle.mirror_keep.specs.Faults.{last_of, event_fault, mark_fault, is_full_at, is_repeated};
 
@@ -210,6 +210,19 @@ impl Intake {
         take_out(&mut self.keys, Kind::Deleted, &self.kept);
         self.kept.clear();
         self.to += 1;
+    }
+
+    /// Goes on behind another revision, at which the objects with these keys stand. The lines that are kept are
+    /// forgotten.
+    pub fn begin_anew(&mut self, keys: Keys, to: u64)
+        requires { to ≤ 2 ^ 62 }
+        ensures clears { IsClear self.old to self.new }
+        ensures at { (log : Log) → to ≡ end_of log →
+            ((key : List ℕ) → has keys key ≡ is_some (row_at log Pods (end_of log) key)) → IsAtEnd self.new log }
+    {
+        self.keys = keys;
+        self.kept.clear();
+        self.to = to;
     }
 
     /// Forgets the lines that are kept.

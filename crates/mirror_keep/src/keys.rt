@@ -14,10 +14,10 @@ use std::alloc::Global;
 use std::collections::BTreeSet;
 
 /// The keys of objects that stand.
-pub(crate) type Keys = BTreeSet<Key>;
+pub type Keys = BTreeSet<Key>;
 
 /// The keys of rows.
-pub(crate) fn keys_of(alloc: Global, rows: &[Row]) -> Result<Keys, Memory>
+pub fn keys_of(alloc: Global, rows: &[Row]) -> Result<Keys, Memory>
     ensures { IfOk result (λ keys. (key : List ℕ) → has keys key ≡ is_some (row_with rows.now key)) }
 {
     let mut keys = BTreeSet::new(alloc);

@@ -11,5 +11,6 @@ mod pending;
 mod refusal;
 
 pub use intake::Intake;
+pub use keys::{Keys, keys_of};
 pub use laws::{taken_events_fit, taken_marks_fit};
 pub use refusal::TakeNo;

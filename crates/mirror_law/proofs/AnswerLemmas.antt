@@ -52,6 +52,7 @@ pub mirrors_compose : MirrorsCompose
 mirrors_compose first second peer resource b c m n is order outer inner = record {
   log = inner.log;
   first = inner.first;
+  begun = inner.begun;
   reached = omega (arith, inner.reached, outer.reached);
   states = λ r rows from within.
       let lists = mirrors_answer_lists first second peer resource b r m rows is outer (omega (arith, order, from)) (omega (arith, within, inner.reached)) in

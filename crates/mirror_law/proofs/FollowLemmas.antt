@@ -25,9 +25,10 @@ use Rattle.watch_rules.specs.Bodies.{Line, Told, Bookmark, Closing, Lost, initia
 use Rattle.watch_rules.proofs.BookmarkLemmas.{closings_tell_the_start}
 use Rattle.mirror_law.specs.Mirrors.{IsMirrorBy, IsMirrorOf, opened_log, of_revision, AreToldBy}
 use Rattle.mirror_law.specs.Following.{told_since, upto_of, upto_in, MovesOn, kept_after, Follows}
-use Rattle.mirror_law.specs.Laws.{FollowingsBegin, FollowingsCommit, FollowingsHear, FollowingsMark, FollowingsResume}
+use Rattle.mirror_law.specs.Laws.{FollowingsBegin, FollowingsBeginAnew, FollowingsCommit, FollowingsHear, FollowingsMark, FollowingsResume}
 use Rattle.mirror_law.proofs.ListLemmas.{none_kept, all_kept}
-use Rattle.mirror_law.proofs.MirrorLemmas.{mirrors_begin, mirrors_go_on}
+use Rattle.mirror_law.proofs.MirrorLemmas.{mirrors_begin, mirrors_begin_anew, mirrors_go_on}
+use Rattle.mirror_law.proofs.RowLemmas.{rows_are_old}
 use Rattle.mirror_law.proofs.LineLemmas.{told_since-append, before_event, opening_old, body_told, body_within, bookmark_told}
 
 -- ---- up to where lines tell
@@ -205,7 +206,7 @@ followings_mark peer log_floor low b from s ask lines m kept at more is of follo
 pub followings_resume : FollowingsResume
 followings_resume peer b s m mirrors = record {
   mirrors = mirrors;
-  begun = omega (arith, mirrors.first);
+  begun = mirrors.begun;
   reached = refl;
   told = sym (append-nil (transitions peer s (end_of m) (end_of m)) ∙ no_transitions (selects s) peer s.resource (end_of m) (end_of m) (omega arith));
   next = All-nil (λ t. t.rev ≡ end_of m + 1);
@@ -251,16 +252,30 @@ opening_listed peer log_floor low b ask rows begins =
       found.reached,
     )
 
+-- a mirror that has come no further than the opening
+follows_opening : (peer : Log) (s : Selection) (b : ℕ) (m : Log) (rows : List RowData) → IsMirrorOf peer s b m → end_of m ≡ b → All (λ row. row.rev ≤ b) rows
+    → Follows peer s b b (initial_lines rows ++ Closing b ∷ []) m []
+follows_opening peer s b m rows mirrors end old =
+    let each = recursion_from_All (λ row. row.rev ≤ b) rows old in
+    record {
+      mirrors = mirrors;
+      begun = omega arith;
+      reached = omega (arith, end, opening_upto b rows each);
+      told = opening_since b rows (Closing b ∷ []) each ∙ sym (append-nil (transitions peer s b (end_of m)) ∙ no_transitions (selects s) peer s.resource b (end_of m) (omega (arith, end)));
+      next = All-nil (λ t. t.rev ≡ end_of m + 1);
+    }
+
 pub followings_begin : FollowingsBegin
 followings_begin peer log_floor low b s ask rows is of pods old begins =
     let listing = opening_listed peer log_floor low b ask rows begins in
     let listing_of : IsListing peer s b rows = subst (λ (u : Selection). IsListing peer u b rows) of listing.0 in
     let of_pods : IsListingBy (selects s) peer Pods b rows = subst (λ (r : Resource). IsListingBy (selects s) peer r b rows) pods listing_of in
-    let each = recursion_from_All (λ row. row.rev ≤ b) rows old in
-    record {
-      mirrors = subst (λ (r : Resource). IsMirrorBy (selects s) peer r b (opened_log b rows)) (sym pods) (mirrors_begin (selects s) peer b rows is listing.1 of_pods old);
-      begun = omega arith;
-      reached = omega (arith, opening_upto b rows each);
-      told = opening_since b rows (Closing b ∷ []) each ∙ sym (append-nil (transitions peer s b (b + 0)) ∙ no_transitions (selects s) peer s.resource b (b + 0) (omega arith));
-      next = All-nil (λ t. t.rev ≡ b + 0 + 1);
-    }
+    follows_opening peer s b (opened_log b rows) rows
+    (subst (λ (r : Resource). IsMirrorBy (selects s) peer r b (opened_log b rows)) (sym pods) (mirrors_begin (selects s) peer b rows is listing.1 of_pods old)) (omega arith) old
+
+pub followings_begin_anew : FollowingsBeginAnew
+followings_begin_anew peer log_floor low b s ask m rows is of log end state begins =
+    let listing = opening_listed peer log_floor low b ask rows begins in
+    let listing_of : IsListing peer s b rows = subst (λ (u : Selection). IsListing peer u b rows) of listing.0 in
+    follows_opening peer s b m rows (mirrors_begin_anew (selects s) peer s.resource b m rows is log end listing.1 state listing_of) end
+    (rows_are_old m s.resource b rows log (omega (arith, end)) state)

@@ -27,7 +27,7 @@ use Rattle.select_all.proofs.ListingLaws.{listing_by_key, listings_are_by_key}
 use Rattle.select_all.proofs.OrderLaws.{all_mapped, events_are, transitions_in_order, same_number}
 use Rattle.select_all.proofs.StreamLaws.{transitions_are_joined, transitions_are_kept, no_transitions}
 use Rattle.mirror_law.specs.Mirrors.{both, IsMirrorBy, opened_log, change_told, IsRevisionTold, of_revision, AreToldBy}
-use Rattle.mirror_law.specs.Laws.{MirrorsBegin, MirrorsGoOn}
+use Rattle.mirror_law.specs.Laws.{MirrorsBegin, MirrorsBeginAnew, MirrorsGoOn}
 use Rattle.mirror_law.proofs.ListLemmas.{none_kept, all_kept, sorted_alike}
 use Rattle.mirror_law.proofs.RowLemmas.{bases_are_states, logs_go_on}
 use Rattle.mirror_law.proofs.EchoLemmas.{IsEventOf, rows_changed, all_echo}
@@ -132,9 +132,6 @@ module _ (test : Obj → Bool) (peer : Log) (resource : Resource) (b : ℕ) (m :
   longer : end_of (grown m (revision ∷ [])) ≡ end_of m + 1
   longer = omega (arith, length-append m.revisions (revision ∷ []))
 
-  from_start : b ≤ end_of m
-  from_start = omega (arith, mirrors.first)
-
   -- what stands there
   row_next_is : (key : List ℕ) → row_at (grown m (revision ∷ [])) resource (end_of m + 1) key ≡ shown_by test (row_at peer resource (end_of m + 1) key)
   row_next_is key =
@@ -144,7 +141,7 @@ module _ (test : Obj → Bool) (peer : Log) (resource : Resource) (b : ℕ) (m :
       ∙ ap (λ (changes : List ChangeData). fold (row_after resource key revision.rev) (row_at m resource e key) changes) (changes_are test peer resource e revision is told)
       ∙ ap (λ (n : ℕ). fold (row_after resource key n) (row_at m resource e key) (map (change_told resource) ts)) told.number
       ∙ rows_changed resource key (e + 1) (row_at m resource e key) ts (numbered_one test peer resource e is)
-      ∙ ap (λ (row : Option RowData). fold (row_told key) row ts) (stands test peer resource b m mirrors e key from_start (omega arith))
+      ∙ ap (λ (row : Option RowData). fold (row_told key) row ts) (stands test peer resource b m mirrors e key mirrors.begun (omega arith))
       ∙ followed test peer resource e (e + 1) key is (omega arith)
 
   stands_next : StandsBy test peer resource b (grown m (revision ∷ []))
@@ -177,7 +174,7 @@ module _ (test : Obj → Bool) (peer : Log) (resource : Resource) (b : ℕ) (m :
       ∙ ap (λ (changes : List ChangeData). filter_map (transition_by other) (filter_map (event_of resource (row_at m resource e) revision.rev) changes)) (changes_are test peer resource e revision is told)
       ∙ ap (λ (n : ℕ). filter_map (transition_by other) (filter_map (event_of resource (row_at m resource e) n) (map (change_told resource) ts))) told.number
       ∙ all_echo test other resource (e + 1) (row_at m resource e) (row_at peer resource e)
-      (λ key. stands test peer resource b m mirrors e key from_start (omega arith)) (events peer resource e (e + 1)) (one_revision peer resource e is)
+      (λ key. stands test peer resource b m mirrors e key mirrors.begun (omega arith)) (events peer resource e (e + 1)) (one_revision peer resource e is)
 
   streams_next : (other : Obj → Bool) (x y : ℕ) → b ≤ x → x ≤ y → y ≤ end_of (grown m (revision ∷ []))
       → transitions_by other (grown m (revision ∷ [])) resource x y ≡ transitions_by (both test other) peer resource x y
@@ -201,6 +198,7 @@ module _ (test : Obj → Bool) (peer : Log) (resource : Resource) (b : ℕ) (m :
   one_more = record {
     log = logs_go_on m revision mirrors.log told.is told.number (omega (arith, within, is.ends));
     first = mirrors.first;
+    begun = omega (arith, longer, mirrors.begun);
     reached = omega (arith, longer, within);
     states = states_are test peer resource b (grown m (revision ∷ [])) is stands_next;
     streams = streams_next;
@@ -208,20 +206,27 @@ module _ (test : Obj → Bool) (peer : Log) (resource : Resource) (b : ℕ) (m :
 
 -- ---- the beginning
 
+-- a log that has the listing at its end
+pub mirrors_begin_anew : MirrorsBeginAnew
+mirrors_begin_anew test peer resource b m rows is log end reached state listing =
+    let by = listing_by_key test peer resource b rows listing in
+    let here : StandsBy test peer resource b m = λ r key from within.
+    let at : b ≡ r = omega (arith, from, within, end) in
+    subst (λ n. row_at m resource n key ≡ shown_by test (row_at peer resource n key)) at (sym (state.exact key) ∙ by.exact key) in
+    record {
+      log = log;
+      first = omega (arith, end);
+      begun = omega (arith, end);
+      reached = omega (arith, end, reached);
+      states = states_are test peer resource b m is here;
+      streams = λ other x y from order within. no_transitions other m resource x y (omega (arith, from, within, end)) ∙ sym (no_transitions (both test other) peer resource x y (omega (arith, from, within, end)));
+    }
+
 pub mirrors_begin : MirrorsBegin
 mirrors_begin test peer b rows is reached listing old =
     let by = listing_by_key test peer Pods b rows listing in
-    let opened : Log = opened_log b rows in
-    let here : StandsBy test peer Pods b opened = λ r key from within.
-    let at : b ≡ r = omega (arith, from, within) in
-    subst (λ n. row_at opened Pods n key ≡ shown_by test (row_at peer Pods n key)) at (sym ((bases_are_states b b rows by.rising).exact key) ∙ by.exact key) in
-    record {
-      log = record { base_rising = by.rising; base_old = old; numbered = tt; revisions = λ k d inside. absurd (omega (arith, inside)); ends = omega (arith, reached, is.ends) };
-      first = refl;
-      reached = omega (arith, reached);
-      states = states_are test peer Pods b opened is here;
-      streams = λ other x y from order within. no_transitions other opened Pods x y (omega (arith, from, within)) ∙ sym (no_transitions (both test other) peer Pods x y (omega (arith, from, within)));
-    }
+    let log : IsLog (opened_log b rows) = record { base_rising = by.rising; base_old = old; numbered = tt; revisions = λ k d inside. absurd (omega (arith, inside)); ends = omega (arith, reached, is.ends) } in
+    mirrors_begin_anew test peer Pods b (opened_log b rows) rows is log (omega arith) reached (bases_are_states b b rows by.rising) listing
 
 -- ---- a stretch
 

@@ -82,6 +82,13 @@ MirrorsBegin =
     (test : Obj → Bool) (peer : Log) (b : ℕ) (rows : List RowData) → IsLog peer → b ≤ end_of peer →
     IsListingBy test peer Pods b rows → All (λ row. row.rev ≤ b) rows → IsMirrorBy test peer Pods b (opened_log b rows)
 
+-- so does a log of which the state at its end is the peer's listing there, whatever it had before
+abbrev pub MirrorsBeginAnew : Type 0
+MirrorsBeginAnew =
+    (test : Obj → Bool) (peer : Log) (resource : Resource) (b : ℕ) (m : Log) (rows : List RowData) →
+    IsLog peer → IsLog m → end_of m ≡ b → b ≤ end_of peer →
+    IsStateAt m resource b rows → IsListingBy test peer resource b rows → IsMirrorBy test peer resource b m
+
 -- it goes on by revisions that the peer's log has reached, each that of the transitions told at its number
 abbrev pub MirrorsGoOn : Type 0
 MirrorsGoOn =
@@ -122,6 +129,14 @@ FollowingsBegin =
     IsLog peer → ask.selection ≡ s → s.resource ≡ Pods → All (λ row. row.rev ≤ b) rows →
     let lines : List Line = initial_lines rows ++ Closing b ∷ [] in BeginsBody peer log_floor low ask b lines →
     Follows peer s b b lines (opened_log b rows) []
+
+-- so does a log that has these rows at its end, whatever it had before
+abbrev pub FollowingsBeginAnew : Type 0
+FollowingsBeginAnew =
+    (peer : Log) (log_floor low b : ℕ) (s : Selection) (ask : WatchAsk) (m : Log) (rows : List RowData) →
+    IsLog peer → ask.selection ≡ s → IsLog m → end_of m ≡ b → IsStateAt m s.resource b rows →
+    let lines : List Line = initial_lines rows ++ Closing b ∷ [] in BeginsBody peer log_floor low ask b lines →
+    Follows peer s b b lines m []
 
 -- what a mirror keeps may be committed up to where the next line of a lawful body says, in whole or in part: any
 -- beginning of these revisions leaves a mirror

@@ -18,10 +18,12 @@ abbrev pub both : (Obj → Bool) → (Obj → Bool) → Obj → Bool
 both first second obj = first obj && second obj
 
 -- From revision b on, up to its own end, m has of a resource what the peer has of the objects that pass the test: its
--- states are the peer's listings, and a stream of m by another test is the peer's by both.
+-- states are the peer's listings, and a stream of m by another test is the peer's by both. Nothing is said of what m
+-- had below b.
 pub record IsMirrorBy (test : Obj → Bool) (peer : Log) (resource : Resource) (b : ℕ) (m : Log) : Type 0 where
   pub log : IsLog m
-  pub first : m.first ≡ b
+  pub first : m.first ≤ b
+  pub begun : b ≤ end_of m
   pub reached : end_of m ≤ end_of peer
   pub states : (r : ℕ) (rows : List RowData) → b ≤ r → r ≤ end_of m →
       IsStateAt m resource r rows ↔ IsListingBy test peer resource r rows

@@ -1,6 +1,6 @@
 //! Laws of mirrors.
 
-ghost use Rattle.mirror_law.specs.Laws.{BasesAreStates, LogsGoOn, RowsAreOld, FewAtOnce, BeginningsTellTheStream, ToldRevisionsAreOne, EmptyRevisionsAreTold, ToldRevisionsGoOn, MirrorsBegin, MirrorsGoOn, MirrorsAnswerLists, MirrorsAnswerWatches, MirrorsCompose, FollowingsBegin, FollowingsCommit, FollowingsHear, FollowingsMark, FollowingsResume, OpeningsAreTaken, LawfulLinesAreTaken, LinesAreReached};
+ghost use Rattle.mirror_law.specs.Laws.{BasesAreStates, LogsGoOn, RowsAreOld, FewAtOnce, BeginningsTellTheStream, ToldRevisionsAreOne, EmptyRevisionsAreTold, ToldRevisionsGoOn, MirrorsBegin, MirrorsBeginAnew, MirrorsGoOn, MirrorsAnswerLists, MirrorsAnswerWatches, MirrorsCompose, FollowingsBegin, FollowingsBeginAnew, FollowingsCommit, FollowingsHear, FollowingsMark, FollowingsResume, OpeningsAreTaken, LawfulLinesAreTaken, LinesAreReached};
 
 // ---- logs
 
@@ -53,6 +53,11 @@ pub fn mirrors_begin()
     ensures { MirrorsBegin }
 {}
 
+/// A log that has the peer's listing at its end is a mirror from there on.
+pub fn mirrors_begin_anew()
+    ensures { MirrorsBeginAnew }
+{}
+
 /// A mirror goes on by the revisions of what is told.
 pub fn mirrors_go_on()
     ensures { MirrorsGoOn }
@@ -78,6 +83,11 @@ pub fn mirrors_compose()
 /// A mirror that begins with the rows of an opening follows its lines.
 pub fn followings_begin()
     ensures { FollowingsBegin }
+{}
+
+/// A log that has the rows of an opening at its end follows its lines.
+pub fn followings_begin_anew()
+    ensures { FollowingsBeginAnew }
 {}
 
 /// Any beginning of what a line commits leaves a mirror.

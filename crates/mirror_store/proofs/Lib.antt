@@ -3,3 +3,4 @@ pub mod MoveLemmas
 pub mod FaultLemmas
 pub mod StepLemmas
 pub mod LineLemmas
+pub mod RebaseLemmas

@@ -25,44 +25,55 @@ stays base p q to on within =
 pub seen_on : (p q : Pass RevisionData) → Extends p q → end_from p.first p.seen ≤ end_from q.first q.seen
 seen_on p q on = omega (arith, on.log_is, prefix_length p.seen q.seen on.seen_on)
 
--- ---- a revision that was added
+-- ---- revisions that were added
 
 no_more : (xs ys : List RevisionData) (more : List RevisionData) → xs ++ more ≡ ys → length ys ≡ length xs → ys ≡ xs
 no_more xs ys [] is same = sym is ∙ append-nil xs
 no_more xs ys (r ∷ more) is same = absurd (omega (arith, same, ap length is, length-append xs (r ∷ more)))
 
-module _ (base : List RowData) (p q : Pass RevisionData) (r : RevisionData) (to rev : ℕ)
-    (pass : IsPass Fits p) (on : Extends p q) (within : to ≤ end_from p.first p.seen) (number : r.rev ≡ to + 1) (heard : IsHeard base p r rev q) where
-  last : end_of heard.before ≡ to
-  last = omega (arith, heard.next, number)
-
+module _ (base : List RowData) (p q : Pass RevisionData) (more : List RevisionData) (to : ℕ) (before : Log)
+    (pass : IsPass Fits p) (on : Extends p q) (within : to ≤ end_from p.first p.seen) (shown : p.shown ≤ end_of before) (last : end_of before ≡ to) (committed : log_of base q ≡ grown before more) where
   reached : end_from p.first p.seen ≡ to
-  reached = omega (arith, pass.within, heard.shown, last, within)
+  reached = omega (arith, pass.within, shown, last, within)
 
-  all : q.seen ≡ heard.before.revisions ++ r ∷ []
-  all = ap (λ (log : Log). log.revisions) heard.committed
+  all : q.seen ≡ before.revisions ++ more
+  all = ap (λ (log : Log). log.revisions) committed
 
-  first : heard.before.first ≡ p.first
-  first = sym (ap (λ (log : Log). log.first) heard.committed) ∙ on.log_is
+  first : before.first ≡ p.first
+  first = sym (ap (λ (log : Log). log.first) committed) ∙ on.log_is
 
-  same : heard.before.revisions ≡ p.seen
+  same : before.revisions ≡ p.seen
   same =
-      let long : length heard.before.revisions ≡ length p.seen = omega (arith, last, reached, first) in
-      let begins = prefix_shorter p.seen heard.before.revisions q.seen on.seen_on (r ∷ [], sym all) (omega (arith, long)) in
-      no_more p.seen heard.before.revisions begins.0 begins.1 long
+      let long : length before.revisions ≡ length p.seen = omega (arith, last, reached, first) in
+      let begins = prefix_shorter p.seen before.revisions q.seen on.seen_on (more, sym all) (omega (arith, long)) in
+      no_more p.seen before.revisions begins.0 begins.1 long
 
-  -- it is the one behind the end
-  pub heard_next : log_upto base q (to + 1) ≡ grown (log_upto base p to) (r ∷ [])
-  heard_next =
-      let now : q.seen ≡ p.seen ++ r ∷ [] = all ∙ ap (λ (revisions : List RevisionData). revisions ++ r ∷ []) same in
-      let long : end_from q.first q.seen ≤ to + 1 = omega (arith, on.log_is, reached, ap length now, length-append p.seen (r ∷ [])) in
-      whole base q (to + 1) long
+  now : q.seen ≡ p.seen ++ more
+  now = all ∙ ap (λ (revisions : List RevisionData). revisions ++ more) same
+
+  -- they are those behind the end
+  pub added : log_upto base q (to + length more) ≡ grown (log_upto base p to) more
+  added =
+      let long : end_from q.first q.seen ≤ to + length more = omega (arith, on.log_is, reached, ap length now, length-append p.seen more) in
+      whole base q (to + length more) long
       ∙ ap (λ (n : ℕ). let log : Log = record { first = n; base = base; revisions = q.seen } in log) on.log_is
       ∙ ap (λ (revisions : List RevisionData). let log : Log = record { first = p.first; base = base; revisions = revisions } in log) now
-      ∙ ap (λ (log : Log). grown log (r ∷ [])) (sym (whole base p to (omega (arith, reached))))
+      ∙ ap (λ (log : Log). grown log more) (sym (whole base p to (omega (arith, reached))))
+
+  pub added_to : end_from q.first q.seen ≡ to + length more
+  added_to = omega (arith, on.log_is, reached, ap length now, length-append p.seen more)
+
+-- it is the one behind the end
+module _ (base : List RowData) (p q : Pass RevisionData) (r : RevisionData) (to rev : ℕ)
+    (pass : IsPass Fits p) (on : Extends p q) (within : to ≤ end_from p.first p.seen) (number : r.rev ≡ to + 1) (heard : IsHeard base p r rev q) where
+  last_heard : end_of heard.before ≡ to
+  last_heard = omega (arith, heard.next, number)
+
+  pub heard_next : log_upto base q (to + 1) ≡ grown (log_upto base p to) (r ∷ [])
+  heard_next = added base p q (r ∷ []) to heard.before pass on within heard.shown last_heard heard.committed
 
   pub heard_to : end_from q.first q.seen ≡ to + 1
-  heard_to = omega (arith, on.log_is, reached, ap length (all ∙ ap (λ (revisions : List RevisionData). revisions ++ r ∷ []) same), length-append p.seen (r ∷ []))
+  heard_to = added_to base p q (r ∷ []) to heard.before pass on within heard.shown last_heard heard.committed
 
 -- a revision that isn't the one behind the store's end: that is above the mirror's
 pub passed : (p : Pass RevisionData) (to at : ℕ) → IsPass Fits p → to ≤ end_from p.first p.seen → p.shown ≤ at → ¬ (to + 1 ≡ at + 1) → to < at

@@ -1,2 +1,3 @@
 pub mod MirrorLogs
 pub mod Kept
+pub mod Rebasing

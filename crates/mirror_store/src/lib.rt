@@ -2,7 +2,8 @@
 #![tactic(auto)]
 
 mod mirror_log;
+mod rebasing;
 mod refusal;
 
 pub use mirror_log::MirrorLog;
-pub use refusal::MirrorNo;
+pub use refusal::{MirrorNo, RebaseNo};

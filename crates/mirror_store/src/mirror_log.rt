@@ -26,10 +26,10 @@ use up_store::{Store, StoreDoor};
 /// watch are kept until they are known to be all those of their revision.
 #[derive(Drop)]
 pub struct MirrorLog<N: LogFacts, R: Wait + Copy> {
-    alloc: Global,
-    door: StoreDoor<N, R>,
-    told: Pass<N>,
-    intake: Intake,
+    pub(crate) alloc: Global,
+    pub(crate) door: StoreDoor<N, R>,
+    pub(crate) told: Pass<N>,
+    pub(crate) intake: Intake,
 }
 
 impl<N: LogFacts, R: Wait + Copy> Model for MirrorLog<N, R> {
