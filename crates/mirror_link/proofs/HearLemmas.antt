@@ -43,6 +43,7 @@ IsOfLine no.CutShort = ⊥
 IsOfLine no.ReadFault = ⊥
 IsOfLine no.WriteFault = ⊥
 IsOfLine no.TooLong = ⊥
+IsOfLine no.OtherLog = ⊥
 IsOfLine (no.Passed to at) = ⊥
 IsOfLine no.Memory = ⊥
 
@@ -158,6 +159,8 @@ module _ (old new : MirrorData) (text : List ℕ) (back : LinesReadBack) (mirror
     hears_text (Err no.WriteFault) (inr (found, reads, (fault, same))) = absurd (of_line (log_part old) found no.WriteFault fault)
     hears_text (Err no.TooLong) (inl memory) = absurd (cc (memory.0))
     hears_text (Err no.TooLong) (inr (found, reads, (fault, same))) = absurd (of_line (log_part old) found no.TooLong fault)
+    hears_text (Err no.OtherLog) (inl memory) = absurd (cc (memory.0))
+    hears_text (Err no.OtherLog) (inr (found, reads, (fault, same))) = absurd (of_line (log_part old) found no.OtherLog fault)
     hears_text (Err no.BadChunk) (inl memory) = absurd (cc (memory.0))
     hears_text (Err no.BadChunk) (inr (found, reads, (fault, same))) = absurd (of_line (log_part old) found no.BadChunk fault)
     hears_text (Err no.CutShort) (inl memory) = absurd (cc (memory.0))

@@ -3,3 +3,4 @@ pub mod HearLemmas
 pub mod LineLemmas
 pub mod CallLemmas
 pub mod BeginLemmas
+pub mod ReopenLemmas

@@ -97,6 +97,7 @@ stays_read old new read no.CutShort hears = unmoved old new hears.1
 stays_read old new read no.ReadFault hears = unmoved old new hears.1
 stays_read old new read no.WriteFault hears = unmoved old new hears.1
 stays_read old new read no.TooLong hears = unmoved old new hears.1
+stays_read old new read no.OtherLog hears = unmoved old new hears.1
 
 pub stays : (old new : MirrorLogData) (text : List ℕ) (result : Result Heard LinkNo) → HearsText old text result new → Stays old new
 stays old new text (Ok (heard.Line to)) (found, reads, hears) = whole old new found hears.0

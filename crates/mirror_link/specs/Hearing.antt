@@ -104,6 +104,7 @@ Hears old taken left (Err no.BadHead) new = ⊥
 Hears old taken left (Err (no.Refused code)) new = ⊥
 Hears old taken left (Err no.WriteFault) new = ⊥
 Hears old taken left (Err no.TooLong) new = ⊥
+Hears old taken left (Err no.OtherLog) new = ⊥
 Hears old taken left (Err no.Memory) new =
     (Rests old new × (HasNoLine old taken left no.Memory new ⊎ LacksMemory old taken new)) ⊎ HearsSome old taken no.Memory new
 Hears old taken left (Err why) new = Rests old new × (HasNoLine old taken left why new ⊎ HasBadLine old taken why new)

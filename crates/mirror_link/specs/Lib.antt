@@ -4,4 +4,5 @@ pub mod Peers
 pub mod Lines
 pub mod Hearing
 pub mod Beginning
+pub mod Reopening
 pub mod Laws

@@ -3,9 +3,11 @@ use Rattle.std.specs.Prelude.{ℕ, Option, None, Some, Result, Ok, Err}
 use Rattle.mirror_keep.specs.declared.refusal.TakeNo.{TakeNo}
 use Rattle.mirror_keep.specs.declared.refusal.TakeNo.TheVariants as take
 use Rattle.mirror_opening.specs.declared.refusal.LinkNo.{LinkNo}
-use Rattle.mirror_opening.specs.declared.refusal.LinkNo.TheVariants.{BadLine, Order, Gap, Passed, Memory}
+use Rattle.mirror_opening.specs.declared.refusal.LinkNo.TheVariants.{BadLine, Order, Gap, OtherLog, Passed, Memory}
 use Rattle.mirror_store.specs.declared.refusal.MirrorNo.{MirrorNo}
 use Rattle.mirror_store.specs.declared.refusal.MirrorNo.TheVariants as mirror
+use Rattle.mirror_store.specs.declared.refusal.RebaseNo.{RebaseNo}
+use Rattle.mirror_store.specs.declared.refusal.RebaseNo.TheVariants as rebase
 use Rattle.mirror_link.specs.declared.heard.Heard.{Heard}
 use Rattle.mirror_link.specs.declared.heard.Heard.TheVariants.{Line, Ended}
 
@@ -20,6 +22,14 @@ abbrev pub hearing_refusal : ℕ → MirrorNo → LinkNo
 hearing_refusal to (mirror.Refused why) = taking_refusal why
 hearing_refusal to (mirror.Passed at) = Passed to at
 hearing_refusal to mirror.Memory = Memory
+
+-- why a mirror's log, which ends at `to`, isn't taken to an opening at `base`
+abbrev pub rebasing_refusal : ℕ → ℕ → RebaseNo → LinkNo
+rebasing_refusal to base (rebase.Behind end) = OtherLog
+rebasing_refusal to base rebase.OtherLog = OtherLog
+rebasing_refusal to base rebase.TooFar = Gap to base
+rebasing_refusal to base (rebase.Passed at) = Passed to at
+rebasing_refusal to base rebase.Memory = Memory
 
 -- the answer that is given again: each but that a line was heard
 abbrev pub kept_answer : Result Heard LinkNo → Option (Result Heard LinkNo)

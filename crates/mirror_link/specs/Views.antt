@@ -1,10 +1,12 @@
 -- What contracts see of a mirror.
-use Rattle.std.specs.Prelude.{◌≡◌, ℕ, ◌≤◌, List, Option, None, Result}
+use Rattle.std.specs.Prelude.{◌≡◌, ℕ, ◌≤◌, List, Option, None, Result, IfSome}
+use Rattle.kube_meta.specs.Names.{IsNamespace}
 use Rattle.kube_meta.specs.declared.resources.Resource.TheVariants.{Pods}
 use Rattle.line_stream.specs.Readers.{ReaderData}
 use Rattle.rev_front.specs.Passes.{Pass}
 use Rattle.rev_log.specs.Changes.{RevisionData}
 use Rattle.rev_log.specs.Logs.{Log, grown}
+use Rattle.select_all.specs.Reading.{IsRead}
 use Rattle.select_all.specs.declared.selection.Selection.{Selection}
 use Rattle.select_all.specs.Streams.{TransitionData}
 use Rattle.mirror_opening.specs.declared.refusal.LinkNo.{LinkNo}
@@ -23,9 +25,12 @@ pub record MirrorData : Type 0 where
   pub reading : ReaderData
   pub answer : Option (Result Heard LinkNo)
 
--- What holds of each: it is of pods; its log begins at a revision from 1 on; and its reading has no bound.
+-- What holds of each: it is of pods, and its selection is read from its texts; its log begins at a revision from 1 on;
+-- and its reading has no bound.
 pub record IsMirror (m : MirrorData) : Type 0 where
   pub pods : m.selection.resource ≡ Pods
+  pub read : IsRead Pods m.selection.ns m.label m.field m.selection
+  pub namespace : IfSome m.selection.ns IsNamespace
   pub some : 1 ≤ m.log.first
   pub unbound : m.reading.room ≡ None
 

@@ -8,18 +8,20 @@ ghost use Rattle.mirror_link.specs.Beginning.{Begins, IsBegun, resume_request};
 ghost use Rattle.mirror_link.specs.Hearing.{FollowsIn, Hears};
 ghost use Rattle.mirror_link.specs.Peers.{IsAskOf, IsPeer};
 ghost use Rattle.mirror_link.specs.Refusals as refusals;
+ghost use Rattle.mirror_link.specs.Reopening.{Reopens, TakesOpening, opening_request};
 ghost use Rattle.mirror_link.specs.Views.{IsMoved};
 ghost use Rattle.mirror_opening.specs.Asking.{CountsReads, CountsWrites, IsAsked};
-ghost use Rattle.mirror_opening.specs.Openings.{opened_lines};
+ghost use Rattle.mirror_opening.specs.Openings.{IsOpeningOf, opened_lines};
+ghost use Rattle.mirror_opening.specs.Reading.{Opens};
 ghost use Rattle.rev_log.specs.Changes.{RevisionData};
 ghost use Rattle.rev_log.specs.Logs.{IsLog, Log, end_of, grown};
-ghost use Rattle.up_api.specs.Sections.{log_upto};
+ghost use Rattle.up_api.specs.Sections.{Learns, log_upto};
 ghost use Rattle.watch_rules.specs.Bodies.{BeginsBody};
 ghost use Rattle.watch_rules.specs.declared.ask.WatchAsk.{WatchAsk as Ask};
 
 use crate::Heard;
 use crate::lines::take_line;
-use crate::refusals::kept_answer;
+use crate::refusals::{kept_answer, rebasing_refusal};
 use ask_watch::{Start, ask_watch};
 use edge_io::{Sink, Source};
 use kube_meta::{Memory, Text};
@@ -220,5 +222,76 @@ impl<N: LogFacts, R: Wait + Copy> Mirror<N, R> {
             Err(why) => Some(Err(why)),
         };
         asked
+    }
+
+    // Reads the peer's opening, for the mirror's own selection.
+    fn read_opening<S: Source, K: Sink>(
+        &self,
+        source: &mut S,
+        sink: &mut K,
+    ) -> Result<Opening, LinkNo>
+        ensures asks { IsAsked (opening_request self.now) result (K.written sink.old) (K.written sink.new) }
+        ensures settled { OnOk result (K.settled sink.new) }
+        ensures reads { (taken : List ℕ) × (S.left source.old ≡ prepended taken (S.left source.new))
+            × Opens self.now.selection taken (S.left source.new) result }
+        ensures kept { IfOk result (λ o. o.selection ≡ self.now.selection) }
+        ensures read_faults { CountsReads result (S.faults source.old) (S.faults source.new) }
+        ensures write_faults { CountsWrites result (K.faults sink.old) (K.faults sink.new) }
+    {
+        let Ok(selection) = self.log.selection().copy(self.alloc) else {
+            return Err(LinkNo::Memory);
+        };
+        let (label, field) = (self.label.as_str(), self.field.as_str());
+        Opening::read(self.alloc, selection, label, field, source, sink)
+    }
+
+    // Goes on from an opening of its selection.
+    fn take_opening(&mut self, opening: Opening) -> Result<(), LinkNo>
+        requires { opening.selection ≡ self.old.selection }
+        ensures lawful { IsOpeningOf opening }
+        ensures learns { Learns self.old.told self.new.told }
+        ensures takes { TakesOpening self.old opening result self.new }
+        ensures answer { self.new.answer ≡ refusals.asked_answer result }
+    {
+        let base = opening.base();
+        let parts = opening.into_parts();
+        let to = self.log.to();
+        match self.log.rebase(&parts.rows, base) {
+            Ok(_) => {
+                // That this is a log, the proof learns where it reads the end.
+                self.log.to();
+                self.reader = parts.reader;
+                self.answer = None;
+                Ok(())
+            }
+            Err(why) => {
+                let why = rebasing_refusal(to, base, why);
+                self.answer = Some(Err(why));
+                Err(why)
+            }
+        }
+    }
+
+    /// Begins anew over a new connection: asks the peer for its pods as they are now, takes the log to them in one
+    /// step, and goes on behind them. What the log has in between was never served, and nothing below the new base is
+    /// any more. An opening that is behind the log's end, or doesn't fit what stands there, is of another log:
+    /// [`LinkNo::OtherLog`].
+    pub fn reopen<S: Source, K: Sink>(&mut self, source: &mut S, sink: &mut K) -> Result<(), LinkNo>
+        ensures asks { IsAsked (opening_request self.old) result (K.written sink.old) (K.written sink.new) }
+        ensures settled { OnOk result (K.settled sink.new) }
+        ensures reads { (taken : List ℕ) × (S.left source.old ≡ prepended taken (S.left source.new))
+            × Reopens self.old taken (S.left source.new) result self.new }
+        ensures learns { Learns self.old.told self.new.told }
+        ensures answer { self.new.answer ≡ refusals.asked_answer result }
+        ensures read_faults { CountsReads result (S.faults source.old) (S.faults source.new) }
+        ensures write_faults { CountsWrites result (K.faults sink.old) (K.faults sink.new) }
+    {
+        match self.read_opening(source, sink) {
+            Ok(opening) => self.take_opening(opening),
+            Err(why) => {
+                self.answer = Some(Err(why));
+                Err(why)
+            }
+        }
     }
 }

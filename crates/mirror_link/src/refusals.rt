@@ -6,7 +6,7 @@ ghost use Rattle.mirror_link.specs.Refusals as refusals;
 use crate::Heard;
 use mirror_keep::TakeNo;
 use mirror_opening::LinkNo;
-use mirror_store::MirrorNo;
+use mirror_store::{MirrorNo, RebaseNo};
 
 // Why a line isn't taken.
 fn taking_refusal(why: TakeNo) -> LinkNo
@@ -27,6 +27,21 @@ pub(crate) fn hearing_refusal(to: u64, why: MirrorNo) -> LinkNo
         MirrorNo::Refused(why) => taking_refusal(why),
         MirrorNo::Passed { at } => LinkNo::Passed { to, at },
         MirrorNo::Memory => LinkNo::Memory,
+    }
+}
+
+/// Why a mirror's log, which ends at `to`, isn't taken to an opening at `base`.
+pub(crate) fn rebasing_refusal(to: u64, base: u64, why: RebaseNo) -> LinkNo
+    ensures { result ≡ refusals.rebasing_refusal to base why }
+{
+    match why {
+        RebaseNo::Behind { .. } | RebaseNo::OtherLog => LinkNo::OtherLog,
+        RebaseNo::TooFar => LinkNo::Gap {
+            last: to,
+            got: base,
+        },
+        RebaseNo::Passed { at } => LinkNo::Passed { to, at },
+        RebaseNo::Memory => LinkNo::Memory,
     }
 }
 

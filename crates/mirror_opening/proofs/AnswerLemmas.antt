@@ -18,7 +18,7 @@ use Rattle.mirror_opening.specs.Asking.{IsAsked, CountsReads, CountsWrites}
 use Rattle.mirror_opening.specs.Reading.{Adds, HasNoRows, HasNoOpening, opening_fault, is_next, are_upto}
 use Rattle.mirror_opening.specs.Refusals.{reading_refusal, asking_refusal}
 use Rattle.mirror_opening.specs.declared.refusal.LinkNo.{LinkNo}
-use Rattle.mirror_opening.specs.declared.refusal.LinkNo.TheVariants.{BadHead, BadChunk, BadLine, Order, Gap, Refused, Told, CutShort, ReadFault, WriteFault, TooLong, Passed, Memory}
+use Rattle.mirror_opening.specs.declared.refusal.LinkNo.TheVariants.{BadHead, BadChunk, BadLine, Order, Gap, Refused, Told, CutShort, ReadFault, WriteFault, TooLong, OtherLog, Passed, Memory}
 
 -- the count of a source by a refusal of its reader
 pub counts_reads : (A B : Type 0) (fault : LineNo) (old new : ℕ) → Counts {A = A} (Err fault) old new → CountsReads {A = B} (Err (reading_refusal fault)) old new
@@ -45,6 +45,7 @@ quiet A CutShort old new other same = same
 quiet A ReadFault old new other same = absurd (other refl)
 quiet A WriteFault old new other same = same
 quiet A TooLong old new other same = same
+quiet A OtherLog old new other same = same
 quiet A (Passed to at) old new other same = same
 quiet A Memory old new other same = same
 
@@ -61,6 +62,7 @@ quiet_sink A CutShort old new other same = same
 quiet_sink A ReadFault old new other same = same
 quiet_sink A WriteFault old new other same = absurd (other refl)
 quiet_sink A TooLong old new other same = same
+quiet_sink A OtherLog old new other same = same
 quiet_sink A (Passed to at) old new other same = same
 quiet_sink A Memory old new other same = same
 
@@ -77,6 +79,7 @@ asked A text CutShort old new sent = sent
 asked A text ReadFault old new sent = sent
 asked A text WriteFault old new sent = AppendedSome-whole old new text sent
 asked A text TooLong old new sent = sent
+asked A text OtherLog old new sent = sent
 asked A text (Passed to at) old new sent = sent
 asked A text Memory old new sent = AppendedSome-whole old new text sent
 

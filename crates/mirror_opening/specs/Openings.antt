@@ -1,9 +1,11 @@
 -- The opening of a mirror: the rows of its peer, at a revision.
-use Rattle.std.specs.Prelude.{◌≡◌, ℕ, ◌≤◌, ◌^◌, IsTrue, List, [], ◌∷◌, ◌++◌, All, None}
+use Rattle.std.specs.Prelude.{◌≡◌, ℕ, ◌≤◌, ◌^◌, IsTrue, List, [], ◌∷◌, ◌++◌, All, None, IfSome}
+use Rattle.kube_meta.specs.Names.{IsNamespace}
 use Rattle.kube_meta.specs.declared.resources.Resource.TheVariants.{Pods}
 use Rattle.kube_meta.specs.Rows.{RowData, AreRising}
 use Rattle.line_stream.specs.Readers.{ReaderData}
 use Rattle.select_all.specs.declared.selection.Selection.{Selection}
+use Rattle.select_all.specs.Reading.{IsRead}
 use Rattle.select_all.specs.Selecting.{selects}
 use Rattle.watch_read.specs.Stored.{IsStored}
 use Rattle.watch_rules.specs.Bodies.{Line, Closing, initial_lines}
@@ -24,9 +26,12 @@ pub record AreOpened (s : Selection) (rows : List RowData) : Type 0 where
   pub selected : All (λ row. IsTrue (selects s row.obj)) rows
   pub stored : All (λ row. IsStored Pods row.obj) rows
 
--- what holds of each opening: none of its rows is younger than its base, and its reading goes on without a bound
+-- what holds of each opening: its selection is read from its texts; none of its rows is younger than its base; and its
+-- reading goes on without a bound
 pub record IsOpeningOf (opening : OpeningData) : Type 0 where
   pub pods : opening.selection.resource ≡ Pods
+  pub read : IsRead Pods opening.selection.ns opening.label opening.field opening.selection
+  pub namespace : IfSome opening.selection.ns IsNamespace
   pub some : 1 ≤ opening.base
   pub bounded : opening.base ≤ 2 ^ 62
   pub rows : AreOpened opening.selection opening.rows

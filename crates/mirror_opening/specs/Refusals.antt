@@ -5,7 +5,7 @@ use Rattle.line_stream.specs.declared.refusal.LineNo.TheVariants as line
 use Rattle.ask_watch.specs.declared.asking.AskNo.{AskNo}
 use Rattle.ask_watch.specs.declared.asking.AskNo.TheVariants as ask
 use Rattle.mirror_opening.specs.declared.refusal.LinkNo.{LinkNo}
-use Rattle.mirror_opening.specs.declared.refusal.LinkNo.TheVariants.{BadHead, BadChunk, BadLine, Order, Gap, Refused, Told, CutShort, ReadFault, WriteFault, TooLong, Passed, Memory}
+use Rattle.mirror_opening.specs.declared.refusal.LinkNo.TheVariants.{BadHead, BadChunk, BadLine, Order, Gap, Refused, Told, CutShort, ReadFault, WriteFault, TooLong, OtherLog, Passed, Memory}
 
 -- why there is no line
 abbrev pub reading_refusal : LineNo → LinkNo
@@ -37,5 +37,6 @@ name_of CutShort = codes "CutShort"
 name_of ReadFault = codes "ReadFault"
 name_of WriteFault = codes "WriteFault"
 name_of TooLong = codes "TooLong"
+name_of OtherLog = codes "OtherLog"
 name_of (Passed to at) = codes "Passed"
 name_of Memory = codes "Memory"

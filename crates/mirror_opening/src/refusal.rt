@@ -32,6 +32,8 @@ pub enum LinkNo {
     WriteFault,
     /// The opening has more than 1,073,741,824 bytes.
     TooLong,
+    /// The peer's log isn't the one that the mirror has followed.
+    OtherLog,
     /// The mirror's log ends at `to`, and its store at `at`: another door heard a revision.
     Passed { to: u64, at: u64 },
     /// There was no memory.
@@ -55,6 +57,7 @@ impl LinkNo {
             LinkNo::ReadFault => "ReadFault",
             LinkNo::WriteFault => "WriteFault",
             LinkNo::TooLong => "TooLong",
+            LinkNo::OtherLog => "OtherLog",
             LinkNo::Passed { .. } => "Passed",
             LinkNo::Memory => "Memory",
         }
