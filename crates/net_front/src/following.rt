@@ -4,7 +4,7 @@ use crate::end::End;
 use crate::redial::{News, Redial};
 use crate::shared::Front;
 use crate::standing::{Standing, standing_of};
-use edge_io::Source;
+use edge_io::{Sink, Source};
 use mirror_link::{Heard, Mirror};
 use mirror_opening::LinkNo;
 use std::alloc::Global;
@@ -18,8 +18,8 @@ const FIRST_WAIT_MS: u64 = 20;
 const MOST_WAIT_MS: u64 = 5_000;
 
 /// Hears the lines of the peer at `port`, at first from `source` and then over connections by `redial`, until the
-/// sessions have ended, or sooner: where a line can't be heard, or the peer has another log. It says what becomes of
-/// that.
+/// sessions have ended, or sooner: where a line can't be heard, or the peer has another log. Where the peer can't tell
+/// what comes next, the mirror begins anew. It says what becomes of that.
 pub fn follow<N: LogFacts, R: Wait + Copy, S: Source, D: Redial>(
     front: &Front<'_, N, R>,
     mirror: &mut Mirror<N, R>,
@@ -35,26 +35,41 @@ pub fn follow<N: LogFacts, R: Wait + Copy, S: Source, D: Redial>(
     let mut pace = Pace { ms: FIRST_WAIT_MS };
     let mut stop = hear_lines(front, mirror, source, &mut pace);
     for _ in front.rt.forever() {
-        match stop {
+        let ask = match stop {
             Stop::Ended => return,
             Stop::Over(why) => {
                 redial.say(News::IsOver { why });
-                stop = follow_again(front, mirror, redial, port, &mut pace);
+                Ask::Stream
+            }
+            Stop::Missed(why) => {
+                redial.say(News::BeginsAnew { why });
+                Ask::Opening
             }
             Stop::Lost(why) => {
                 redial.say(News::Ends { why });
                 return;
             }
-        }
+        };
+        stop = follow_again(front, mirror, redial, port, ask, &mut pace);
     }
 }
 
-// Asks for the stream until it goes on, and hears its lines.
+// What the peer is asked for.
+#[derive(Clone, Copy, Debug, PartialEq, Eq)]
+enum Ask {
+    // What comes behind the mirror's end.
+    Stream,
+    // All its pods, and what comes behind them.
+    Opening,
+}
+
+// Asks until the stream goes on, and hears its lines.
 fn follow_again<N: LogFacts, R: Wait + Copy, D: Redial>(
     front: &Front<'_, N, R>,
     mirror: &mut Mirror<N, R>,
     redial: &mut D,
     port: u16,
+    ask: Ask,
     pace: &mut Pace,
 ) -> Stop {
     for _ in front.rt.forever() {
@@ -62,8 +77,10 @@ fn follow_again<N: LogFacts, R: Wait + Copy, D: Redial>(
         if front.end.is_there() {
             return Stop::Ended;
         }
-        match resume(front.alloc, mirror, redial, port) {
+        match connect(front.alloc, mirror, redial, port, ask) {
             Ok((mut source, _sink)) => {
+                // Watches that rest below a new base hear so that they are lost.
+                front.doorbell.ring();
                 let from = mirror.to();
                 redial.say(News::FollowsAgain { from });
                 return hear_lines(front, mirror, &mut source, pace);
@@ -75,25 +92,45 @@ fn follow_again<N: LogFacts, R: Wait + Copy, D: Redial>(
     unreachable!()
 }
 
-// Connects to the peer, and asks for the stream behind the mirror's end, if the peer's log has reached that. A log that
-// hasn't is another one, under the same numbers.
-fn resume<N: LogFacts, R: Wait + Copy, D: Redial>(
+// Connects to the peer and asks, if the peer's log has reached the mirror's end. A log that hasn't is another one,
+// under the same numbers.
+fn connect<N: LogFacts, R: Wait + Copy, D: Redial>(
     alloc: Global,
     mirror: &mut Mirror<N, R>,
     redial: &mut D,
     port: u16,
+    ask: Ask,
 ) -> Result<(D::S, D::K), Stop> {
     match standing(alloc, mirror.to(), redial, port) {
         Standing::Reached => {}
-        Standing::Behind => return Err(Stop::Lost("OtherLog")),
+        Standing::Behind => return Err(Stop::Lost(LinkNo::OtherLog.name())),
         Standing::Unknown => return Err(Stop::Over("NoReply")),
     }
     let Ok((mut source, mut sink)) = redial.redial(port) else {
         return Err(Stop::Over("NoConnection"));
     };
-    match mirror.resume(&mut source, &mut sink) {
+    match asked(mirror, &mut source, &mut sink, ask) {
         Ok(()) => Ok((source, sink)),
-        Err(no) => Err(stop_of(no)),
+        Err(stop) => Err(stop),
+    }
+}
+
+// Asks over a connection.
+fn asked<N: LogFacts, R: Wait + Copy, S: Source, K: Sink>(
+    mirror: &mut Mirror<N, R>,
+    source: &mut S,
+    sink: &mut K,
+    ask: Ask,
+) -> Result<(), Stop> {
+    match ask {
+        Ask::Stream => match mirror.resume(source, sink) {
+            Ok(()) => Ok(()),
+            Err(no) => Err(stop_of(no)),
+        },
+        Ask::Opening => match mirror.reopen(source, sink) {
+            Ok(()) => Ok(()),
+            Err(no) => Err(opening_stop_of(no)),
+        },
     }
 }
 
@@ -112,14 +149,22 @@ enum Stop {
     Ended,
     // The stream is over, and may be asked for again.
     Over(&'static str),
+    // The peer can't tell what comes next.
+    Missed(&'static str),
     // What the peer would send can't be heard.
     Lost(&'static str),
 }
 
-// Whether another connection may help. A line that was refused would come again, and a log that was passed by another
-// door isn't the mirror's alone.
+/// The code of a peer's refusal that it no longer keeps what comes next.
+const GONE: u16 = 410;
+
+// Whether another connection may help, or a new beginning. A line that was refused would come again, and a log that was
+// passed by another door isn't the mirror's alone.
 fn stop_of(no: LinkNo) -> Stop {
     match no {
+        LinkNo::Refused { code: GONE } | LinkNo::Told { .. } | LinkNo::Gap { .. } => {
+            Stop::Missed(no.name())
+        }
         LinkNo::BadHead
         | LinkNo::Refused { .. }
         | LinkNo::CutShort
@@ -129,10 +174,18 @@ fn stop_of(no: LinkNo) -> Stop {
         LinkNo::BadChunk
         | LinkNo::BadLine
         | LinkNo::Order { .. }
-        | LinkNo::Gap { .. }
-        | LinkNo::Told { .. }
         | LinkNo::TooLong
+        | LinkNo::OtherLog
         | LinkNo::Passed { .. } => Stop::Lost(no.name()),
+    }
+}
+
+// The same of an opening. A peer that refused may give one later; one that is too far ahead stays so.
+fn opening_stop_of(no: LinkNo) -> Stop {
+    match no {
+        LinkNo::Refused { .. } | LinkNo::Told { .. } => Stop::Over(no.name()),
+        LinkNo::Gap { .. } => Stop::Lost(no.name()),
+        _ => stop_of(no),
     }
 }
 

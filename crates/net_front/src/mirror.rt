@@ -21,8 +21,9 @@ use up_api::{LogFacts, Settings};
 
 /// Serves as [`serve_open`](crate::serve_open) does, over the caches of a mirror's log, and follows the peer beside
 /// that: what comes from `source` is heard, and where the stream is over it is asked for again, over connections by
-/// `redial` to `port`. It is said there what becomes of that. The following ends where a line can't be heard, or the
-/// peer has another log; the server goes on with what it has then.
+/// `redial` to `port`. Where the peer can't tell what comes next, the mirror begins anew from what the peer has then,
+/// and forgets what was before. It is said there what becomes of that. The following ends where a line can't be heard,
+/// or the peer has another log; the server goes on with what it has then.
 ///
 /// Whoever follows waits for the peer's bytes, so this may return only once the next line has come.
 pub fn serve_mirror<L, N, S, D, T, R>(

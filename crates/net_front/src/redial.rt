@@ -9,6 +9,8 @@ pub enum News {
     Follows { port: u16, from: u64 },
     /// Its stream is over, for this cause. It is asked for again.
     IsOver { why: &'static str },
+    /// It can't tell what comes next, for this cause. It is asked for all that it has.
+    BeginsAnew { why: &'static str },
     /// It is followed again, from a revision on.
     FollowsAgain { from: u64 },
     /// It is no longer followed, for this cause.

@@ -52,6 +52,8 @@ impl<'a, C: Client> Client for RingingClient<'a, C> {
 
     ghost cached = { λ c. C.cached c.client };
 
+    ghost times = { λ c. C.times c.client };
+
     // Behind want of memory a write may be done; a refusal has changed nothing.
     fn write(&mut self, ask: &WriteAsk) -> Result<Written, WriteNo> {
         let written = self.client.write(ask);

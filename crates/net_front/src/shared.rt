@@ -24,6 +24,7 @@ pub struct Front<'a, N: LogFacts, R: Wait + Copy> {
     pub doorbell: Doorbell,
     pub house: House,
     pub end: End,
+    // Closures repeat this, since what they capture may be sent to a thread only where it is such a type's fact.
     ghost ranged: { AreInRange settings },
 }
 

@@ -47,6 +47,9 @@ where
             News::IsOver { why } => eprintln!(self.rt;
                 "watchcache: the peer's stream is over ({why}); trying again"
             ),
+            News::BeginsAnew { why } => eprintln!(self.rt;
+                "watchcache: the peer can't tell what comes next ({why}); beginning anew"
+            ),
             News::FollowsAgain { from } => eprintln!(self.rt;
                 "watchcache: following again from revision {from}"
             ),
