@@ -1,0 +1,229 @@
+-- Where nobody else holds the log, two runs of the same requests have the same answers.
+use Rattle.std.specs.Prelude.{Result, Ok, Err, IsSome, IfSome}
+use Rattle.std.proofs.Common.{◌≡◌, ◌≢◌, ℕ, ◌≤◌, ◌⊎◌, inl, inr, true, false, List, [], ◌∷◌, map, Option, Some, None, refl, ap, sym, ◌∙◌, subst, length-append, arith}
+use Rattle.rev_front.specs.Passes.{Pass, IsPass, Whole, revision}
+use Rattle.rev_log.specs.Changes.{RevisionData}
+use Rattle.rev_log.specs.Logs.{Fits}
+use Rattle.http_read.specs.declared.request.Req.{Req}
+use Rattle.watch_rules.specs.declared.ask.WatchAsk.{WatchAsk}
+use Rattle.up_store.specs.Replies.{IsOperationReply}
+use Rattle.up_store.specs.Stores.{accepted}
+use Rattle.up_store.specs.Transacting.{IsTransactionAnswer}
+use Rattle.up_store.specs.Writes.{IsWriteAnswer}
+use Rattle.up_store.specs.declared.operations.Operate.{Operate}
+use Rattle.up_store.specs.declared.operations.Operate.TheVariants.{Cut, Compact, Restart}
+use Rattle.up_store.specs.declared.operations.OpNo.{OpNo}
+use Rattle.up_store.specs.declared.operations.OpNo.TheVariants as op_no
+use Rattle.up_store.specs.declared.transactions.TxWriteNo.{TxWriteNo}
+use Rattle.up_store.specs.declared.writes.WriteAsk.{WriteAsk}
+use Rattle.up_store.specs.declared.writes.WriteNo.{WriteNo}
+use Rattle.up_store.specs.declared.writes.WriteNo.TheVariants as write_no
+use Rattle.up_store.specs.declared.writes.Written.{Written}
+use Rattle.route_req.specs.Asks.{IsRoute}
+use Rattle.route_req.specs.Outcomes.{AnswersAgree, RefusalsAgree, RoutesAreNotRefused}
+use Rattle.route_req.specs.declared.routing.Routed.{Routed}
+use Rattle.route_req.specs.declared.routing.Routed.TheVariants as routed
+use Rattle.route_req.specs.declared.routing.RouteNo.{RouteNo}
+use Rattle.route_req.specs.declared.routing.RouteNo.TheVariants as route_no
+use Rattle.client_api.specs.Alone.{known, IsSoleRead, SoleWrite, SoleTransact, SoleOperate, IsSoleOperation}
+use Rattle.client_api.specs.Answers.{GotData, ListedData}
+use Rattle.client_api.specs.Gets.{IsGetAnswer}
+use Rattle.client_api.specs.Lists.{IsListAnswer}
+use Rattle.client_api.specs.Told.{IsToldRead, IsToldWrite, IsToldTx, IsToldOperation}
+use Rattle.client_api.specs.declared.answers.ListNo.{ListNo}
+use Rattle.sess_reply.specs.Replies.{unrouted, wrote, transacted, got, listed, operated, described, unwatched, bad_upgrade}
+use Rattle.sess_turns.specs.Terms.{Terms}
+use Rattle.sess_serve.specs.Answers.{Answer, replied, streamed, IsAnswerTo, IsUnrouted}
+use Rattle.sess_serve.specs.Steps.{Exchange, Says, IsAlone, Run, AreAlone}
+use Rattle.answered_requests.specs.Determined.{AskForNoWatch, AreOne, AreAnsweredAlike, IsSound, RepliesAreDetermined}
+use Rattle.answered_requests.proofs.AnswerLemmas.{refusal_of, routed_clash}
+use Rattle.answered_requests.proofs.ChangesLemmas.{as_answered, made_of, one_write, one_transaction, one_operation, write_refused, tx_refused}
+use Rattle.answered_requests.proofs.ReadsLemmas.{one_list, one_get}
+
+-- ---- the floor stays within the log
+
+abbrev low : Whole RevisionData → Type 0
+low w = w.floor ≤ revision w
+
+low-accepted : (history : ℕ) (w : Whole RevisionData) (r : RevisionData) → low w → low (accepted history w r)
+low-accepted history w r is = omega (arith, is, length-append w.log (r ∷ []))
+
+low-written : (terms : Terms) (history : ℕ) (ask : WriteAsk) (w after : Whole RevisionData) (a : Result Written WriteNo) → IsToldWrite a →
+    IsWriteAnswer terms.base terms.mirror history ask w after a → low w → low after
+low-written terms history ask w after (Ok a) told is low_w = subst low (sym is.2) (low-accepted history w _ low_w)
+low-written terms history ask w after (Err fault) told is low_w = subst low (sym (write_refused terms.base terms.mirror history w ask after fault told is).1) low_w
+
+low-transacted : (terms : Terms) (history : ℕ) (asks : List WriteAsk) (w after : Whole RevisionData) (a : Result (List Written) TxWriteNo) → IsToldTx a →
+    IsTransactionAnswer terms.base terms.mirror history asks w after a → low w → low after
+low-transacted terms history asks w after (Ok a) told is low_w = subst low (sym is.2.2) (low-accepted history w is.2.0 low_w)
+low-transacted terms history asks w after (Err fault) told is low_w = subst low (sym (tx_refused terms.base terms.mirror history w asks after fault told is).1) low_w
+
+low-operated : (ask : Operate) (w after : Whole RevisionData) (a : Result ℕ OpNo) → IsSoleOperation ask w a after → low w → low after
+low-operated Cut w after (Ok n) is low_w = subst low (sym is.1) low_w
+low-operated Cut w after (Err (op_no.UsedUp at)) is low_w = subst low (sym is.2) low_w
+low-operated Cut w after (Err (op_no.Compacted asked floor)) is low_w = absurd is
+low-operated Cut w after (Err (op_no.Future asked current)) is low_w = absurd is
+low-operated Cut w after (Err op_no.Memory) is low_w = absurd is
+low-operated (Compact at) w after (Ok n) is low_w = subst low (sym is.3) is.2
+low-operated (Compact at) w after (Err (op_no.UsedUp n)) is low_w = absurd is
+low-operated (Compact at) w after (Err (op_no.Compacted asked floor)) is low_w = subst low (sym is.3) low_w
+low-operated (Compact at) w after (Err (op_no.Future asked current)) is low_w = subst low (sym is.3) low_w
+low-operated (Compact at) w after (Err op_no.Memory) is low_w = absurd is
+low-operated Restart w after a is low_w = subst low (sym is) low_w
+
+-- ---- what an answer says, by what its request asks for
+
+abbrev ByRoute : Terms → ℕ → Pass RevisionData → Answer → Pass RevisionData → Routed → Type 0
+ByRoute terms history p a q (routed.List ask) =
+    (x : Result ListedData ListNo) × (a ≡ replied (listed ask x)) × IsToldRead x × IsListAnswer terms.base p ask x q × IsSoleRead p q
+ByRoute terms history p a q (routed.Get ask) =
+    (x : Result GotData ListNo) × (a ≡ replied (got ask x)) × IsToldRead x × IsGetAnswer terms.base p ask x q × IsSoleRead p q
+ByRoute terms history p a q (routed.Write ask) =
+    (x : Result Written WriteNo) × (a ≡ replied (wrote ask x)) × IsToldWrite x × IsWriteAnswer terms.base terms.mirror history ask (known p) (known q) x
+ByRoute terms history p a q (routed.Transact asks) =
+    (x : Result (List Written) TxWriteNo) × (a ≡ replied (transacted asks x)) × IsToldTx x
+    × IsTransactionAnswer terms.base terms.mirror history asks (known p) (known q) x
+ByRoute terms history p a q (routed.Operate ask) =
+    (x : Result ℕ OpNo) × (a ≡ replied (operated ask x)) × IsToldOperation x × IsOperationReply p ask x q × SoleOperate p ask x q
+ByRoute terms history p a q (routed.Describe document) = (a ≡ replied (described document)) × IsSoleRead p q
+ByRoute terms history p a q (routed.Watch ask) = ⊥
+
+-- the request has a route, and its answer is by it; or it has none, and is told why
+record Routes (terms : Terms) (history : ℕ) (p : Pass RevisionData) (req : Req) (a : Answer) (q : Pass RevisionData) : Type 0 where
+  route : Routed
+  is : IsRoute req route
+  by : ByRoute terms history p a q route
+
+record Untold (p : Pass RevisionData) (req : Req) (a : Answer) (q : Pass RevisionData) : Type 0 where
+  fault : RouteNo
+  answer_is : a ≡ replied (unrouted fault)
+  is : IsUnrouted req fault
+  sole : IsSoleRead p q
+
+written-so : (terms : Terms) (history : ℕ) (p q : Pass RevisionData) (ask : WriteAsk) (x : Result Written WriteNo) → IsToldWrite x →
+    SoleWrite terms.base terms.mirror history p ask x q → IsWriteAnswer terms.base terms.mirror history ask (known p) (known q) x
+written-so terms history p q ask (Ok a) told is = is.0
+written-so terms history p q ask (Err (write_no.Exists at present)) told is = is.0
+written-so terms history p q ask (Err (write_no.Absent at)) told is = is.0
+written-so terms history p q ask (Err (write_no.Stale at given present)) told is = is.0
+written-so terms history p q ask (Err (write_no.UsedUp at)) told is = is.0
+written-so terms history p q ask (Err (write_no.ReadOnly at)) told is = is.0
+written-so terms history p q ask (Err write_no.Memory) told is = absurd told
+
+module _ (terms : Terms) (history : ℕ) (sole_is : terms.sole_history ≡ Some history) where
+  if-sole : (P : ℕ → Type 0) → IfSome terms.sole_history P → P history
+  if-sole P is = subst (λ (h : Option ℕ). IfSome h P) sole_is is
+
+  routes : (p q : Pass RevisionData) (req : Req) (a : Answer) → IsAnswerTo req a → Says terms p a q → IsAlone terms p a q → ((ask : WatchAsk) → ¬ (IsRoute req (routed.Watch ask))) →
+      Routes terms history p req a q ⊎ Untold p req a q
+  routes p q req (replied (unrouted fault)) to says sole plain = inr (record { fault = fault; answer_is = refl; is = to; sole = sole })
+  routes p q req (replied (wrote ask x)) to says sole plain =
+      inl (record { route = routed.Write ask; is = to; by = (x, refl, says.0, written-so terms history p q ask x says.0 (if-sole (λ h. SoleWrite terms.base terms.mirror h p ask x q) sole)) })
+  routes p q req (replied (transacted asks x)) to says sole plain =
+      inl (record { route = routed.Transact asks; is = to; by = (x, refl, says.0, as_answered terms.base terms.mirror history p q asks x says.0 (if-sole (λ h. SoleTransact terms.base terms.mirror h p asks x q) sole)) })
+  routes p q req (replied (got ask x)) to says sole plain = inl (record { route = routed.Get ask; is = to; by = (x, refl, says.0, says.1, sole) })
+  routes p q req (replied (listed ask x)) to says sole plain = inl (record { route = routed.List ask; is = to; by = (x, refl, says.0, says.1, sole) })
+  routes p q req (replied (operated ask x)) to says sole plain = inl (record { route = routed.Operate ask; is = to; by = (x, refl, says.0, says.1, sole) })
+  routes p q req (replied (described document)) to says sole plain = inl (record { route = routed.Describe document; is = to; by = (refl, sole) })
+  routes p q req (replied (unwatched ask fault)) to says sole plain = absurd (plain ask to.0)
+  routes p q req (replied (bad_upgrade ask)) to says sole plain = absurd (plain ask to.0)
+  routes p q req (streamed ask stream) to says sole plain = absurd (plain ask to.0)
+
+  -- ---- the floor
+
+  low-read : (p q : Pass RevisionData) → IsSoleRead p q → low (known p) → low (known q)
+  low-read p q sole is = subst low (sym sole.same) is
+
+  low-after : (p q : Pass RevisionData) (a : Answer) (route : Routed) → ByRoute terms history p a q route → low (known p) → low (known q)
+  low-after p q a (routed.List ask) by is = low-read p q by.4 is
+  low-after p q a (routed.Get ask) by is = low-read p q by.4 is
+  low-after p q a (routed.Write ask) by is = low-written terms history ask (known p) (known q) by.0 by.2 by.3 is
+  low-after p q a (routed.Transact asks) by is = low-transacted terms history asks (known p) (known q) by.0 by.2 by.3 is
+  low-after p q a (routed.Operate ask) by is = low-operated ask (known p) (known q) by.0 (made_of p q ask by.0 by.2 by.4) is
+  low-after p q a (routed.Describe document) by is = low-read p q by.1 is
+  low-after p q a (routed.Watch ask) by is = absurd by
+
+  -- ---- two answers to one request
+
+  module _ (p q o r : Pass RevisionData) (sound : IsSound p) (lawful : IsPass Fits q) (sound' : IsSound o) (lawful' : IsPass Fits r) (same : known o ≡ known p) where
+    reads-same : IsSoleRead p q → IsSoleRead o r → known r ≡ known q
+    reads-same sole sole' = sole'.same ∙ same ∙ sym sole.same
+
+    are-one : (a b x y : Answer) → a ≡ x → b ≡ y → AreOne x y → AreOne a b
+    are-one a b x y first second one = subst (λ (z : Answer × Answer). AreOne z.0 z.1) {x = (x, y)} {y = (a, b)} (λ i. (sym first i, sym second i)) one
+
+    by-one : (a b : Answer) (route : Routed) → ByRoute terms history p a q route → ByRoute terms history o b r route → AreOne a b × (known r ≡ known q)
+    by-one a b (routed.List ask) by by' =
+        (are-one a b _ _ by.1 by'.1 (one_list terms.base p q o r sound lawful by.4 sound' lawful' by'.4 same ask by.0 by'.0 by.2 by'.2 by.3 by'.3), reads-same by.4 by'.4)
+    by-one a b (routed.Get ask) by by' =
+        (are-one a b (replied (got ask by.0)) (replied (got ask by'.0)) by.1 by'.1 (one_get terms.base p q o r sound lawful by.4 sound' lawful' by'.4 same ask by.0 by'.0 by.2 by'.2 by.3 by'.3), reads-same by.4 by'.4)
+    by-one a b (routed.Write ask) by by' =
+        let one = one_write terms.base terms.mirror history (known p) ask (known q) (known r) by.0 by'.0 by.2 by'.2 by.3
+        (subst (λ (w : Whole RevisionData). IsWriteAnswer terms.base terms.mirror history ask w (known r) by'.0) same by'.3) in
+        (are-one a b (replied (wrote ask by.0)) (replied (wrote ask by'.0)) by.1 by'.1 (ap (λ (x : Result Written WriteNo). replied (wrote ask x)) one.0), one.1)
+    by-one a b (routed.Transact asks) by by' =
+        let one = one_transaction terms.base terms.mirror history (known p) asks (known q) (known r) by.0 by'.0 by.2 by'.2 by.3
+        (subst (λ (w : Whole RevisionData). IsTransactionAnswer terms.base terms.mirror history asks w (known r) by'.0) same by'.3) in
+        (are-one a b (replied (transacted asks by.0)) (replied (transacted asks by'.0)) by.1 by'.1 (ap (λ (x : Result (List Written) TxWriteNo). replied (transacted asks x)) one.0), one.1)
+    by-one a b (routed.Operate ask) by by' =
+        let one = one_operation p q o r sound lawful lawful' same ask by.0 by'.0 by.2 by'.2 by.3 by'.3 by.4 by'.4 in
+        (are-one a b (replied (operated ask by.0)) (replied (operated ask by'.0)) by.1 by'.1 (ap (λ (x : Result ℕ OpNo). replied (operated ask x)) one.0), one.1)
+    by-one a b (routed.Describe document) by by' = (are-one a b (replied (described document)) (replied (described document)) by.0 by'.0 refl, reads-same by.1 by'.1)
+    by-one a b (routed.Watch ask) by by' = absurd by
+
+    module _ (agree : AnswersAgree) (refusals : RefusalsAgree) (unrefused : RoutesAreNotRefused) (req : Req) (a b : Answer) where
+      isn't-memory : (fault : RouteNo) → IsUnrouted req fault → fault ≢ route_no.Memory
+      isn't-memory fault is same_fault = subst (IsUnrouted req) same_fault is
+
+      one-answer : Routes terms history p req a q ⊎ Untold p req a q → Routes terms history o req b r ⊎ Untold o req b r → AreOne a b × (known r ≡ known q)
+      one-answer first second = elim first [
+        | inl x ↦ elim second [
+          | inl y ↦ by-one a b x.route x.by (subst (ByRoute terms history o b r) (agree req y.route x.route y.is x.is) y.by)
+          | inr y ↦ absurd (routed_clash terms o r req unrefused y.fault x.route y.is x.is)
+        ]
+        | inr x ↦ elim second [
+          | inl y ↦ absurd (routed_clash terms p q req unrefused x.fault y.route x.is y.is)
+          | inr y ↦
+              let one : y.fault ≡ x.fault = refusals req y.fault x.fault (refusal_of terms o r req y.fault y.is) (refusal_of terms p q req x.fault x.is) (isn't-memory y.fault y.is) (isn't-memory x.fault x.is) in
+              (are-one a b (replied (unrouted x.fault)) (replied (unrouted y.fault)) x.answer_is y.answer_is (ap (λ (no : RouteNo). replied (unrouted no)) one), reads-same x.sole y.sole)
+        ]
+      ]
+
+  low-then : (p q : Pass RevisionData) (req : Req) (a : Answer) → Routes terms history p req a q ⊎ Untold p req a q → low (known p) → low (known q)
+  low-then p q req a so is = elim so [
+    | inl x ↦ low-after p q a x.route x.by is
+    | inr y ↦ low-read p q y.sole is
+  ]
+
+  -- ---- two runs
+
+  module _ (agree : AnswersAgree) (refusals : RefusalsAgree) (unrefused : RoutesAreNotRefused) where
+    runs-agree : (p last o final : Pass RevisionData) (es fs : List Exchange) → IsSound p → IsSound o → known o ≡ known p →
+        Run terms p es last → AreAlone terms p es → Run terms o fs final → AreAlone terms o fs →
+        map (λ (f : Exchange). f.request) fs ≡ map (λ (e : Exchange). e.request) es → AskForNoWatch es → AreAnsweredAlike es fs × (known final ≡ known last)
+    runs-agree p last o final [] [] sound sound' same run alone run' alone' requests plain = (tt, ap known (sym run') ∙ same ∙ ap known run)
+    runs-agree p last o final [] (f ∷ fs) sound sound' same run alone run' alone' requests plain = absurd (let e : f.request ∷ map (λ (x : Exchange). x.request) fs ≡ [] = requests in cc)
+    runs-agree p last o final (e ∷ es) [] sound sound' same run alone run' alone' requests plain = absurd (let h : [] ≡ e.request ∷ map (λ (x : Exchange). x.request) es = requests in cc)
+    runs-agree p last o final (e ∷ es) (f ∷ fs) sound sound' same run alone run' alone' requests plain =
+        let both : f.request ∷ map (λ (x : Exchange). x.request) fs ≡ e.request ∷ map (λ (x : Exchange). x.request) es = requests in
+        let head : f.request ≡ e.request = cc in
+        let tail : map (λ (x : Exchange). x.request) fs ≡ map (λ (x : Exchange). x.request) es = cc in
+        let first = routes p e.pass e.request e.answer run.0.answers run.0.says alone.0 plain.0 in
+        let second = routes o f.pass e.request f.answer (subst (λ (req : Req). IsAnswerTo req f.answer) head run'.0.answers) run'.0.says alone'.0 plain.0 in
+        let lawful : IsPass Fits e.pass = run.0.onward.lawful sound.lawful in
+        let lawful' : IsPass Fits f.pass = run'.0.onward.lawful sound'.lawful in
+        let one = one-answer p e.pass o f.pass sound lawful sound' lawful' same agree refusals unrefused e.request e.answer f.answer first second in
+        let next = runs-agree e.pass last f.pass final es fs
+        (record { lawful = lawful; floor = low-then p e.pass e.request e.answer first sound.floor })
+        (record { lawful = lawful'; floor = low-then o f.pass e.request f.answer second sound'.floor })
+        one.1 run.1 alone.1 run'.1 alone'.1 tail plain.1 in
+        ((head, one.0, next.0), next.1)
+
+some-history : (o : Option ℕ) → IsSome o → (n : ℕ) × (o ≡ Some n)
+some-history None some = absurd (let e : false ≡ true = some in cc)
+some-history (Some n) some = (n, refl)
+
+pub are_determined : AnswersAgree → RefusalsAgree → RoutesAreNotRefused → RepliesAreDetermined
+are_determined agree refusals unrefused terms p last o final es fs some =
+    let history = some-history terms.sole_history some in
+    runs-agree terms history.0 history.1 agree refusals unrefused p last o final es fs

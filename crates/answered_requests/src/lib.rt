@@ -1,0 +1,8 @@
+//! That a request of a session gets its 200, 201 or stream, unless something stands in its way; and, where nobody else
+//! holds the log, that it gets them if the log before it has what it asks for, and that replies are determined. Laws
+//! alone.
+#![tactic(auto)]
+
+mod laws;
+
+pub use laws::{replies_are_determined, requests_are_served, requests_are_served_alone};
