@@ -1,10 +1,12 @@
 //! Small keys and objects, and rows in words.
 
-ghost use Rattle.std.specs.Prelude.{◌≡◌, [], ◌∷◌, codes, decimal, string_bytes, IfOk};
+ghost use Rattle.std.specs.Prelude.{◌≡◌, [], ◌∷◌, codes, decimal, IfOk};
+ghost use Rattle.case_rows.specs.Wordings.{Adds};
 ghost use Rattle.std.specs.List.{concat};
 ghost use Rattle.kube_meta.specs.Keys.{joined, name_of};
 ghost use Rattle.kube_meta.specs.Rows.{key_of};
 
+use crate::wording::Wording;
 use kube_meta::{Fields, Key, Labels, Memory, Obj, Row, Text};
 use std::alloc::Global;
 
@@ -32,11 +34,10 @@ pub fn object(alloc: Global, key: Key) -> Result<Obj, Memory>
     })
 }
 
-/// A row as `[p-1 2]`: its object's name and its revision.
-pub fn row_text(alloc: Global, row: &Row) -> Result<String, Memory>
-    ensures { IfOk result (λ text. string_bytes text ≡ concat (codes "[" ∷ name_of (key_of row.now) ∷ codes " " ∷ decimal row.now.rev ∷ codes "]" ∷ [])) }
+/// Tells a row as `[p-1 2]`: its object's name and its revision.
+pub fn tell_row(row: &Row, told: &mut Wording)
+    ensures { Adds told.old told.new (concat (codes "[" ∷ name_of (key_of row.now) ∷ codes " " ∷ decimal row.now.rev ∷ codes "]" ∷ [])) }
 {
     let name = row.obj.key.name();
-    let text = format!(in alloc; "[{name} {}]", row.rev)?;
-    Ok(text)
+    told.show(&format_args!("[{name} {}]", row.rev));
 }

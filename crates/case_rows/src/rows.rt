@@ -5,12 +5,16 @@ ghost use Rattle.std.specs.Str.Lines.{lines as lines_of};
 ghost use Rattle.case_rows.specs.Rows.{is_silent, AreParts, IsBeforeComment, IsRowOf, CountsRows};
 
 use crate::tallies::Tally;
+use crate::wording::Wording;
 use std::alloc::{AllocError, Global};
 use std::io;
 use std::rt::Runtime;
 
 /// What a line wants that is no row: an answer that nothing gives.
 pub const NO_ROW: &str = "(a row is written STEP => ANSWER)";
+
+/// What is answered to what is no step of a file.
+pub const NO_STEP: &str = "(this file has no such step)";
 
 /// A step and the answer that is wanted.
 #[derive(Clone, Copy)]
@@ -72,7 +76,7 @@ fn without_comment(text: &str) -> &str
 /// What the steps of a file are made on.
 pub trait Steps {
     /// Makes a step, and tells its answer in words.
-    fn answer(&mut self, alloc: Global, step: &str) -> Result<String, AllocError>;
+    fn answer(&mut self, alloc: Global, step: &str, told: &mut Wording) -> Result<(), AllocError>;
 }
 
 /// Lines of a file.
@@ -116,11 +120,18 @@ fn run_line<R: Runtime, S: Steps>(
     ensures { OnOk result (CountsRows (line.now ∷ []) tally.old.rows tally.new.rows) }
 {
     if let Some(row) = Row::of_line(line, NO_ROW) {
-        let answer = steps.answer(alloc, row.step)?;
+        let answer = answer_to(alloc, row.step, steps)?;
         let met = meets(rt, place, row, answer.as_str())?;
         tally.count(met);
     }
     Ok(())
+}
+
+// What is answered to a step.
+fn answer_to<S: Steps>(alloc: Global, step: &str, steps: &mut S) -> Result<String, AllocError> {
+    let mut told = Wording::new(alloc);
+    steps.answer(alloc, step, &mut told)?;
+    told.whole()
 }
 
 /// Whether a row has the answer that it wants; if not, it is printed with its place and both answers.

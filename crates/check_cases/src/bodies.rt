@@ -1,8 +1,10 @@
 //! Rows of bodies: `FIRST FLOOR WINDOW | LOG | NAMESPACE | QUERY | BODY`.
 
 use crate::judged::judge;
-use crate::texts::{Change, bookmark, event, header, log_line, loss};
-use case_rows::{Steps, number, split};
+use crate::texts::{
+    Change, begin_header, begin_log_line, bookmark, end_header, end_log_line, event, loss,
+};
+use case_rows::{Steps, Wording, number, split};
 use kube_meta::Memory;
 use std::alloc::Global;
 use std::cmp::Ordering;
@@ -12,7 +14,7 @@ use std::cmp::Ordering;
 pub struct Bodies;
 
 impl Steps for Bodies {
-    fn answer(&mut self, alloc: Global, step: &str) -> Result<String, Memory> {
+    fn answer(&mut self, alloc: Global, step: &str, told: &mut Wording) -> Result<(), Memory> {
         let mut cells = step.split('|');
         let numbers = cells.next().unwrap_or("").trim();
         let log = cells.next().unwrap_or("").trim();
@@ -21,12 +23,16 @@ impl Steps for Bodies {
         let body = cells.next().unwrap_or("").trim();
         let (first, others) = split(numbers);
         let (floor, window) = split(others);
-        let first = number(first);
-        let changes = changes_of(alloc, log, first)?;
-        let head = header(alloc, (first, number(floor), number(window)), ns, query)?;
-        let lines = log_text(alloc, &changes, first)?;
-        let body = body_text(alloc, &changes, body)?;
-        judge(alloc, head.as_str(), lines.as_str(), body.as_str())
+        let changes = changes_of(alloc, log, number(first))?;
+        let log = log_text(alloc, &changes)?;
+        let mut text = Wording::new(alloc);
+        begin_header(number(first), number(floor), ns, &mut text);
+        text.add(query);
+        end_header(number(window), &mut text);
+        text.add(log.as_str());
+        text.add("\n");
+        tell_body(&changes, body, &mut text);
+        judge(alloc, text.whole()?.as_str(), log.as_str(), told)
     }
 }
 
@@ -100,62 +106,57 @@ fn last_of<'t>(changes: &[Change<'t>], is_pod: bool, ns: &str, name: &str) -> Op
 }
 
 /// The lines of a log.
-fn log_text(alloc: Global, changes: &[Change<'_>], first: u64) -> Result<String, Memory> {
-    let mut lines = String::new(alloc);
-    let mut line = String::new(alloc);
-    let mut rev = first.saturating_add(1);
+fn log_text(alloc: Global, changes: &[Change<'_>]) -> Result<String, Memory> {
+    let mut lines = Wording::new(alloc);
+    let mut last = None;
     for change in changes {
-        if change.rev != rev {
-            lines.push_str(log_line(alloc, line.as_str(), rev)?.as_str())?;
-            line = String::new(alloc);
-            rev = change.rev;
+        match last {
+            Some(rev) if rev == change.rev => lines.add(","),
+            Some(rev) => {
+                end_log_line(rev, &mut lines);
+                begin_log_line(&mut lines);
+            }
+            None => begin_log_line(&mut lines),
         }
-        if !line.is_empty() {
-            line.push_str(",")?;
-        }
-        line.push_str(change.text(alloc)?.as_str())?;
+        change.tell(&mut lines);
+        last = Some(change.rev);
     }
-    if !changes.is_empty() {
-        lines.push_str(log_line(alloc, line.as_str(), rev)?.as_str())?;
+    if let Some(rev) = last {
+        end_log_line(rev, &mut lines);
     }
-    Ok(lines)
+    lines.whole()
 }
 
 /// The lines of a body in words, which `;` parts: `A web 2`, `M web 2` and `D web 2` tell the change of an object at a
 /// revision, `B 2` and `C 2` are a bookmark and the closing one, `E 2 6` is a loss. Anything else stands for itself.
-fn body_text(alloc: Global, changes: &[Change<'_>], body: &str) -> Result<String, Memory> {
-    let mut lines = String::new(alloc);
+fn tell_body(changes: &[Change<'_>], body: &str, text: &mut Wording) {
     if body.is_empty() {
-        return Ok(lines);
+        return;
     }
     for word in body.split(';') {
-        lines.push_str(line_text(alloc, changes, word.trim())?.as_str())?;
+        tell_line(changes, word.trim(), text);
     }
-    Ok(lines)
 }
 
-fn line_text(alloc: Global, changes: &[Change<'_>], text: &str) -> Result<String, Memory> {
-    let (kind, rest) = split(text);
+fn tell_line(changes: &[Change<'_>], words: &str, text: &mut Wording) {
+    let (kind, rest) = split(words);
     let (first, second) = split(rest);
     match kind {
-        "A" => told(alloc, changes, "ADDED", (first, number(second))),
-        "M" => told(alloc, changes, "MODIFIED", (first, number(second))),
-        "D" => told(alloc, changes, "DELETED", (first, number(second))),
-        "B" => bookmark(alloc, number(first), false),
-        "C" => bookmark(alloc, number(first), true),
-        "E" => loss(alloc, number(first), number(second)),
-        _ => format!(in alloc; "{text}\n"),
+        "A" => tell_change(changes, "ADDED", first, number(second), text),
+        "M" => tell_change(changes, "MODIFIED", first, number(second), text),
+        "D" => tell_change(changes, "DELETED", first, number(second), text),
+        "B" => bookmark(number(first), false, text),
+        "C" => bookmark(number(first), true, text),
+        "E" => loss(number(first), number(second), text),
+        _ => {
+            text.add(words);
+            text.add("\n");
+        }
     }
 }
 
 // The line that tells a change of a pod; of a deletion what was there before.
-fn told(
-    alloc: Global,
-    changes: &[Change<'_>],
-    kind: &str,
-    which: (&str, u64),
-) -> Result<String, Memory> {
-    let (key, rev) = which;
+fn tell_change(changes: &[Change<'_>], kind: &str, key: &str, rev: u64, text: &mut Wording) {
     let (ns, name) = names(key);
     for change in changes {
         if change.rev == rev && change.is_of(true, ns, name) {
@@ -164,8 +165,9 @@ fn told(
             } else {
                 change.after.unwrap_or("")
             };
-            return event(alloc, kind, change.object(alloc, label)?.as_str());
+            event(kind, change, label, text);
+            return;
         }
     }
-    format!(in alloc; "no such change\n")
+    text.add("no such change\n");
 }

@@ -1,9 +1,11 @@
 //! Records that are drawn, judged twice: by `check`, over their texts, and by the slow judge.
 
-use crate::judged::judge;
+use crate::judged::{judge, tell_lawful, tell_unlawful};
 use crate::slow::{Case, Judgement, Kind, Line, PODS, Start, Step};
-use crate::texts::{Change, bookmark, event, header, log_line, loss};
-use case_rows::{Draws, Steps, number, split};
+use crate::texts::{
+    Change, begin_header, begin_log_line, bookmark, end_header, end_log_line, event, loss,
+};
+use case_rows::{Draws, Steps, Wording, number, split};
 use kube_meta::Memory;
 use std::alloc::Global;
 
@@ -12,42 +14,61 @@ use std::alloc::Global;
 pub struct Drawn;
 
 impl Steps for Drawn {
-    fn answer(&mut self, alloc: Global, step: &str) -> Result<String, Memory> {
+    fn answer(&mut self, alloc: Global, step: &str, told: &mut Wording) -> Result<(), Memory> {
         let (seed, count) = split(step);
         let mut draws = Draws::from_seed(number(seed));
         let mut agree = 0u64;
         let mut lawful = 0u64;
         for _ in 0..number(count) {
             let case = make_case(alloc, &mut draws)?;
-            let slow = judged_text(alloc, case.judge(alloc)?)?;
-            let head = header_text(alloc, &case)?;
-            let log = log_text(alloc, &case)?;
-            let body = body_text(alloc, &case)?;
-            let fast = judge(alloc, head.as_str(), log.as_str(), body.as_str())?;
-            if fast.as_str() != slow.as_str() {
-                let fast = fast.as_str();
-                let slow = slow.as_str();
-                return format!(in alloc; "{fast}, and not {slow}: {head}{log}\n{body}");
+            match judged_twice(alloc, &case, told)? {
+                Some(true) => lawful = lawful.saturating_add(1),
+                Some(false) => {}
+                None => return Ok(()),
             }
             agree = agree.saturating_add(1);
-            if fast.as_str().starts_with("Lawful") {
-                lawful = lawful.saturating_add(1);
-            }
         }
-        let both = if lawful > 0 && lawful < agree {
-            "both kinds"
+        told.show(&agree);
+        told.add(if lawful > 0 && lawful < agree {
+            " agree, both kinds"
         } else {
-            "one kind"
-        };
-        format!(in alloc; "{agree} agree, {both}")
+            " agree, one kind"
+        });
+        Ok(())
     }
 }
 
-fn judged_text(alloc: Global, judgement: Judgement) -> Result<String, Memory> {
-    match judgement {
-        Judgement::Lawful(at, to) => format!(in alloc; "Lawful {at} {to}"),
-        Judgement::Unlawful(line) => format!(in alloc; "Unlawful {line}"),
+/// Whether a record is lawful, as both judge it. None where they don't agree, which is told.
+fn judged_twice(alloc: Global, case: &Case, told: &mut Wording) -> Result<Option<bool>, Memory> {
+    let judgement = case.judge(alloc)?;
+    let slow = judgement_text(alloc, judgement)?;
+    let log = log_text(alloc, case)?;
+    let text = record_text(alloc, case, log.as_str())?;
+    let fast = judged_text(alloc, text.as_str(), log.as_str())?;
+    if fast.as_str() != slow.as_str() {
+        told.add(fast.as_str());
+        told.add(", and not ");
+        told.add(slow.as_str());
+        told.add(": ");
+        told.add(text.as_str());
+        return Ok(None);
     }
+    Ok(Some(matches!(judgement, Judgement::Lawful(_, _))))
+}
+
+fn judged_text(alloc: Global, text: &str, log: &str) -> Result<String, Memory> {
+    let mut told = Wording::new(alloc);
+    judge(alloc, text, log, &mut told)?;
+    told.whole()
+}
+
+fn judgement_text(alloc: Global, judgement: Judgement) -> Result<String, Memory> {
+    let mut told = Wording::new(alloc);
+    match judgement {
+        Judgement::Lawful(at, to) => tell_lawful(at, to, &mut told),
+        Judgement::Unlawful(line) => tell_unlawful(line, &mut told),
+    }
+    told.whole()
 }
 
 // ---- draws
@@ -199,35 +220,47 @@ fn other(draws: &mut Draws, end: u64) -> Line {
 
 // ---- texts
 
-fn header_text(alloc: Global, case: &Case) -> Result<String, Memory> {
+fn record_text(alloc: Global, case: &Case, log: &str) -> Result<String, Memory> {
+    let mut text = Wording::new(alloc);
+    begin_header(case.first, case.floor, "", &mut text);
+    tell_query(case, &mut text);
+    end_header(case.window, &mut text);
+    text.add(log);
+    text.add("\n");
+    for line in case.lines.as_slice() {
+        tell_line(*line, &mut text);
+    }
+    text.whole()
+}
+
+fn tell_query(case: &Case, text: &mut Wording) {
+    text.add("watch=true");
+    tell_start(case, text);
+    if case.selects {
+        text.add("&labelSelector=app%3Da");
+    }
+    if case.bookmarks {
+        text.add("&allowWatchBookmarks=true");
+    }
+}
+
+fn tell_start(case: &Case, text: &mut Wording) {
     let streams = "&sendInitialEvents=true&resourceVersionMatch=NotOlderThan";
-    let start = match case.start {
-        Start::Here => String::from_str(
-            alloc,
-            "&sendInitialEvents=false&resourceVersionMatch=NotOlderThan",
-        )?,
-        Start::Revision(rev) => format!(in alloc; "&resourceVersion={rev}")?,
-        Start::State { at_least: 0 } if case.closing => String::from_str(alloc, streams)?,
-        Start::State { at_least: 0 } => String::new(alloc),
-        Start::State { at_least } => format!(in alloc; "{streams}&resourceVersion={at_least}")?,
-    };
-    let labels = if case.selects {
-        "&labelSelector=app%3Da"
-    } else {
-        ""
-    };
-    let marks = if case.bookmarks {
-        "&allowWatchBookmarks=true"
-    } else {
-        ""
-    };
-    let query = format!(in alloc; "watch=true{start}{labels}{marks}")?;
-    header(
-        alloc,
-        (case.first, case.floor, case.window),
-        "",
-        query.as_str(),
-    )
+    match case.start {
+        Start::Here => text.add("&sendInitialEvents=false&resourceVersionMatch=NotOlderThan"),
+        Start::Revision(rev) => tell_revision(rev, text),
+        Start::State { at_least: 0 } if case.closing => text.add(streams),
+        Start::State { at_least: 0 } => {}
+        Start::State { at_least } => {
+            text.add(streams);
+            tell_revision(at_least, text);
+        }
+    }
+}
+
+fn tell_revision(rev: u64, text: &mut Wording) {
+    text.add("&resourceVersion=");
+    text.show(&rev);
 }
 
 fn label_text(label: u8) -> &'static str {
@@ -261,32 +294,29 @@ fn change(is_pod: bool, pod: u8, rev: u64, label: u8) -> Change<'static> {
 }
 
 fn log_text(alloc: Global, case: &Case) -> Result<String, Memory> {
-    let mut lines = String::new(alloc);
+    let mut lines = Wording::new(alloc);
     for rev in case.first.saturating_add(1)..case.end.saturating_add(1) {
-        let mut line = String::new(alloc);
-        for step in case.log.as_slice() {
-            if step.rev == rev {
-                if !line.is_empty() {
-                    line.push_str(",")?;
-                }
-                let text = change(step.is_pod, step.pod, rev, step.label).text(alloc)?;
-                line.push_str(text.as_str())?;
+        begin_log_line(&mut lines);
+        tell_changes(case.log.as_slice(), rev, &mut lines);
+        end_log_line(rev, &mut lines);
+    }
+    lines.whole()
+}
+
+fn tell_changes(log: &[Step], rev: u64, text: &mut Wording) {
+    let mut is_first = true;
+    for step in log {
+        if step.rev == rev {
+            if !is_first {
+                text.add(",");
             }
+            is_first = false;
+            change(step.is_pod, step.pod, rev, step.label).tell(text);
         }
-        lines.push_str(log_line(alloc, line.as_str(), rev)?.as_str())?;
     }
-    Ok(lines)
 }
 
-fn body_text(alloc: Global, case: &Case) -> Result<String, Memory> {
-    let mut lines = String::new(alloc);
-    for line in case.lines.as_slice() {
-        lines.push_str(line_text(alloc, *line)?.as_str())?;
-    }
-    Ok(lines)
-}
-
-fn line_text(alloc: Global, line: Line) -> Result<String, Memory> {
+fn tell_line(line: Line, text: &mut Wording) {
     match line {
         Line::Told {
             kind,
@@ -294,13 +324,13 @@ fn line_text(alloc: Global, line: Line) -> Result<String, Memory> {
             label,
             rev,
         } => {
-            let object = change(true, pod, rev, label).object(alloc, label_text(label))?;
-            event(alloc, kind_text(kind), object.as_str())
+            let change = change(true, pod, rev, label);
+            event(kind_text(kind), &change, label_text(label), text);
         }
-        Line::Mark(rev) => bookmark(alloc, rev, false),
-        Line::Closing(rev) => bookmark(alloc, rev, true),
-        Line::Lost(asked, rev) => loss(alloc, asked, rev),
-        Line::Other => String::from_str(alloc, "{}\n"),
+        Line::Mark(rev) => bookmark(rev, false, text),
+        Line::Closing(rev) => bookmark(rev, true, text),
+        Line::Lost(asked, rev) => loss(asked, rev, text),
+        Line::Other => text.add("{}\n"),
     }
 }
 

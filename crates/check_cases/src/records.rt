@@ -1,9 +1,9 @@
 //! Rows of bytes that are read as a record: words that are put one behind the other.
 
-use case_rows::{Steps, plain};
+use case_rows::{Steps, Wording, plain};
 use kube_meta::Memory;
 use std::alloc::Global;
-use watch_record::{RecordNo, read_record};
+use watch_record::{Record, RecordNo, read_record};
 
 /// The members of the usual first line.
 const MEMBERS: [(&str, &str); 6] = [
@@ -20,44 +20,54 @@ const MEMBERS: [(&str, &str); 6] = [
 pub struct Records;
 
 impl Steps for Records {
-    fn answer(&mut self, alloc: Global, step: &str) -> Result<String, Memory> {
+    fn answer(&mut self, alloc: Global, step: &str, told: &mut Wording) -> Result<(), Memory> {
         let mut bytes = Vec::new(alloc);
         for word in step.split(' ') {
             push_word(alloc, &mut bytes, word)?;
         }
         match read_record(alloc, bytes.as_slice()) {
-            Ok(case) => {
-                let revisions = case.log.as_slice().len();
-                let lines = case.lines.as_slice().len();
-                format!(in alloc; "{revisions} revisions, {lines} lines")
-            }
-            Err(RecordNo::Memory) => Err(Memory),
-            Err(fault) => format!(in alloc; "{fault:?}"),
+            Ok(case) => tell_record(&case, told),
+            Err(RecordNo::Memory) => return Err(Memory),
+            Err(fault) => told.debug(&fault),
         }
+        Ok(())
     }
+}
+
+fn tell_record(case: &Record, told: &mut Wording) {
+    told.show(&case.log.as_slice().len());
+    told.add(" revisions, ");
+    told.show(&case.lines.as_slice().len());
+    told.add(" lines");
 }
 
 // Writes what a word stands for.
 fn push_word(alloc: Global, bytes: &mut Vec<u8>, word: &str) -> Result<(), Memory> {
     let (name, rest) = word.split_once(':').unwrap_or((word, ""));
     match name {
-        "H" => push_text(bytes, header(alloc, rest)?.as_str()),
-        "L" => push_text(bytes, line(alloc, rest)?.as_str()),
-        "CHANGES" => push_text(bytes, changes(alloc, count(rest))?.as_str()),
-        "DEEP" => push_text(bytes, deep(alloc, count(rest))?.as_str()),
+        "H" | "L" | "CHANGES" | "DEEP" => {
+            let mut text = Wording::new(alloc);
+            tell_line(name, rest, &mut text);
+            bytes.extend_from_slice(text.whole()?.as_bytes())
+        }
         "LINES" => push_lines(bytes, count(rest)),
         "BYTES" => bytes.extend_from_slice(vec![in alloc; 255u8; count(rest) as usize]?.as_slice()),
         "NOTHING" => Ok(()),
-        _ => push_text(bytes, plain(alloc, word)?.as_str()),
+        _ => bytes.extend_from_slice(plain(alloc, word)?.as_bytes()),
+    }
+}
+
+fn tell_line(name: &str, rest: &str, text: &mut Wording) {
+    match name {
+        "H" => tell_header(rest, text),
+        "L" => tell_pods(rest, text),
+        "CHANGES" => tell_changes(count(rest), text),
+        _ => tell_deep(count(rest), text),
     }
 }
 
 fn count(word: &str) -> u32 {
     word.parse::<u32>().unwrap_or(0)
-}
-
-fn push_text(bytes: &mut Vec<u8>, text: &str) -> Result<(), Memory> {
-    bytes.extend_from_slice(text.as_bytes())
 }
 
 fn push_lines(bytes: &mut Vec<u8>, count: u32) -> Result<(), Memory> {
@@ -68,17 +78,20 @@ fn push_lines(bytes: &mut Vec<u8>, count: u32) -> Result<(), Memory> {
 }
 
 // The usual first line, with other values of the members that are named, as `floor=0`.
-fn header(alloc: Global, others: &str) -> Result<String, Memory> {
-    let mut text = String::from_str(alloc, "{")?;
+fn tell_header(others: &str, text: &mut Wording) {
+    text.add("{");
+    let mut is_first = true;
     for (name, usual) in MEMBERS {
-        if text.len() > 1 {
-            text.push_str(",")?;
+        if !is_first {
+            text.add(",");
         }
-        let value = other(others, name).unwrap_or(usual);
-        text.push_str(format!(in alloc; "\"{name}\":{value}")?.as_str())?;
+        text.add("\"");
+        text.add(name);
+        text.add("\":");
+        text.add(other(others, name).unwrap_or(usual));
+        is_first = false;
     }
-    text.push_str("}")?;
-    Ok(text)
+    text.add("}");
 }
 
 // The value of a name among words as `floor=0`, which `;` parts.
@@ -94,50 +107,56 @@ fn other<'t>(others: &'t str, name: &str) -> Option<&'t str> {
 }
 
 // The line of a create of the pod `web` at 2; or of the pods that are named, as `a@2` or `a,b@2`.
-fn line(alloc: Global, pods: &str) -> Result<String, Memory> {
+fn tell_pods(pods: &str, text: &mut Wording) {
     let pods = if pods.is_empty() { "web@2" } else { pods };
     let (names, rev) = pods.split_once('@').unwrap_or((pods, "2"));
-    let mut text = String::new(alloc);
+    text.add("{\"changes\":[");
+    let mut is_first = true;
     for name in names.split(',') {
-        if !text.is_empty() {
-            text.push_str(",")?;
+        if !is_first {
+            text.add(",");
         }
-        text.push_str(pod(alloc, name)?.as_str())?;
+        tell_pod(name, text);
+        is_first = false;
     }
-    format!(in alloc; "{{\"changes\":[{text}],\"rev\":{rev}}}")
+    text.add("],\"rev\":");
+    text.add(rev);
+    text.add("}");
 }
 
 // The create of a pod.
-fn pod(alloc: Global, name: &str) -> Result<String, Memory> {
-    format!(in alloc;
-        "{{\"key\":\"default/{name}\",\"object\":{{\"metadata\":{{\"name\":\"{name}\"}}}},\"resource\":\"pods\"}}"
-    )
+fn tell_pod(name: &str, text: &mut Wording) {
+    text.add("{\"key\":\"default/");
+    text.add(name);
+    text.add("\",\"object\":{\"metadata\":{\"name\":\"");
+    text.add(name);
+    text.add("\"}},\"resource\":\"pods\"}");
 }
 
 // The line of so many removals at 2.
-fn changes(alloc: Global, many: u32) -> Result<String, Memory> {
-    let mut text = String::new(alloc);
+fn tell_changes(many: u32, text: &mut Wording) {
+    text.add("{\"changes\":[");
     for i in 0..many {
         if i > 0 {
-            text.push_str(",")?;
+            text.add(",");
         }
-        text.push_str(format!(in alloc;
-            "{{\"key\":\"default/p-{i:04}\",\"object\":null,\"resource\":\"pods\"}}"
-        )?.as_str())?;
+        text.add("{\"key\":\"default/p-");
+        text.show(&format_args!("{i:04}"));
+        text.add("\",\"object\":null,\"resource\":\"pods\"}");
     }
-    format!(in alloc; "{{\"changes\":[{text}],\"rev\":2}}")
+    text.add("],\"rev\":2}");
 }
 
 // The line of a create of a pod that nests so deep.
-fn deep(alloc: Global, depth: u32) -> Result<String, Memory> {
-    let mut front = String::new(alloc);
-    let mut back = String::new(alloc);
+fn tell_deep(depth: u32, text: &mut Wording) {
+    text.add(
+        "{\"changes\":[{\"key\":\"default/web\",\"object\":{\"metadata\":{\"name\":\"web\"},\"spec\":",
+    );
     for _ in 1..depth {
-        front.push_str("[")?;
-        back.push_str("]")?;
+        text.add("[");
     }
-    let object = format!(in alloc; "{{\"metadata\":{{\"name\":\"web\"}},\"spec\":{front}{back}}}")?;
-    format!(in alloc;
-        "{{\"changes\":[{{\"key\":\"default/web\",\"object\":{object},\"resource\":\"pods\"}}],\"rev\":2}}"
-    )
+    for _ in 1..depth {
+        text.add("]");
+    }
+    text.add("},\"resource\":\"pods\"}],\"rev\":2}");
 }

@@ -1,7 +1,6 @@
 //! The texts of records, put together here without the crates that are tried: objects, lines of a log, lines of a body.
 
-use kube_meta::Memory;
-use std::alloc::Global;
+use case_rows::Wording;
 
 /// A change of a pod or a config map, as a row has it: its label `app`, empty where it has none, after it and before
 /// it.
@@ -30,78 +29,100 @@ impl Change<'_> {
     }
 
     /// The object as it is shown with this label at the change's revision.
-    pub fn object(&self, alloc: Global, label: &str) -> Result<String, Memory> {
-        let labels = if label.is_empty() {
-            String::new(alloc)
-        } else {
-            format!(in alloc; "\"labels\":{{\"app\":\"{label}\"}},")?
-        };
-        let kind = self.kind();
-        let name = self.name;
-        let ns = self.ns;
-        let rev = self.rev;
-        let metadata = format!(in alloc;
-            "{labels}\"name\":\"{name}\",\"namespace\":\"{ns}\",\"resourceVersion\":\"{rev}\""
-        )?;
-        format!(in alloc;
-            "{{\"apiVersion\":\"v1\",\"kind\":\"{kind}\",\"metadata\":{{{metadata}}}}}"
-        )
+    fn tell_object(&self, label: &str, text: &mut Wording) {
+        text.add("{\"apiVersion\":\"v1\",\"kind\":\"");
+        text.add(self.kind());
+        text.add("\",\"metadata\":{");
+        if !label.is_empty() {
+            text.add("\"labels\":{\"app\":\"");
+            text.add(label);
+            text.add("\"},");
+        }
+        text.add("\"name\":\"");
+        text.add(self.name);
+        text.add("\",\"namespace\":\"");
+        text.add(self.ns);
+        text.add("\",\"resourceVersion\":\"");
+        text.show(&self.rev);
+        text.add("\"}}");
     }
 
     /// The change as a line of a log has it.
-    pub fn text(&self, alloc: Global) -> Result<String, Memory> {
-        let object = match self.after {
-            Some(label) => self.object(alloc, label)?,
-            None => String::from_str(alloc, "null")?,
-        };
-        let ns = self.ns;
-        let name = self.name;
-        let resource = self.resource();
-        format!(in alloc;
-            "{{\"key\":\"{ns}/{name}\",\"object\":{object},\"resource\":\"{resource}\"}}"
-        )
+    pub fn tell(&self, text: &mut Wording) {
+        text.add("{\"key\":\"");
+        text.add(self.ns);
+        text.add("/");
+        text.add(self.name);
+        text.add("\",\"object\":");
+        match self.after {
+            Some(label) => self.tell_object(label, text),
+            None => text.add("null"),
+        }
+        text.add(",\"resource\":\"");
+        text.add(self.resource());
+        text.add("\"}");
     }
 }
 
-/// The line of a log with these changes, which are joined by commas.
-pub fn log_line(alloc: Global, changes: &str, rev: u64) -> Result<String, Memory> {
-    format!(in alloc; "{{\"changes\":[{changes}],\"rev\":{rev}}}\n")
+/// The front of a log's line, behind which its changes stand, with commas between them.
+pub fn begin_log_line(text: &mut Wording) {
+    text.add("{\"changes\":[");
 }
 
-/// The line of a body with an event of this type.
-pub fn event(alloc: Global, kind: &str, object: &str) -> Result<String, Memory> {
-    format!(in alloc; "{{\"type\":\"{kind}\",\"object\":{object}}}\n")
+/// The back of a log's line.
+pub fn end_log_line(rev: u64, text: &mut Wording) {
+    text.add("],\"rev\":");
+    text.show(&rev);
+    text.add("}\n");
+}
+
+/// The line of a body with an event of this type, which shows what a change makes of its object.
+pub fn event(kind: &str, change: &Change<'_>, label: &str, text: &mut Wording) {
+    text.add("{\"type\":\"");
+    text.add(kind);
+    text.add("\",\"object\":");
+    change.tell_object(label, text);
+    text.add("}\n");
 }
 
 /// The line of a bookmark, which may close the initial events.
-pub fn bookmark(alloc: Global, rev: u64, closes: bool) -> Result<String, Memory> {
-    let annotations = if closes {
-        "\"annotations\":{\"k8s.io/initial-events-end\":\"true\"},"
-    } else {
-        ""
-    };
-    let object = format!(in alloc;
-        "{{\"apiVersion\":\"v1\",\"kind\":\"Pod\",\"metadata\":{{{annotations}\"resourceVersion\":\"{rev}\"}}}}"
-    )?;
-    event(alloc, "BOOKMARK", object.as_str())
+pub fn bookmark(rev: u64, closes: bool, text: &mut Wording) {
+    text.add(
+        "{\"type\":\"BOOKMARK\",\"object\":{\"apiVersion\":\"v1\",\"kind\":\"Pod\",\"metadata\":{",
+    );
+    if closes {
+        text.add("\"annotations\":{\"k8s.io/initial-events-end\":\"true\"},");
+    }
+    text.add("\"resourceVersion\":\"");
+    text.show(&rev);
+    text.add("\"}}}\n");
 }
 
 /// The line that tells of a loss.
-pub fn loss(alloc: Global, asked: u64, floor: u64) -> Result<String, Memory> {
-    let object = format!(in alloc;
-        "{{\"apiVersion\":\"v1\",\"code\":410,\"kind\":\"Status\",\"message\":\"too old resource version: {asked} ({floor})\",\"metadata\":{{}},\"reason\":\"Expired\",\"status\":\"Failure\"}}"
-    )?;
-    event(alloc, "ERROR", object.as_str())
+pub fn loss(asked: u64, floor: u64, text: &mut Wording) {
+    text.add(
+        "{\"type\":\"ERROR\",\"object\":{\"apiVersion\":\"v1\",\"code\":410,\"kind\":\"Status\",\"message\":\"too old resource version: ",
+    );
+    text.show(&asked);
+    text.add(" (");
+    text.show(&floor);
+    text.add(")\",\"metadata\":{},\"reason\":\"Expired\",\"status\":\"Failure\"}}\n");
 }
 
-/// The first line of a record of pods. The texts need no escape.
-pub fn header(
-    alloc: Global,
-    numbers: (u64, u64, u64),
-    ns: &str,
-    query: &str,
-) -> Result<String, Memory> {
-    let (first, floor, window) = numbers;
-    let front = format!(in alloc; "{{\"first\":{first},\"floor\":{floor},\"namespace\":\"{ns}\",")?;
-    format!(in alloc; "{front}\"query\":\"{query}\",\"resource\":\"pods\",\"window\":{window}}}\n")
+/// The front of the first line of a record of pods, up to its query. The texts need no escape.
+pub fn begin_header(first: u64, floor: u64, ns: &str, text: &mut Wording) {
+    text.add("{\"first\":");
+    text.show(&first);
+    text.add(",\"floor\":");
+    text.show(&floor);
+    text.add(",\"namespace\":\"");
+    text.add(ns);
+    text.add("\",\"query\":\"");
+}
+
+/// The back of the first line, behind its query.
+pub fn end_header(window: u64, text: &mut Wording) {
+    text.add("\",\"resource\":\"pods\",\"window\":");
+    text.show(&window);
+    text.add("}\n");
 }

@@ -3,32 +3,39 @@
 use crate::asks::{get_ask, list_ask, meaning, of_fields, start, watch_ask};
 use crate::pods::{creation, removal, replacement};
 use crate::seat::Seat;
-use crate::texts::{lines_text, rows_text};
-use case_rows::{number, split};
-use client_api::{Client, Took};
+use crate::texts::{tell_lines, tell_rows};
+use case_rows::{Wording, number, split};
+use client_api::{Client, Listed, Took};
 use kube_meta::Memory;
+use list_rules::{GetAsk, ListAsk};
 use std::alloc::Global;
 use up_store::{Operate, WriteAsk};
 
 /// How many nodes there are that pods are bound to by their number.
 const NODES: u64 = 3;
 
-/// The answer of a client to a step, in words.
-pub fn answer<C: Client>(alloc: Global, seat: &mut Seat<C>, step: &str) -> Result<String, Memory> {
+/// Tells the answer of a client to a step.
+pub fn answer<C: Client>(
+    alloc: Global,
+    seat: &mut Seat<C>,
+    step: &str,
+    told: &mut Wording,
+) -> Result<(), Memory> {
     let (verb, rest) = split(step);
     let (first, second) = split(rest);
     match verb {
-        "create" => write(alloc, seat, &creation(alloc, first, second)?),
-        "replace" => write(alloc, seat, &replacement(alloc, first, second)?),
-        "remove" => write(alloc, seat, &removal(alloc, first)?),
-        "fill" => fill(alloc, seat, number(first)),
-        "get" => get(alloc, seat, first, second),
-        "list" | "count" => list(alloc, seat, (verb, first, second)),
-        "cut" => operate(alloc, seat, Operate::Cut),
-        "compact" => operate(alloc, seat, Operate::Compact { at: number(first) }),
-        "restart" => operate(alloc, seat, Operate::Restart),
-        _ => watching(alloc, seat, (verb, first, second)),
+        "create" => write(seat, &creation(alloc, first, second)?, told),
+        "replace" => write(seat, &replacement(alloc, first, second)?, told),
+        "remove" => write(seat, &removal(alloc, first)?, told),
+        "fill" => fill(alloc, seat, number(first), told)?,
+        "get" => get(seat, &get_ask(alloc, first, second)?, told),
+        "list" | "count" => list(alloc, seat, (verb, first, second), told)?,
+        "cut" => operate(seat, Operate::Cut, told),
+        "compact" => operate(seat, Operate::Compact { at: number(first) }, told),
+        "restart" => operate(seat, Operate::Restart, told),
+        _ => watching(alloc, seat, (verb, first, second), told)?,
     }
+    Ok(())
 }
 
 // The steps of watches.
@@ -36,61 +43,79 @@ fn watching<C: Client>(
     alloc: Global,
     seat: &mut Seat<C>,
     words: (&str, &str, &str),
-) -> Result<String, Memory> {
+    told: &mut Wording,
+) -> Result<(), Memory> {
     let (verb, first, second) = words;
     match verb {
-        "watch" => watch(alloc, seat, first, second),
-        "take" => take(alloc, seat, number(first)),
+        "watch" => watch(alloc, seat, first, second, told),
+        "take" => take(seat, number(first), told)?,
         "end" => {
             seat.end_watch();
-            Ok(format!(in alloc; "ok")?)
+            told.add("ok");
         }
         "tick" => {
             seat.tick(number(first));
-            Ok(format!(in alloc; "ok")?)
+            told.add("ok");
         }
-        _ => Ok(format!(in alloc; "no such step")?),
+        _ => told.add("no such step"),
     }
+    Ok(())
 }
 
-fn write<C: Client>(alloc: Global, seat: &mut Seat<C>, ask: &WriteAsk) -> Result<String, Memory> {
+fn write<C: Client>(seat: &mut Seat<C>, ask: &WriteAsk, told: &mut Wording) {
     match seat.write(ask) {
-        Ok(written) => Ok(format!(in alloc; "{}", written.rev)?),
-        Err(no) => Ok(format!(in alloc; "{no:?}")?),
+        Ok(written) => told.show(&written.rev),
+        Err(no) => told.debug(&no),
     }
 }
 
 // Creates so many pods, each followed by a list, and answers as the last create does.
-fn fill<C: Client>(alloc: Global, seat: &mut Seat<C>, pods: u64) -> Result<String, Memory> {
-    let mut last = String::new(alloc);
+fn fill<C: Client>(
+    alloc: Global,
+    seat: &mut Seat<C>,
+    pods: u64,
+    told: &mut Wording,
+) -> Result<(), Memory> {
+    let mut last = Wording::new(alloc);
     for number in 0..pods.min(10_000) {
-        last = create_and_list(alloc, seat, number.saturating_add(1))?;
+        last = Wording::new(alloc);
+        create_and_list(alloc, seat, number.saturating_add(1), &mut last)?;
     }
-    Ok(last)
+    told.add(last.whole()?.as_str());
+    Ok(())
 }
 
 fn create_and_list<C: Client>(
     alloc: Global,
     seat: &mut Seat<C>,
     number: u64,
-) -> Result<String, Memory> {
-    let name = format!(in alloc; "p-{number}")?;
-    let node = format!(in alloc; "node-{}", number % NODES)?;
-    let ask = creation(alloc, name.as_str(), node.as_str())?;
-    let written = write(alloc, seat, &ask)?;
-    list(alloc, seat, ("count", "newest", ""))?;
-    Ok(written)
+    told: &mut Wording,
+) -> Result<(), Memory> {
+    write(seat, &numbered(alloc, number)?, told);
+    list(
+        alloc,
+        seat,
+        ("count", "newest", ""),
+        &mut Wording::new(alloc),
+    )
 }
 
-fn get<C: Client>(
-    alloc: Global,
-    seat: &mut Seat<C>,
-    word: &str,
-    name: &str,
-) -> Result<String, Memory> {
-    match seat.get(&get_ask(alloc, word, name)?) {
-        Ok(got) => Ok(format!(in alloc; "at {}: {}", got.at, got.row.row().rev)?),
-        Err(no) => Ok(format!(in alloc; "{no:?}")?),
+// The creation of a pod with this number, which is bound to a node by it.
+fn numbered(alloc: Global, number: u64) -> Result<WriteAsk, Memory> {
+    let name = format!(in alloc; "p-{number}")?;
+    let node = format!(in alloc; "node-{}", number % NODES)?;
+    creation(alloc, name.as_str(), node.as_str())
+}
+
+fn get<C: Client>(seat: &mut Seat<C>, ask: &GetAsk, told: &mut Wording) {
+    match seat.get(ask) {
+        Ok(got) => {
+            told.add("at ");
+            told.show(&got.at);
+            told.add(": ");
+            told.show(&got.row.row().rev);
+        }
+        Err(no) => told.debug(&no),
     }
 }
 
@@ -99,27 +124,41 @@ fn list<C: Client>(
     alloc: Global,
     seat: &mut Seat<C>,
     words: (&str, &str, &str),
-) -> Result<String, Memory> {
+    told: &mut Wording,
+) -> Result<(), Memory> {
     let (verb, word, fields) = words;
-    let Some(selection) = of_fields(alloc, fields) else {
-        return Ok(format!(in alloc; "no selection")?);
-    };
-    match seat.list(&list_ask(alloc, selection, meaning(word))?) {
-        Ok(listed) if verb == "count" => {
-            Ok(format!(in alloc; "at {}: {}", listed.rev, listed.items.len())?)
+    match of_fields(alloc, fields) {
+        Some(selection) => {
+            let ask = list_ask(alloc, selection, meaning(word))?;
+            tell_list(seat, &ask, verb == "count", told);
         }
-        Ok(listed) => {
-            let rows = rows_text(alloc, listed.items.as_slice())?;
-            Ok(format!(in alloc; "at {}: {}", listed.rev, rows.as_str())?)
-        }
-        Err(no) => Ok(format!(in alloc; "{no:?}")?),
+        None => told.add("no selection"),
+    }
+    Ok(())
+}
+
+fn tell_list<C: Client>(seat: &mut Seat<C>, ask: &ListAsk, counts: bool, told: &mut Wording) {
+    match seat.list(ask) {
+        Ok(listed) => tell_listed(&listed, counts, told),
+        Err(no) => told.debug(&no),
     }
 }
 
-fn operate<C: Client>(alloc: Global, seat: &mut Seat<C>, ask: Operate) -> Result<String, Memory> {
+fn tell_listed(listed: &Listed, counts: bool, told: &mut Wording) {
+    told.add("at ");
+    told.show(&listed.rev);
+    told.add(": ");
+    if counts {
+        told.show(&listed.items.len());
+    } else {
+        tell_rows(listed.items.as_slice(), told);
+    }
+}
+
+fn operate<C: Client>(seat: &mut Seat<C>, ask: Operate, told: &mut Wording) {
     match seat.operate(ask) {
-        Ok(number) => Ok(format!(in alloc; "{number}")?),
-        Err(no) => Ok(format!(in alloc; "{no:?}")?),
+        Ok(number) => told.show(&number),
+        Err(no) => told.debug(&no),
     }
 }
 
@@ -128,32 +167,56 @@ fn watch<C: Client>(
     seat: &mut Seat<C>,
     word: &str,
     fields: &str,
-) -> Result<String, Memory> {
+    told: &mut Wording,
+) {
     let Some(selection) = of_fields(alloc, fields) else {
-        return Ok(format!(in alloc; "no selection")?);
+        told.add("no selection");
+        return;
     };
     match seat.watch(&watch_ask(selection, start(word))) {
         Ok(begun) => {
-            let rows = rows_text(alloc, begun.initial.as_slice())?;
-            Ok(format!(in alloc; "at {}: {}", begun.at, rows.as_str())?)
+            told.add("at ");
+            told.show(&begun.at);
+            told.add(": ");
+            tell_rows(begun.initial.as_slice(), told);
         }
-        Err(no) => Ok(format!(in alloc; "{no:?}")?),
+        Err(no) => told.debug(&no),
     }
 }
 
 // A turn of at most so many lines, or of a hundred.
-fn take<C: Client>(alloc: Global, seat: &mut Seat<C>, most: u64) -> Result<String, Memory> {
+fn take<C: Client>(seat: &mut Seat<C>, most: u64, told: &mut Wording) -> Result<(), Memory> {
     let most = if most == 0 { 100 } else { most.min(10_000) };
     match seat.take(most as usize)? {
-        Some(Took::Events { from, upto, lines }) => {
-            let lines = lines_text(alloc, lines.as_slice())?;
-            Ok(format!(in alloc; "{from} to {upto}: {}", lines.as_str())?)
+        Some(took) => tell_took(&took, told),
+        None => told.add("no watch"),
+    }
+    Ok(())
+}
+
+fn tell_took(took: &Took, told: &mut Wording) {
+    match took {
+        Took::Events { from, upto, lines } => {
+            told.show(from);
+            told.add(" to ");
+            told.show(upto);
+            told.add(": ");
+            tell_lines(lines.as_slice(), told);
         }
-        Some(Took::Quiet { upto, reached }) => {
-            let is_there = if reached { "reached" } else { "not reached" };
-            Ok(format!(in alloc; "quiet at {upto}, {is_there}")?)
+        Took::Quiet { upto, reached } => {
+            told.add("quiet at ");
+            told.show(upto);
+            told.add(if *reached {
+                ", reached"
+            } else {
+                ", not reached"
+            });
         }
-        Some(Took::Lost { at, floor }) => Ok(format!(in alloc; "lost at {at}, floor {floor}")?),
-        None => Ok(format!(in alloc; "no watch")?),
+        Took::Lost { at, floor } => {
+            told.add("lost at ");
+            told.show(at);
+            told.add(", floor ");
+            told.show(floor);
+        }
     }
 }

@@ -5,7 +5,7 @@ use crate::asks::list_ask;
 use crate::pods::{some_selection, some_write};
 use crate::seat::Seat;
 use crate::told::Told;
-use case_rows::Draws;
+use case_rows::{Draws, Wording};
 use client_api::Client;
 use kube_meta::Memory;
 use select_all::Meaning;
@@ -86,18 +86,21 @@ impl Part {
 }
 
 /// What a storm leaves, in words: `right`, or what isn't. It led from one revision to another.
-pub fn outcome(alloc: Global, first: u64, last: u64, sum: Part) -> Result<String, Memory> {
+pub fn outcome(first: u64, last: u64, sum: Part, told: &mut Wording) {
     if sum.wrongs > 0 {
-        return Ok(format!(in alloc; "{} things went wrong", sum.wrongs)?);
+        told.show(&sum.wrongs);
+        told.add(" things went wrong");
+    } else if last != first.saturating_add(sum.accepted) {
+        told.show(&sum.accepted);
+        told.add(" writes accepted, from ");
+        told.show(&first);
+        told.add(" to ");
+        told.show(&last);
+    } else if sum.accepted == 0 || sum.lines == 0 || sum.compared < WATCHERS as u64 {
+        told.add("little was done");
+    } else {
+        told.add("right");
     }
-    if last != first.saturating_add(sum.accepted) {
-        let accepted = sum.accepted;
-        return Ok(format!(in alloc; "{accepted} writes accepted, from {first} to {last}")?);
-    }
-    if sum.accepted == 0 || sum.lines == 0 || sum.compared < WATCHERS as u64 {
-        return Ok(format!(in alloc; "little was done")?);
-    }
-    Ok(format!(in alloc; "right")?)
 }
 
 /// The revision that the log has reached.

@@ -1,50 +1,62 @@
 //! Answers in words.
 
-use case_rows::row_text;
+use case_rows::{Wording, tell_row};
 use client_api::Line;
 use encode_once::Shown;
-use kube_meta::Memory;
-use std::alloc::Global;
 use std::sync::Arc;
 
-/// Of more pieces than this the first and the last are shown.
+/// Of more objects or lines than this the first and the last are shown.
 const FEW: usize = 10;
 
-/// Each object as `[p-1 2]`.
-pub fn rows_text(alloc: Global, rows: &[Arc<Shown>]) -> Result<String, Memory> {
-    let mut pieces = Vec::new(alloc);
-    for shown in rows {
-        pieces.push(row_text(alloc, shown.row())?)?;
+/// Each object as `[p-1 2]`. Of many the first and the last are shown, and how many there are.
+pub fn tell_rows(rows: &[Arc<Shown>], told: &mut Wording) {
+    match (rows.first(), rows.last()) {
+        (Some(first), Some(last)) if rows.len() > FEW => {
+            tell_row(first.row(), told);
+            told.add("..");
+            tell_row(last.row(), told);
+            tell_count(rows.len(), told);
+        }
+        (Some(_), _) => {
+            for shown in rows {
+                tell_row(shown.row(), told);
+            }
+        }
+        _ => told.add("nothing"),
     }
-    together(alloc, pieces.as_slice())
 }
 
-/// Each line as `[Added p-1 2]`.
-pub fn lines_text(alloc: Global, lines: &[Line]) -> Result<String, Memory> {
-    let mut pieces = Vec::new(alloc);
-    for line in lines {
-        pieces.push(line_text(alloc, line)?)?;
+/// Each line as `[Added p-1 2]`. Of many the first and the last are shown, and how many there are.
+pub fn tell_lines(lines: &[Line], told: &mut Wording) {
+    match (lines.first(), lines.last()) {
+        (Some(first), Some(last)) if lines.len() > FEW => {
+            tell_line(first, told);
+            told.add("..");
+            tell_line(last, told);
+            tell_count(lines.len(), told);
+        }
+        (Some(_), _) => {
+            for line in lines {
+                tell_line(line, told);
+            }
+        }
+        _ => told.add("nothing"),
     }
-    together(alloc, pieces.as_slice())
 }
 
-fn line_text(alloc: Global, line: &Line) -> Result<String, Memory> {
+fn tell_line(line: &Line, told: &mut Wording) {
     let row = line.shown.row();
-    Ok(format!(in alloc; "[{:?} {} {}]", line.kind, row.obj.key.name(), row.rev)?)
+    told.add("[");
+    told.debug(&line.kind);
+    told.add(" ");
+    told.add(row.obj.key.name());
+    told.add(" ");
+    told.show(&row.rev);
+    told.add("]");
 }
 
-// The pieces, one behind the other. Of many the first and the last are shown, and how many there are.
-fn together(alloc: Global, pieces: &[String]) -> Result<String, Memory> {
-    let (Some(first), Some(last)) = (pieces.first(), pieces.last()) else {
-        return Ok(format!(in alloc; "nothing")?);
-    };
-    if pieces.len() > FEW {
-        let count = pieces.len();
-        return Ok(format!(in alloc; "{}..{}, {count} in all", first.as_str(), last.as_str())?);
-    }
-    let mut text = String::new(alloc);
-    for piece in pieces {
-        text.push_str(piece.as_str())?;
-    }
-    Ok(text)
+fn tell_count(count: usize, told: &mut Wording) {
+    told.add(", ");
+    told.show(&count);
+    told.add(" in all");
 }

@@ -1,11 +1,10 @@
 //! What is told by one line of code each.
 
 use crate::{laws, systems};
-use case_rows::Steps;
+use case_rows::{NO_STEP, Steps, Wording};
 use kube_meta::Memory;
 use script_cases::{empty_cache, pump};
 use std::alloc::Global;
-use step_cases::{NO_STEP, words};
 use up_api::Settings;
 
 /// Scenes need the system, and what two threads told, which were started before.
@@ -16,19 +15,20 @@ pub struct Scenes {
 }
 
 impl Steps for Scenes {
-    fn answer(&mut self, alloc: Global, step: &str) -> Result<String, Memory> {
+    fn answer(&mut self, alloc: Global, step: &str, told: &mut Wording) -> Result<(), Memory> {
         match step {
-            "the usual settings" => Ok(format!(in alloc; "{:?}", Settings::usual())?),
-            "the cache of an empty log" => empty_cache(alloc),
-            "a pump that misses nothing" => pump(alloc, false),
-            "a pump without memory" => pump(alloc, true),
-            "two threads at one log" => words(alloc, self.threads.as_str()),
-            "the laws" => words(alloc, laws::called()),
-            "standard input and output" => systems::standard_ends(self.rt),
-            "the system's clock" => systems::clock(self.rt),
-            "a TCP connection" => systems::connection(self.rt),
-            "a port that was shut" => systems::shut_port(self.rt),
-            _ => words(alloc, NO_STEP),
+            "the usual settings" => told.debug(&Settings::usual()),
+            "the cache of an empty log" => empty_cache(alloc, told)?,
+            "a pump that misses nothing" => pump(alloc, false, told)?,
+            "a pump without memory" => pump(alloc, true, told)?,
+            "two threads at one log" => told.add(self.threads.as_str()),
+            "the laws" => told.add(laws::called()),
+            "standard input and output" => systems::standard_ends(self.rt, told),
+            "the system's clock" => systems::clock(self.rt, told),
+            "a TCP connection" => systems::connection(self.rt, told),
+            "a port that was shut" => told.add(systems::shut_port(self.rt)),
+            _ => told.add(NO_STEP),
         }
+        Ok(())
     }
 }

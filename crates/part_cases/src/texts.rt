@@ -5,17 +5,13 @@ mod command_lines;
 mod refusals;
 mod routes;
 
-use case_rows::{Lines, Row, Tally, meets, plain};
-use std::alloc::Global;
+use case_rows::{Lines, Row, Tally, Wording, meets, plain};
+use std::alloc::{AllocError, Global};
 use std::io;
 use std::rt::Runtime;
-use text_cases::Answer;
 
 /// What a line wants that is no row: an answer that nothing gives.
 const NO_ROW: &str = "(a row is written INPUT => ANSWER)";
-
-/// What is answered to an input that its file's subject doesn't know.
-const NO_INPUT: &str = "(this row's input isn't written as its file's rows are)";
 
 /// Runs the rows of one file.
 pub fn run<R: Runtime>(
@@ -44,23 +40,26 @@ fn run_row<R: Runtime>(
 ) -> io::Result<bool> {
     let input = plain(alloc, row.step)?;
     let wanted = plain(alloc, row.wanted)?;
-    let answer = answer(alloc, place.0, input.as_str())?;
+    let answer = answer_to(alloc, place.0, input.as_str())?;
     let row = Row {
         step: input.as_str(),
         wanted: wanted.as_str(),
     };
-    match answer {
-        Some(answer) => meets(rt, place, row, answer.as_str()),
-        None => meets(rt, place, row, NO_INPUT),
-    }
+    meets(rt, place, row, answer.as_str())
 }
 
 /// The answer of the subject that a file's name says.
-fn answer(alloc: Global, file: &str, input: &str) -> Answer {
+fn answer_to(alloc: Global, file: &str, input: &str) -> Result<String, AllocError> {
+    let mut told = Wording::new(alloc);
+    answer(alloc, file, input, &mut told)?;
+    told.whole()
+}
+
+fn answer(alloc: Global, file: &str, input: &str, told: &mut Wording) -> Result<(), AllocError> {
     match file {
-        "texts/routes.txt" => routes::answer(alloc, input),
-        "texts/refusals.txt" => refusals::answer(alloc, input),
-        "texts/command_lines.txt" => command_lines::answer(alloc, input),
-        _ => text_cases::answer(alloc, file, input),
+        "texts/routes.txt" => routes::answer(alloc, input, told),
+        "texts/refusals.txt" => refusals::answer(alloc, input, told),
+        "texts/command_lines.txt" => command_lines::answer(alloc, input, told),
+        _ => text_cases::answer(alloc, file, input, told),
     }
 }

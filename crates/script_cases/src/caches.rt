@@ -3,6 +3,7 @@
 ghost use Rattle.std.specs.Prelude.{◌≡◌, []};
 
 use cache_core::Cache;
+use case_rows::Wording;
 use kube_meta::{Memory, Resource};
 use std::alloc::Global;
 use up_api::{History, Polled, Settings};
@@ -31,27 +32,34 @@ fn no_revisions(alloc: Global) -> Polled
 }
 
 /// The cache of such a log, before and after such a poll.
-pub fn empty_cache(alloc: Global) -> Result<String, Memory> {
+pub fn empty_cache(alloc: Global, told: &mut Wording) -> Result<(), Memory> {
     let settings = Settings::usual();
     let mut cache = Cache::new(alloc, Resource::Pods, no_history(alloc), &settings)?;
-    let new = told(alloc, &cache)?;
+    tell_cache(&cache, told)?;
     let mut fresh = Vec::new(alloc);
     cache.apply(&no_revisions(alloc), &mut fresh)?;
-    Ok(format!(in alloc;
-        "{}; polled: end {}, {} events",
-        new.as_str(),
-        cache.end(),
-        fresh.len()
-    )?)
+    told.add("; polled: end ");
+    told.show(&cache.end());
+    told.add(", ");
+    told.show(&fresh.len());
+    told.add(" events");
+    Ok(())
 }
 
 /// The numbers of a cache, its rows, and what it says of revision 0.
-fn told(alloc: Global, cache: &Cache) -> Result<String, Memory> {
-    let (end, base, floor) = (cache.end(), cache.base(), cache.floor());
-    let rows = cache.snapshot()?.len();
-    let text = format!(in alloc; "end {end}, base {base}, floor {floor}, {rows} rows")?;
+fn tell_cache(cache: &Cache, told: &mut Wording) -> Result<(), Memory> {
+    told.add("end ");
+    told.show(&cache.end());
+    told.add(", base ");
+    told.show(&cache.base());
+    told.add(", floor ");
+    told.show(&cache.floor());
+    told.add(", ");
+    told.show(&cache.snapshot()?.len());
+    told.add(" rows, ");
     match cache.at(0) {
-        Ok(_) => Ok(format!(in alloc; "{text}, 0 is served")?),
-        Err(no) => Ok(format!(in alloc; "{text}, {no:?}")?),
+        Ok(_) => told.add("0 is served"),
+        Err(no) => told.debug(&no),
     }
+    Ok(())
 }

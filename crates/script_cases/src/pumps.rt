@@ -2,7 +2,7 @@
 
 ghost use Rattle.std.specs.Prelude.{◌≡◌, IfOk};
 
-use case_rows::key;
+use case_rows::{Wording, key};
 use kube_meta::{Memory, Resource, Row};
 use reflect_core::Reflector;
 use rev_front::{Blank, Pen, blank, start};
@@ -114,33 +114,38 @@ fn removal(alloc: Global, rev: u64) -> Result<Revision, Memory>
 }
 
 /// A pump of a cache that misses nothing, or of one that misses a revision, and what is told of it.
-pub fn pump(alloc: Global, misses: bool) -> Result<String, Memory> {
-    pump_at::<Brand>(alloc, blank(alloc, 7)?, misses)
+pub fn pump(alloc: Global, misses: bool, told: &mut Wording) -> Result<(), Memory> {
+    pump_at::<Brand>(alloc, blank(alloc, 7)?, misses, told)
 }
 
 fn pump_at<N: LogFacts>(
     alloc: Global,
     made: Blank<Revision>,
     misses: bool,
-) -> Result<String, Memory>
+    told: &mut Wording,
+) -> Result<(), Memory>
     requires { made ≡ N.log }
 {
     let mut pen: Pen<Revision, N> = start(made);
-    let mut told = pen.front()?;
+    let mut pass = pen.front()?;
     let mut held = Least {
         resource: Resource::Pods,
-        end: told.end(),
-        base: told.end(),
+        end: pass.end(),
+        base: pass.end(),
         rebuilds: 0,
     };
     let mut up = Poor { asked: 0 };
     let next = pen.revision() + 1;
     if misses && next <= 1 << 62 {
         pen.commit(&removal(alloc, next)?);
-        told.look();
+        pass.look();
     }
-    let until = told.shown();
+    let until = pass.shown();
     let mut reflector = Reflector::with_batch(Resource::Pods, 2);
-    let pumped = reflector.pump(&mut held, &mut up, &mut told, until);
-    Ok(format!(in alloc; "{pumped:?}; asked {}, end {}", up.asked, held.end)?)
+    told.debug(&reflector.pump(&mut held, &mut up, &mut pass, until));
+    told.add("; asked ");
+    told.show(&up.asked);
+    told.add(", end ");
+    told.show(&held.end);
+    Ok(())
 }

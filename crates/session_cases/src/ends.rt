@@ -1,7 +1,7 @@
 //! The ends of sessions, as cases write them.
 
+use case_rows::Wording;
 use http_read::ReqNo;
-use itoa::Buffer;
 use sess_serve::SessionEnd;
 use sess_turns::WatchEnd;
 use std::alloc::{AllocError, Global};
@@ -18,13 +18,13 @@ pub fn end_text(alloc: Global, end: SessionEnd) -> Result<String, AllocError> {
 
 /// A watch that was lost at a position, below which this is kept.
 fn lost_text(alloc: Global, at: u64, floor: u64) -> Result<String, AllocError> {
-    let mut digits = Buffer::new();
-    let mut text = String::from_str(alloc, "Watched(Lost { at: ")?;
-    text.push_str(digits.format(at))?;
-    text.push_str(", floor: ")?;
-    text.push_str(digits.format(floor))?;
-    text.push_str(" })")?;
-    Ok(text)
+    let mut text = Wording::new(alloc);
+    text.add("Watched(Lost { at: ");
+    text.show(&at);
+    text.add(", floor: ");
+    text.show(&floor);
+    text.add(" })");
+    text.whole()
 }
 
 fn watch_end(how: WatchEnd) -> &'static str {

@@ -2,6 +2,7 @@
 
 ghost use Rattle.std.specs.Prelude.{◌≤◌, ◌^◌};
 
+use case_rows::Wording;
 use edge_io::MemSink;
 use kube_meta::Memory;
 use load_gen::{make, run_load};
@@ -41,22 +42,32 @@ impl Load {
     /// The figures of what came back, counted by a code of its own.
     pub fn figures(self, alloc: Global, output: &[u8]) -> Result<String, AllocError> {
         let text = String::from_utf8_lossy(alloc, output)?;
-        let requests = self.requests();
+        let mut told = Wording::new(alloc);
+        self.tell_figures(text.as_str(), &mut told);
+        told.whole()
+    }
+
+    // Counts the replies. The last one is the list, and none to the requests that are drawn.
+    fn tell_figures(self, text: &str, told: &mut Wording) {
         let (mut replies, mut accepted) = (0u64, 0u64);
-        for reply in text.as_str().split("HTTP/1.1 ").skip(1) {
+        for reply in text.split("HTTP/1.1 ").skip(1) {
             replies = replies.saturating_add(1);
             if reply.starts_with('2') {
                 accepted = accepted.saturating_add(1);
             }
         }
-        // the last reply is the list, and none to the requests that are drawn
-        let ok = accepted.saturating_sub(1);
-        let refused = replies.saturating_sub(accepted);
-        let (_, list) = text.as_str().rsplit_once("HTTP/1.1 ").unwrap_or(("", ""));
-        let (revision, items) = (revision_of(list), list.matches("\"kind\":\"Pod\"").count());
-        format!(in alloc;
-            "requests {requests}\nok {ok}\nrefused {refused}\nrevision {revision}\nitems {items}\n"
-        )
+        let (_, list) = text.rsplit_once("HTTP/1.1 ").unwrap_or(("", ""));
+        told.add("requests ");
+        told.show(&self.requests());
+        told.add("\nok ");
+        told.show(&accepted.saturating_sub(1));
+        told.add("\nrefused ");
+        told.show(&replies.saturating_sub(accepted));
+        told.add("\nrevision ");
+        told.add(revision_of(list));
+        told.add("\nitems ");
+        told.show(&list.matches("\"kind\":\"Pod\"").count());
+        told.add("\n");
     }
 
     // The number that it is made from, held within its range.

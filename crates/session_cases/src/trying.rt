@@ -10,6 +10,7 @@ use crate::load::Load;
 use crate::options::Options;
 use crate::serving::{Outcome, in_pieces};
 use crate::sockets::reads_back;
+use case_rows::Wording;
 use edge_io::MemSink;
 use kube_meta::Memory;
 use std::alloc::{AllocError, Global};
@@ -27,149 +28,187 @@ pub fn comes_out<R: Wait + Copy + Drop>(
     answer: &Answer,
 ) -> Result<String, Memory> {
     let mut report = Report {
-        text: String::new(alloc),
-        alloc,
+        kind,
+        case: case.name.as_str(),
+        told: Wording::new(alloc),
     };
-    let title = format!(in alloc; "{}, {}", kind.word(), case.name.as_str())?;
-    if let Some(load) = case.load {
-        try_load(rt, kind, load, answer, title.as_str(), &mut report)?;
-        return Ok(report.text);
+    match case.load {
+        Some(load) => try_load(rt, alloc, load, answer, &mut report)?,
+        None => try_session(rt, alloc, case, answer, &mut report)?,
     }
+    report.told.whole()
+}
+
+/// Serves a case in pieces, and then so that it breaks off.
+fn try_session<R: Wait + Copy + Drop>(
+    rt: R,
+    alloc: Global,
+    case: &Case,
+    answer: &Answer,
+    report: &mut Report<'_>,
+) -> Result<(), Memory> {
     for step in STEPS {
         let input = case.requests.bytes.as_slice();
-        let outcome = in_pieces(rt, alloc, kind, &case.options, input, step)?;
-        report.compare_session(title.as_str(), answer, &outcome)?;
+        let outcome = in_pieces(rt, alloc, report.kind, &case.options, input, step)?;
+        report.compare_session(alloc, answer, &outcome)?;
     }
-    try_breaks(rt, kind, case, answer, title.as_str(), &mut report)?;
-    Ok(report.text)
+    try_breaks(rt, alloc, case, answer, report)
 }
 
 /// Makes a load, and compares its figures: those that the load generator prints, which serves it with a local client
 /// itself, or those of what comes back with another kind.
 fn try_load<R: Wait + Copy + Drop>(
     rt: R,
-    kind: Kind,
+    alloc: Global,
     load: Load,
     answer: &Answer,
-    title: &str,
-    report: &mut Report,
+    report: &mut Report<'_>,
 ) -> Result<(), Memory> {
-    if kind == Kind::Local {
-        report.compare_printed(title, answer, load.printed(report.alloc))?;
-        return Ok(());
+    if report.kind == Kind::Local {
+        report.compare_printed(alloc, answer, load.printed(alloc).as_ref())
+    } else {
+        serve_load(rt, alloc, load, answer, report)
     }
-    serve_load(rt, kind, load, answer, title, report)
 }
 
 /// Makes a load and serves it.
 fn serve_load<R: Wait + Copy + Drop>(
     rt: R,
-    kind: Kind,
+    alloc: Global,
     load: Load,
     answer: &Answer,
-    title: &str,
-    report: &mut Report,
+    report: &mut Report<'_>,
 ) -> Result<(), Memory> {
-    let alloc = report.alloc;
     let session = load.session(alloc)?;
     let options = Options::usual();
-    let outcome = in_pieces(rt, alloc, kind, &options, session.as_slice(), STEPS[1])?;
+    let outcome = in_pieces(
+        rt,
+        alloc,
+        report.kind,
+        &options,
+        session.as_slice(),
+        STEPS[1],
+    )?;
     let figures = load.figures(alloc, outcome.bytes())?;
-    report.compare(title, answer.bytes.as_slice(), figures.as_bytes())?;
-    report.compare_end(title, answer, &outcome)?;
-    Ok(())
+    report.compare(alloc, answer.bytes.as_slice(), figures.as_bytes())?;
+    report.compare_end(alloc, answer, &outcome)
 }
 
 /// What the case names breaks off at each place in turn.
 fn try_breaks<R: Wait + Copy + Drop>(
     rt: R,
-    kind: Kind,
+    alloc: Global,
     case: &Case,
     answer: &Answer,
-    title: &str,
-    report: &mut Report,
+    report: &mut Report<'_>,
 ) -> Result<(), Memory> {
-    let alloc = report.alloc;
     for breaks in &case.breaks {
-        if !breaks.is_tried_with(kind) {
+        if !breaks.is_tried_with(report.kind) {
             continue;
         }
-        if let Some(at) = first_amiss(rt, alloc, kind, case, answer, *breaks)? {
-            let amiss = format!(in alloc;
-                "otherwise where its {} breaks off at {at}",
-                breaks.word()
-            )?;
-            report.say(title, amiss.as_str())?;
+        if let Some(at) = first_amiss(rt, alloc, report.kind, case, answer, *breaks)? {
+            report.say_amiss(breaks.word(), at);
         }
     }
     Ok(())
 }
 
-/// What is to be said of a case.
+/// What is to be said of a case with a kind of client.
 #[derive(Drop)]
-struct Report {
-    text: String,
-    alloc: Global,
+struct Report<'c> {
+    kind: Kind,
+    case: &'c str,
+    told: Wording,
 }
 
-impl Report {
-    // A line of what is amiss.
-    fn say(&mut self, title: &str, amiss: &str) -> Result<(), AllocError> {
-        let line = format!(in self.alloc; "{title}: {amiss}\n")?;
-        self.text.push_str(line.as_str())
+impl Report<'_> {
+    // Begins a line.
+    fn begin(&mut self) {
+        self.told.add(self.kind.word());
+        self.told.add(", ");
+        self.told.add(self.case);
+        self.told.add(": ");
+    }
+
+    // That the case doesn't come out as it is wanted where this breaks off at a place.
+    fn say_amiss(&mut self, end: &str, at: usize) {
+        self.begin();
+        self.told.add("otherwise where its ");
+        self.told.add(end);
+        self.told.add(" breaks off at ");
+        self.told.show(&at);
+        self.told.add("\n");
     }
 
     // What a session came to.
     fn compare_session(
         &mut self,
-        title: &str,
+        alloc: Global,
         answer: &Answer,
         outcome: &Outcome,
     ) -> Result<(), AllocError> {
-        self.compare(title, answer.bytes.as_slice(), outcome.bytes())?;
-        self.compare_end(title, answer, outcome)?;
-        if !reads_back(self.alloc, answer, outcome.bytes()) {
-            self.say(title, "a WebSocket's client reads other messages")?;
+        self.compare(alloc, answer.bytes.as_slice(), outcome.bytes())?;
+        self.compare_end(alloc, answer, outcome)?;
+        if !reads_back(alloc, answer, outcome.bytes()) {
+            self.begin();
+            self.told.add("a WebSocket's client reads other messages\n");
         }
         Ok(())
     }
 
     // Bytes, up to the first place that differs.
-    fn compare(&mut self, title: &str, wanted: &[u8], given: &[u8]) -> Result<(), AllocError> {
-        let Some(at) = first_difference(wanted, given) else {
-            return Ok(());
-        };
-        let wanted = around(self.alloc, wanted, at)?;
-        let given = around(self.alloc, given, at)?;
-        let lines = format!(in self.alloc;
-            "differs from byte {at} on\n    wanted: {}\n    is:     {}",
-            wanted.as_str(),
-            given.as_str()
-        )?;
-        self.say(title, lines.as_str())
+    fn compare(&mut self, alloc: Global, wanted: &[u8], given: &[u8]) -> Result<(), AllocError> {
+        match first_difference(wanted, given) {
+            Some(at) => self.say_difference(alloc, wanted, given, at),
+            None => Ok(()),
+        }
+    }
+
+    fn say_difference(
+        &mut self,
+        alloc: Global,
+        wanted: &[u8],
+        given: &[u8],
+        at: usize,
+    ) -> Result<(), AllocError> {
+        let wanted = around(alloc, wanted, at)?;
+        let given = around(alloc, given, at)?;
+        self.begin();
+        self.told.add("differs from byte ");
+        self.told.show(&at);
+        self.told.add(" on\n    wanted: ");
+        self.told.add(wanted.as_str());
+        self.told.add("\n    is:     ");
+        self.told.add(given.as_str());
+        self.told.add("\n");
+        Ok(())
     }
 
     // How a session ended.
     fn compare_end(
         &mut self,
-        title: &str,
+        alloc: Global,
         answer: &Answer,
         outcome: &Outcome,
     ) -> Result<(), AllocError> {
-        let end = end_text(self.alloc, outcome.end)?;
-        self.compare(title, answer.end.as_bytes(), end.as_bytes())
+        let end = end_text(alloc, outcome.end)?;
+        self.compare(alloc, answer.end.as_bytes(), end.as_bytes())
     }
 
     // What the load generator printed.
     fn compare_printed(
         &mut self,
-        title: &str,
+        alloc: Global,
         answer: &Answer,
-        printed: Option<MemSink>,
+        printed: Option<&MemSink>,
     ) -> Result<(), AllocError> {
         match printed {
-            Some(sink) => self.compare(title, answer.bytes.as_slice(), sink.bytes()),
-            None => self.say(title, "the load came to no end"),
+            Some(sink) => self.compare(alloc, answer.bytes.as_slice(), sink.bytes()),
+            None => {
+                self.begin();
+                self.told.add("the load came to no end\n");
+                Ok(())
+            }
         }
     }
 }

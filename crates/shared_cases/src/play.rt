@@ -2,7 +2,7 @@
 
 use crate::Host;
 use crate::storm::weather;
-use case_rows::{Lines, NO_ROW, Row, Tally, meets, number, split};
+use case_rows::{Lines, NO_ROW, Row, Tally, Wording, meets, number, split};
 use client_api::Client;
 use client_cases::{Seat, Storm, answer};
 use kube_meta::Memory;
@@ -97,42 +97,57 @@ fn repeated(step: &str) -> (u64, &str) {
 
 // The step with the number of the time in place of each `*`.
 fn numbered(alloc: Global, step: &str, time: u64) -> Result<String, Memory> {
-    let time = format!(in alloc; "{time}")?;
-    let mut text = String::new(alloc);
+    let mut text = Wording::new(alloc);
     let mut is_first = true;
     for part in step.split('*') {
         if !is_first {
-            text.push_str(time.as_str())?;
+            text.show(&time);
         }
         is_first = false;
-        text.push_str(part)?;
+        text.add(part);
     }
-    Ok(text)
+    text.whole()
 }
 
-// The answer to a step: of the store and the caches, or of the client that it names.
+// What is answered to a step.
 fn answer_to<'a, N: LogFacts + Send + Sync, R: Host>(
     stage: &Stage<'a, N, R>,
     cast: &mut Cast<SharedClient<'a, N, R>>,
     step: &str,
 ) -> Result<String, Memory> {
+    let mut told = Wording::new(stage.alloc);
+    tell_answer(stage, cast, step, &mut told)?;
+    told.whole()
+}
+
+// Tells the answer to a step: of the store and the caches, or of the client that it names.
+fn tell_answer<'a, N: LogFacts + Send + Sync, R: Host>(
+    stage: &Stage<'a, N, R>,
+    cast: &mut Cast<SharedClient<'a, N, R>>,
+    step: &str,
+    told: &mut Wording,
+) -> Result<(), Memory> {
     let (word, rest) = split(step);
     match word {
-        "reads" => reads(stage),
-        "pump" => pump(stage),
+        "reads" => told.show(&stage.door.reads().saturating_sub(stage.noted)),
+        "pump" => {
+            pump(stage)?;
+            told.add("ok");
+        }
         "tick" => {
             stage.cacher.tick(number(rest));
-            Ok(format!(in stage.alloc; "ok")?)
+            told.add("ok");
         }
-        "storm" => storm(stage, rest),
+        "storm" => storm(stage, rest, told)?,
         _ => {
             let place = place_of(stage, cast, word)?;
             match cast.seats.get_mut(place) {
-                Some(seat) => answer(stage.alloc, seat, rest),
-                None => Ok(format!(in stage.alloc; "no such client")?),
+                Some(seat) => answer(stage.alloc, seat, rest, told)?,
+                None => told.add("no such client"),
             }
         }
     }
+    Ok(())
 }
 
 // The place of the client with this name. One that isn't there yet is made.
@@ -150,29 +165,24 @@ fn place_of<'a, N: LogFacts, R: Host>(
     Ok(place)
 }
 
-// How often the store's states and histories were read since the caches stand.
-fn reads<N: LogFacts, R: Host>(stage: &Stage<'_, N, R>) -> Result<String, Memory> {
-    let count = stage.door.reads().saturating_sub(stage.noted);
-    Ok(format!(in stage.alloc; "{count}")?)
-}
-
 // Brings each cache to the end of the log. No lane of a script has a bell to ring.
-fn pump<N: LogFacts, R: Host>(stage: &Stage<'_, N, R>) -> Result<String, Memory> {
-    let mut told = stage.cacher.pass()?;
+fn pump<N: LogFacts, R: Host>(stage: &Stage<'_, N, R>) -> Result<(), Memory> {
+    let mut pass = stage.cacher.pass()?;
     let mut calls = Vec::new(stage.alloc);
-    stage.cacher.feed(&mut told, &mut calls)?;
-    Ok(format!(in stage.alloc; "ok")?)
+    stage.cacher.feed(&mut pass, &mut calls)?;
+    Ok(())
 }
 
 // A storm: the seed of its draws, and how many writes each writer asks for.
 fn storm<N: LogFacts + Send + Sync, R: Host>(
     stage: &Stage<'_, N, R>,
     words: &str,
-) -> Result<String, Memory> {
+    told: &mut Wording,
+) -> Result<(), Memory> {
     let (seed, writes) = split(words);
     let storm = Storm {
         seed: number(seed),
         writes: number(writes),
     };
-    weather(stage.rt, stage.alloc, stage.cacher, storm)
+    weather(stage.rt, stage.alloc, stage.cacher, storm, told)
 }

@@ -1,6 +1,7 @@
 //! Storms: writers, watchers and operations at once, over the clients of one log, each in a thread of its own.
 
 use crate::Host;
+use case_rows::Wording;
 use client_cases::{Part, Progress, Seat, Storm, WATCHERS, WRITERS, newest_of, outcome, play_part};
 use kube_meta::Memory;
 use shared_client::Cacher;
@@ -15,11 +16,13 @@ pub fn weather<N: LogFacts + Send + Sync, R: Host>(
     alloc: Global,
     cacher: &Cacher<N, R>,
     storm: Storm,
-) -> Result<String, Memory> {
+    told: &mut Wording,
+) -> Result<(), Memory> {
     let first = newest(alloc, cacher)?;
     let sum = rage(&rt, alloc, cacher, storm)?;
     let last = newest(alloc, cacher)?;
-    outcome(alloc, first, last, sum)
+    outcome(first, last, sum, told);
+    Ok(())
 }
 
 // The revision that the log has reached.

@@ -1,54 +1,42 @@
-//! Words of steps and of answers.
+//! Words of answers.
 
-use kube_meta::Memory;
-use std::alloc::Global;
+use case_rows::Wording;
 
-/// The answer to what is no step of a file.
-pub const NO_STEP: &str = "(this file has no such step)";
-
-/// These words as an answer.
-pub fn words(alloc: Global, text: &str) -> Result<String, Memory> {
-    String::from_str(alloc, text)
-}
-
-/// Numbers with blanks between them, or `nothing`.
-pub fn numbers(alloc: Global, list: &[u64]) -> Result<String, Memory> {
+/// Tells numbers with blanks between them, or `nothing`.
+pub fn tell_numbers(list: &[u64], told: &mut Wording) {
     if list.is_empty() {
-        return words(alloc, "nothing");
+        told.add("nothing");
     }
-    let mut text = String::new(alloc);
-    for number in list {
-        if !text.is_empty() {
-            text.push_str(" ")?;
+    for (place, number) in list.iter().enumerate() {
+        if place > 0 {
+            told.add(" ");
         }
-        text.push_str(format!(in alloc; "{number}")?.as_str())?;
+        told.show(number);
     }
-    Ok(text)
 }
 
-/// A number, or `nothing`.
-pub fn one(alloc: Global, found: Option<u64>) -> Result<String, Memory> {
+/// Tells a number, or `nothing`.
+pub fn tell_one(found: Option<u64>, told: &mut Wording) {
     match found {
-        Some(number) => Ok(format!(in alloc; "{number}")?),
-        None => words(alloc, "nothing"),
+        Some(number) => told.show(&number),
+        None => told.add("nothing"),
     }
 }
 
-/// Bytes as they can be read: `<CRLF>`, `<CR>` and `<LF>` are those, and any other byte that isn't printed is written
-/// by its two hexadecimal digits, as `<81>`.
-pub fn visible(alloc: Global, bytes: &[u8]) -> Result<String, Memory> {
-    let mut text = String::new(alloc);
-    let mut behind = bytes.iter();
-    for byte in bytes {
-        let _ = behind.next();
-        match byte {
-            b'\r' if behind.as_slice().first() == Some(&b'\n') => text.push_str("<CR")?,
-            b'\n' if text.as_str().ends_with("<CR") => text.push_str("LF>")?,
-            b'\r' => text.push_str("<CR>")?,
-            b'\n' => text.push_str("<LF>")?,
-            b' '..=b'~' => text.push(char::from(*byte))?,
-            _ => text.push_str(format!(in alloc; "<{byte:02x}>")?.as_str())?,
+/// Tells bytes as they can be read: `<CRLF>`, `<CR>` and `<LF>` are those, and any other byte that isn't printed is
+/// written by its two hexadecimal digits, as `<81>`.
+pub fn tell_bytes(bytes: &[u8], told: &mut Wording) {
+    let mut last = 0u8;
+    for (place, byte) in bytes.iter().enumerate() {
+        let behind = bytes.get(place + 1);
+        match *byte {
+            b'\r' if behind == Some(&b'\n') => told.add("<CR"),
+            b'\n' if last == b'\r' => told.add("LF>"),
+            b'\r' => told.add("<CR>"),
+            b'\n' => told.add("<LF>"),
+            b' '..=b'~' => told.show(&char::from(*byte)),
+            _ => told.show(&format_args!("<{byte:02x}>")),
         }
+        last = *byte;
     }
-    Ok(text)
 }

@@ -2,8 +2,8 @@
 
 ghost use Rattle.std.specs.Prelude.{◌≡◌, ◌<◌, IfOk};
 
-use crate::answers::{NO_STEP, visible, words};
-use case_rows::{Steps, number, split};
+use crate::answers::tell_bytes;
+use case_rows::{NO_STEP, Steps, Wording, number, split};
 use edge_io::{
     Clock, Failed, Listener, MemNet, MemSink, MemSource, Net, Sink, Source, StepClock, WriteEnd,
 };
@@ -34,34 +34,34 @@ impl Ends {
 }
 
 impl Steps for Ends {
-    fn answer(&mut self, alloc: Global, step: &str) -> Result<String, Memory> {
+    fn answer(&mut self, alloc: Global, step: &str, told: &mut Wording) -> Result<(), Memory> {
         let (verb, rest) = split(step);
         match verb {
             "source" => {
                 self.source = source_of(alloc, rest)?;
                 self.buf = [0u8; 4];
-                words(alloc, "ok")
+                told.add("ok");
             }
-            "read" => read(alloc, &mut self.source, &mut self.buf),
+            "read" => read(&mut self.source, &mut self.buf, told),
             "sink" => {
-                let (step, fail) = split(rest);
-                self.sink = MemSink::new(size(step), fails(alloc, fail)?);
-                words(alloc, "ok")
+                self.sink = sink_of(alloc, rest)?;
+                told.add("ok");
             }
-            "write" => Ok(format!(in alloc; "{:?}", self.sink.write(rest.as_bytes()))?),
-            "flush" => Ok(format!(in alloc; "{:?}", self.sink.flush())?),
-            "written" => visible(alloc, self.sink.bytes()),
-            "now" => Ok(format!(in alloc; "{:?}", self.clock.now())?),
+            "write" => told.debug(&self.sink.write(rest.as_bytes())),
+            "flush" => told.debug(&self.sink.flush()),
+            "written" => tell_bytes(self.sink.bytes(), told),
+            "now" => told.debug(&self.clock.now()),
             "rest" => {
                 self.clock.rest();
-                words(alloc, "ok")
+                told.add("ok");
             }
-            "dial" => dial(alloc, rest),
-            "accept" => accept(alloc, rest),
-            "pass" => pass(alloc, rest),
-            "broken" => broken(alloc, rest),
-            _ => words(alloc, NO_STEP),
+            "dial" => dial(alloc, rest, told)?,
+            "accept" => accept(alloc, rest, told)?,
+            "pass" => pass(alloc, rest, told)?,
+            "broken" => broken(alloc, rest, told),
+            _ => told.add(NO_STEP),
         }
+        Ok(())
     }
 }
 
@@ -91,6 +91,12 @@ fn source_of(alloc: Global, text: &str) -> Result<MemSource, Memory> {
     ))
 }
 
+/// How much it takes at a call, and which call fails.
+fn sink_of(alloc: Global, text: &str) -> Result<MemSink, Memory> {
+    let (step, fail) = split(text);
+    Ok(MemSink::new(size(step), fails(alloc, fail)?))
+}
+
 /// A net whose connections bring these words.
 fn net(alloc: Global, text: &str) -> Result<MemNet, Memory>
     ensures { IfOk result (λ net. net.faults ≡ 0) }
@@ -104,35 +110,38 @@ fn net(alloc: Global, text: &str) -> Result<MemNet, Memory>
 }
 
 /// What is read of a source, and the buffer then.
-fn read(alloc: Global, source: &mut MemSource, buf: &mut [u8]) -> Result<String, Memory> {
-    let read = source.read(buf);
-    let buf = visible(alloc, buf)?;
-    Ok(format!(in alloc; "{read:?} {buf}")?)
+fn read(source: &mut MemSource, buf: &mut [u8], told: &mut Wording) {
+    told.debug(&source.read(buf));
+    told.add(" ");
+    tell_bytes(buf, told);
 }
 
 /// What the connection brings that is dialled.
-fn dial(alloc: Global, text: &str) -> Result<String, Memory> {
+fn dial(alloc: Global, text: &str, told: &mut Wording) -> Result<(), Memory> {
     let mut net = net(alloc, text)?;
-    let Ok((mut source, sink)) = net.dial(8001) else {
-        return words(alloc, "no peer");
-    };
-    let told = read(alloc, &mut source, &mut [0u8; 4]);
-    net.hang_up(source, sink);
-    told
+    match net.dial(8001) {
+        Ok((mut source, sink)) => {
+            read(&mut source, &mut [0u8; 4], told);
+            net.hang_up(source, sink);
+        }
+        Err(_) => told.add("no peer"),
+    }
+    Ok(())
 }
 
 /// What the connection brings that is accepted first.
-fn accept(alloc: Global, text: &str) -> Result<String, Memory> {
+fn accept(alloc: Global, text: &str, told: &mut Wording) -> Result<(), Memory> {
     let mut net = net(alloc, text)?;
     let Ok(mut listener) = net.listen(8001) else {
-        return words(alloc, "no listener");
+        told.add("no listener");
+        return Ok(());
     };
-    let told = match listener.accept() {
-        Ok(Some((mut source, _sink, _clock))) => read(alloc, &mut source, &mut [0u8; 4]),
-        _ => words(alloc, "no connection"),
-    };
+    match listener.accept() {
+        Ok(Some((mut source, _sink, _clock))) => read(&mut source, &mut [0u8; 4], told),
+        _ => told.add("no connection"),
+    }
     net.shut(listener);
-    told
+    Ok(())
 }
 
 /// A writer that takes at most 1000 bytes a call, and fails once it has taken `most`.
@@ -173,7 +182,7 @@ fn long_text(alloc: Global, count: u64) -> Result<Vec<u8>, Memory> {
 }
 
 /// Writes a word and so many bytes behind it to a slow writer. Tells what was answered, and what it took.
-fn pass(alloc: Global, text: &str) -> Result<String, Memory> {
+fn pass(alloc: Global, text: &str, told: &mut Wording) -> Result<(), Memory> {
     let (word, count) = split(text);
     let long = long_text(alloc, number(count))?;
     let mut taken = Vec::new(alloc);
@@ -182,16 +191,26 @@ fn pass(alloc: Global, text: &str) -> Result<String, Memory> {
         most: usize::MAX,
     };
     let mut sink = WriteEnd::new(alloc, slow);
-    let first = sink.write(word.as_bytes());
-    let then = send(&mut sink, long.as_slice());
+    told.debug(&sink.write(word.as_bytes()));
+    told.add(", ");
+    told.debug(&send(&mut sink, long.as_slice()));
     drop(sink);
-    let is_whole = taken.starts_with(word.as_bytes()) && taken.ends_with(long.as_slice());
-    let whole = if is_whole { "in order" } else { "otherwise" };
-    Ok(format!(in alloc; "{first:?}, {then:?}, {} taken {whole}", taken.len())?)
+    tell_taken(taken.as_slice(), word.as_bytes(), long.as_slice(), told);
+    Ok(())
+}
+
+fn tell_taken(taken: &[u8], word: &[u8], long: &[u8], told: &mut Wording) {
+    told.add(", ");
+    told.show(&taken.len());
+    if taken.starts_with(word) && taken.ends_with(long) {
+        told.add(" taken in order");
+    } else {
+        told.add(" taken otherwise");
+    }
 }
 
 /// Writes two words to a writer that takes nothing: what the first write, a flush and the second write answer.
-fn broken(alloc: Global, text: &str) -> Result<String, Memory> {
+fn broken(alloc: Global, text: &str, told: &mut Wording) {
     let (word, other) = split(text);
     let mut taken = Vec::new(alloc);
     let slow = Slow {
@@ -199,8 +218,9 @@ fn broken(alloc: Global, text: &str) -> Result<String, Memory> {
         most: 0,
     };
     let mut sink = WriteEnd::new(alloc, slow);
-    let first = sink.write(word.as_bytes());
-    let flushed = sink.flush();
-    let second = sink.write(other.as_bytes());
-    Ok(format!(in alloc; "{first:?}, {flushed:?}, {second:?}")?)
+    told.debug(&sink.write(word.as_bytes()));
+    told.add(", ");
+    told.debug(&sink.flush());
+    told.add(", ");
+    told.debug(&sink.write(other.as_bytes()));
 }

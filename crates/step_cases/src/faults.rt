@@ -2,7 +2,7 @@
 
 ghost use Rattle.std.specs.Prelude.{◌<◌};
 
-use crate::answers::words;
+use case_rows::Wording;
 use edge_io::{MemSink, Sink};
 use kube_meta::Memory;
 use std::alloc::Global;
@@ -18,30 +18,52 @@ const MOST: usize = 1000;
 
 /// Writes to sinks that take so many bytes a call, of which one fails at its first call, the next one at its second,
 /// and so on, until none is made that could fail. Tells how many failed; each of them has what went before its fault.
-pub fn fails<W: Writing>(alloc: Global, writing: &W, step: usize) -> Result<String, Memory>
+pub fn fails<W: Writing>(
+    alloc: Global,
+    writing: &W,
+    step: usize,
+    told: &mut Wording,
+) -> Result<(), Memory>
     requires { 0 < step }
 {
     let mut whole = MemSink::new(step, Vec::new(alloc));
     if !writing.write(&mut whole) {
-        return words(alloc, "fails where no call does");
+        told.add("fails where no call does");
+        return Ok(());
     }
     for call in 0..MOST {
-        let mut fails = Vec::new(alloc);
-        fails.push(call as u64)?;
-        let mut sink = MemSink::new(step, fails);
+        let mut sink = failing(alloc, step, call)?;
         let met = writing.write(&mut sink);
-        let is_within = sink.bytes().len() <= step.saturating_mul(call);
         if met {
-            return told(alloc, call, sink.bytes() == whole.bytes());
+            tell_calls(call, sink.bytes() == whole.bytes(), told);
+            return Ok(());
         }
-        if !is_within || !whole.bytes().starts_with(sink.bytes()) {
-            return Ok(format!(in alloc; "at call {call}: other bytes")?);
+        if !has_what_went_before(sink.bytes(), whole.bytes(), step.saturating_mul(call)) {
+            told.add("at call ");
+            told.show(&call);
+            told.add(": other bytes");
+            return Ok(());
         }
     }
-    words(alloc, "no end")
+    told.add("no end");
+    Ok(())
 }
 
-fn told(alloc: Global, calls: usize, is_whole: bool) -> Result<String, Memory> {
-    let whole = if is_whole { "all" } else { "other bytes" };
-    Ok(format!(in alloc; "each of {calls} calls, and then {whole}")?)
+/// A sink that fails at a call.
+fn failing(alloc: Global, step: usize, call: usize) -> Result<MemSink, Memory>
+    requires { 0 < step }
+{
+    Ok(MemSink::new(step, vec![in alloc; call as u64]?))
+}
+
+/// Whether a sink has no more bytes than calls before its fault could write, and they are the first of the whole.
+fn has_what_went_before(bytes: &[u8], whole: &[u8], most: usize) -> bool {
+    bytes.len() <= most && whole.starts_with(bytes)
+}
+
+fn tell_calls(calls: usize, is_whole: bool, told: &mut Wording) {
+    told.add("each of ");
+    told.show(&calls);
+    told.add(" calls, and then ");
+    told.add(if is_whole { "all" } else { "other bytes" });
 }

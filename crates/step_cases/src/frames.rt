@@ -2,10 +2,10 @@
 
 ghost use Rattle.std.specs.Prelude.{◌≤◌, ◌<◌, ◌^◌, length};
 
-use crate::answers::{NO_STEP, visible, words};
+use crate::answers::tell_bytes;
 use crate::faults::{Writing, fails};
 use crate::replies::length_of;
-use case_rows::{Steps, number, split};
+use case_rows::{NO_STEP, Steps, Wording, number, split};
 use edge_io::{MemSink, Sink};
 use kube_meta::Memory;
 use std::alloc::Global;
@@ -20,41 +20,49 @@ const KEY: &str = "dGhlIHNhbXBsZSBub25jZQ==";
 pub struct Frames;
 
 impl Steps for Frames {
-    fn answer(&mut self, alloc: Global, step: &str) -> Result<String, Memory> {
+    fn answer(&mut self, alloc: Global, step: &str, told: &mut Wording) -> Result<(), Memory> {
         let (verb, rest) = split(step);
-        let mut sink = MemSink::new(usize::MAX, Vec::new(alloc));
-        let sent = match verb {
-            "socket" => begin_socket(&mut sink, rest),
-            "length" => begin_message(&mut sink, length_of(rest)),
-            "close" => end_socket(&mut sink),
-            "accept" => return accept_text(alloc, rest)?.to_string(),
-            "upgrade" => return upgrade(alloc, rest),
-            "fails" => return fails(alloc, &WholeSocket, 50),
-            "read" => return read_back(alloc, rest),
-            _ => return words(alloc, NO_STEP),
-        };
-        match sent {
-            Ok(()) => visible(alloc, sink.bytes()),
-            Err(no) => Ok(format!(in alloc; "{no:?}")?),
+        match verb {
+            "accept" => told.add(accept_text(alloc, rest)?.as_str()),
+            "upgrade" => told.add(upgrade(rest)),
+            "fails" => fails(alloc, &WholeSocket, 50, told)?,
+            "read" => read_back(alloc, number(rest), told),
+            _ => tell_written(alloc, verb, rest, told),
         }
+        Ok(())
+    }
+}
+
+/// What is written of a handshake, a message or the close.
+fn tell_written(alloc: Global, verb: &str, rest: &str, told: &mut Wording) {
+    let mut sink = MemSink::new(usize::MAX, Vec::new(alloc));
+    let sent = match verb {
+        "socket" => begin_socket(&mut sink, rest),
+        "length" => begin_message(&mut sink, length_of(rest)),
+        "close" => end_socket(&mut sink),
+        _ => {
+            told.add(NO_STEP);
+            return;
+        }
+    };
+    match sent {
+        Ok(()) => tell_bytes(sink.bytes(), told),
+        Err(no) => told.debug(&no),
     }
 }
 
 /// Whether a key and a version are those of a handshake: each stands between quotation marks.
-fn upgrade(alloc: Global, text: &str) -> Result<String, Memory> {
+fn upgrade(text: &str) -> &'static str {
     let mut parts = text.split('"');
     let _ = parts.next();
     let key = parts.next().unwrap_or("");
     let _ = parts.next();
     let version = parts.next().unwrap_or("");
-    words(
-        alloc,
-        if is_upgrade(key, version) {
-            "yes"
-        } else {
-            "no"
-        },
-    )
+    if is_upgrade(key, version) {
+        "yes"
+    } else {
+        "no"
+    }
 }
 
 /// One message.
@@ -90,41 +98,47 @@ fn write_socket<K: Sink>(sink: &mut K) -> Result<(), WsNo> {
 }
 
 /// What a client reads of two messages and the close, so many times.
-fn read_back(alloc: Global, times: &str) -> Result<String, Memory> {
+fn read_back(alloc: Global, times: u64, told: &mut Wording) {
     let mut sink = MemSink::new(usize::MAX, Vec::new(alloc));
     if write_messages(&mut sink).is_err() {
-        return words(alloc, "no messages");
+        told.add("no messages");
+        return;
     }
     let stream = Duplex {
         reader: sink.bytes(),
         writer: Vec::new(alloc),
     };
     let mut socket = WebSocket::from_raw_socket(alloc, stream, NoMask, Role::Client, None);
-    let mut told = String::new(alloc);
-    for _ in 0..number(times) {
-        told = format!(in alloc; "{told}[{}]", message_text(alloc, socket.read())?)?;
+    for _ in 0..times {
+        told.add("[");
+        tell_message(&socket.read(), told);
+        told.add("]");
     }
-    Ok(told)
 }
 
-fn message_text(alloc: Global, message: Result<Message, Error>) -> Result<String, Memory> {
+fn tell_message(message: &Result<Message, Error>, told: &mut Wording) {
     match message {
-        Ok(Message::Text(text)) => text_text(alloc, text.as_str()),
+        Ok(Message::Text(text)) => tell_text(text.as_str(), told),
         Ok(Message::Close(Some(frame))) => {
-            Ok(format!(in alloc; "close {:?} {}", frame.code, frame.reason.as_str())?)
+            told.add("close ");
+            told.debug(&frame.code);
+            told.add(" ");
+            told.add(frame.reason.as_str());
         }
-        Ok(_) => words(alloc, "another message"),
-        Err(Error::ConnectionClosed) => words(alloc, "closed"),
-        Err(_) => words(alloc, "another error"),
+        Ok(_) => told.add("another message"),
+        Err(Error::ConnectionClosed) => told.add("closed"),
+        Err(_) => told.add("another error"),
     }
 }
 
 /// A text; one of the same byte throughout is told by its length.
-fn text_text(alloc: Global, text: &str) -> Result<String, Memory> {
+fn tell_text(text: &str, told: &mut Wording) {
     match text.bytes().next() {
         Some(first) if text.len() > 100 && text.bytes().all(|byte| byte == first) => {
-            Ok(format!(in alloc; "{} of {}", text.len(), char::from(first))?)
+            told.show(&text.len());
+            told.add(" of ");
+            told.show(&char::from(first));
         }
-        _ => words(alloc, text),
+        _ => told.add(text),
     }
 }

@@ -2,8 +2,7 @@
 
 ghost use Rattle.std.specs.Prelude.{◌≡◌};
 
-use crate::answers::{NO_STEP, words};
-use case_rows::{Lines, Steps, Tally, number, run_rows, split};
+use case_rows::{Lines, NO_STEP, Steps, Tally, Wording, number, run_rows, split};
 use kube_meta::Memory;
 use rev_front::{Blank, Entry, Front, LogName, Pen, blank, start};
 use std::alloc::Global;
@@ -79,19 +78,22 @@ fn run_log<N: LogName, R: Runtime>(
 }
 
 impl<N: LogName> Steps for Fronts<N> {
-    fn answer(&mut self, alloc: Global, step: &str) -> Result<String, Memory> {
+    fn answer(&mut self, _alloc: Global, step: &str, told: &mut Wording) -> Result<(), Memory> {
         let (verb, rest) = split(step);
         let (first, second) = split(rest);
         match verb {
-            "commit" | "cut" | "compact" | "pen" | "pass" => write(alloc, self, verb, number(rest)),
-            "tell" | "learn" => meet_pen(alloc, self, verb, place(rest)),
-            "split" | "look" | "look-generation" | "look-floor" | "show" => {
-                read(alloc, &mut self.passes, verb, place(rest))
+            "commit" | "cut" | "compact" | "pen" | "pass" => {
+                write(self, verb, number(rest), told)?;
             }
-            "meet" | "share" => meet(alloc, &mut self.passes, verb, place(first), place(second)),
-            "close" => close(alloc, self),
-            _ => words(alloc, NO_STEP),
+            "tell" | "learn" => meet_pen(self, verb, place(rest), told)?,
+            "split" | "look" | "look-generation" | "look-floor" | "show" => {
+                read(&mut self.passes, verb, place(rest), told)?;
+            }
+            "meet" | "share" => meet(&mut self.passes, verb, place(first), place(second), told)?,
+            "close" => close(self, told),
+            _ => told.add(NO_STEP),
         }
+        Ok(())
     }
 }
 
@@ -101,13 +103,14 @@ fn place(word: &str) -> usize {
 
 /// The steps of the pen alone.
 fn write<N: LogName>(
-    alloc: Global,
     fronts: &mut Fronts<N>,
     verb: &str,
     at: u64,
-) -> Result<String, Memory> {
+    told: &mut Wording,
+) -> Result<(), Memory> {
     let Some(pen) = &mut fronts.pen else {
-        return words(alloc, "the pen is gone");
+        told.add("the pen is gone");
+        return Ok(());
     };
     match verb {
         "commit" => commit_to(pen, at),
@@ -116,12 +119,13 @@ fn write<N: LogName>(
         "pass" => fronts.passes.push(pen.front()?)?,
         _ => {}
     }
-    Ok(format!(in alloc;
-        "revision {}, generation {}, floor {}",
-        pen.revision(),
-        pen.generation(),
-        pen.floor()
-    )?)
+    told.add("revision ");
+    told.show(&pen.revision());
+    told.add(", generation ");
+    told.show(&pen.generation());
+    told.add(", floor ");
+    told.show(&pen.floor());
+    Ok(())
 }
 
 /// Commits the next entries, up to a revision.
@@ -149,126 +153,150 @@ fn compact<N: LogName>(pen: &mut Pen<Note, N>, at: u64) {
 
 /// The steps of one pass.
 fn read<N: LogName>(
-    alloc: Global,
     passes: &mut Vec<Front<Note, N>>,
     verb: &str,
     place: usize,
-) -> Result<String, Memory> {
+    told: &mut Wording,
+) -> Result<(), Memory> {
     let Some(pass) = passes.get_mut(place) else {
-        return words(alloc, "no such pass");
+        told.add("no such pass");
+        return Ok(());
     };
-    let read = match verb {
-        "look" => pass.look(),
-        "look-generation" => pass.look_gen(),
-        "look-floor" => pass.look_floor(),
+    match verb {
+        "look" => told.show(&pass.look()),
+        "look-generation" => told.show(&pass.look_gen()),
+        "look-floor" => told.show(&pass.look_floor()),
         "split" => {
             let copy = pass.split()?;
             passes.push(copy)?;
-            passes.len() as u64
+            told.show(&passes.len());
         }
-        _ => return show(alloc, pass),
-    };
-    Ok(format!(in alloc; "{read}")?)
+        _ => tell_pass(pass, told),
+    }
+    Ok(())
 }
 
-fn show<N: LogName>(alloc: Global, pass: &Front<Note, N>) -> Result<String, Memory> {
-    Ok(format!(in alloc;
-        "end {}, shown {}, last {}, floor {}",
-        pass.end(),
-        pass.shown(),
-        pass.last(),
-        pass.floor()
-    )?)
+fn tell_pass<N: LogName>(pass: &Front<Note, N>, told: &mut Wording) {
+    told.add("end ");
+    told.show(&pass.end());
+    told.add(", shown ");
+    told.show(&pass.shown());
+    told.add(", last ");
+    told.show(&pass.last());
+    told.add(", floor ");
+    told.show(&pass.floor());
 }
 
 /// A pass and the pen: the pass is told all, or the pen learns it, and then the pass is gone.
 fn meet_pen<N: LogName>(
-    alloc: Global,
     fronts: &mut Fronts<N>,
     verb: &str,
     place: usize,
-) -> Result<String, Memory> {
+    told: &mut Wording,
+) -> Result<(), Memory> {
     let (Some(pen), true) = (&mut fronts.pen, place < fronts.passes.len()) else {
-        return words(alloc, "no such pass");
+        told.add("no such pass");
+        return Ok(());
     };
     let mut pass = fronts.passes.remove(place);
     if verb == "learn" {
         let learnt = pen.learn(pass).is_ok();
-        return words(alloc, if learnt { "learnt" } else { "not learnt" });
+        told.add(if learnt { "learnt" } else { "not learnt" });
+        return Ok(());
     }
     pen.meet(&mut pass);
-    let told = show(alloc, &pass);
+    tell_pass(&pass, told);
     fronts.passes.insert(place, pass)?;
-    told
+    Ok(())
 }
 
 /// Two passes: the second one, which is behind the first, is taken in and gone, or both go on with what both know.
 fn meet<N: LogName>(
-    alloc: Global,
     passes: &mut Vec<Front<Note, N>>,
     verb: &str,
     first: usize,
     second: usize,
-) -> Result<String, Memory> {
+    told: &mut Wording,
+) -> Result<(), Memory> {
     if first >= second || second >= passes.len() {
-        return words(alloc, "no such passes");
+        told.add("no such passes");
+        return Ok(());
     }
     let mut other = passes.remove(second);
     let Some(pass) = passes.get_mut(first) else {
-        return words(alloc, "no such pass");
+        told.add("no such pass");
+        return Ok(());
     };
     if verb == "meet" {
         let _ = pass.meet(other);
-        return show(alloc, pass);
+        tell_pass(pass, told);
+        return Ok(());
     }
     pass.share(&mut other);
-    let told = show(alloc, pass);
+    tell_pass(pass, told);
     passes.insert(second, other)?;
-    told
+    Ok(())
 }
 
 /// Closes the log, where no pass is left.
-fn close<N: LogName>(alloc: Global, fronts: &mut Fronts<N>) -> Result<String, Memory> {
+fn close<N: LogName>(fronts: &mut Fronts<N>, told: &mut Wording) {
     let Some(pen) = fronts.pen.take() else {
-        return words(alloc, "the pen is gone");
+        told.add("the pen is gone");
+        return;
     };
     match pen.close() {
-        Ok(found) => Ok(format!(in alloc; "{found:?}")?),
+        Ok(found) => told.debug(&found),
         Err(pen) => {
             fronts.pen = Some(pen);
-            words(alloc, "a pass is left")
+            told.add("a pass is left");
         }
     }
 }
 
 /// One thread commits up to 51, and another one looks a hundred times; then their passes meet, and the pen learns.
 pub fn two_threads<R: Threads + Sync>(rt: &R, alloc: Global) -> Result<String, Memory> {
-    two_threads_at::<Brand, R>(rt, alloc, blank(alloc, 1)?)
+    let mut told = Wording::new(alloc);
+    two_threads_at::<Brand, R>(rt, blank(alloc, 1)?, &mut told)?;
+    told.whole()
 }
 
 fn two_threads_at<N: LogName + Send + Sync, R: Threads + Sync>(
     rt: &R,
-    alloc: Global,
     made: Blank<Note>,
-) -> Result<String, Memory>
+    told: &mut Wording,
+) -> Result<(), Memory>
     requires { made ≡ N.log }
 {
     let mut pen: Pen<Note, N> = start(made);
     let early = pen.front()?;
-    let ((mut pen, told), mut pass) = join(rt, move || committed(pen), move || looked(early));
-    let _ = pass.meet(told?);
+    let ((mut pen, written), mut pass) = join(rt, move || committed(pen), move || looked(early));
+    let _ = pass.meet(written?);
+    tell_both(&pass, told);
+    told.add(", learnt ");
+    told.show(&pen.learn(pass).is_ok());
+    told.add(", revision ");
+    told.show(&pen.revision());
+    Ok(())
+}
+
+fn tell_both<N: LogName>(pass: &Front<Note, N>, told: &mut Wording) {
+    told.add("end ");
+    told.show(&pass.end());
+    told.add(", shown ");
+    told.show(&pass.shown());
     let is_within = 1 <= pass.last() && pass.last() <= 51;
-    let last = if is_within { "within" } else { "outside" };
-    let text = format!(in alloc; "end {}, shown {}, last {last}", pass.end(), pass.shown())?;
-    let learnt = pen.learn(pass).is_ok();
-    Ok(format!(in alloc; "{text}, learnt {learnt}, revision {}", pen.revision())?)
+    told.add(if is_within {
+        ", last within"
+    } else {
+        ", last outside"
+    });
 }
 
 /// Commits fifty entries, and gives the pen back with a pass that has seen them.
 fn committed<N: LogName>(mut pen: Pen<Note, N>) -> (Pen<Note, N>, Result<Front<Note, N>, Memory>) {
     commit_to(&mut pen, 51);
-    let told = pen.front();
-    (pen, told)
+    let written = pen.front();
+    (pen, written)
 }
 
 /// Looks a hundred times.

@@ -1,8 +1,8 @@
 //! Which lanes a change is told to, by the node of a pod.
 
-use crate::answers::{NO_STEP, numbers, words};
-use case_rows::{Steps, key, number, split};
-use kube_meta::{Fields, Labels, Memory, Obj, Resource, Text};
+use crate::answers::tell_numbers;
+use case_rows::{NO_STEP, Steps, Wording, key, number, object, split};
+use kube_meta::{Fields, Memory, Obj, Resource, Text};
 use select_all::Selection;
 use std::alloc::Global;
 use watch_lane::LaneIndex;
@@ -23,34 +23,40 @@ impl Lanes {
 }
 
 impl Steps for Lanes {
-    fn answer(&mut self, alloc: Global, step: &str) -> Result<String, Memory> {
+    fn answer(&mut self, alloc: Global, step: &str, told: &mut Wording) -> Result<(), Memory> {
         let (verb, rest) = split(step);
         match verb {
-            "add" => add(alloc, &mut self.index, rest),
+            "add" => add(alloc, &mut self.index, rest, told)?,
             "drop" => {
                 self.index.drop_lane(number(rest));
-                words(alloc, "ok")
+                told.add("ok");
             }
-            "change" => change(alloc, &self.index, rest),
-            _ => words(alloc, NO_STEP),
+            "change" => change(alloc, &self.index, rest, told)?,
+            _ => told.add(NO_STEP),
         }
+        Ok(())
     }
 }
 
-fn add(alloc: Global, index: &mut LaneIndex, text: &str) -> Result<String, Memory> {
+fn add(alloc: Global, index: &mut LaneIndex, text: &str, told: &mut Wording) -> Result<(), Memory> {
     let (id, fields) = split(text);
-    let Ok(selection) = Selection::read(alloc, Resource::Pods, None, "", fields) else {
-        return words(alloc, "no selection");
-    };
-    index.add(number(id), &selection)?;
-    words(alloc, "ok")
+    match Selection::read(alloc, Resource::Pods, None, "", fields) {
+        Ok(selection) => {
+            index.add(number(id), &selection)?;
+            told.add("ok");
+        }
+        Err(_) => told.add("no selection"),
+    }
+    Ok(())
 }
 
 /// The lanes that are told of a change from one node to another, each of them a node or `none`.
-fn change(alloc: Global, index: &LaneIndex, text: &str) -> Result<String, Memory> {
+fn change(alloc: Global, index: &LaneIndex, text: &str, told: &mut Wording) -> Result<(), Memory> {
     let (old, new) = split(text);
-    let (old, new) = (pod(alloc, old)?, pod(alloc, new)?);
-    numbers(alloc, index.touched(old.as_ref(), new.as_ref())?.as_slice())
+    let old = pod(alloc, old)?;
+    let new = pod(alloc, new)?;
+    tell_numbers(index.touched(old.as_ref(), new.as_ref())?.as_slice(), told);
+    Ok(())
 }
 
 /// A pod on this node, unless that is `none`.
@@ -58,15 +64,9 @@ fn pod(alloc: Global, node: &str) -> Result<Option<Obj>, Memory> {
     if node == "none" {
         return Ok(None);
     }
-    let mut fields = Vec::new(alloc);
-    fields.push(Text::new(alloc, node)?)?;
-    Ok(Some(Obj {
-        key: key(alloc, "web")?,
-        labels: Labels::new(alloc),
-        fields: Fields::new(fields),
-        front: Text::new(alloc, "")?,
-        back: Text::new(alloc, "")?,
-        meta_from: 0,
-        meta_to: 0,
-    }))
+    let node = Text::new(alloc, node)?;
+    let fields = vec![in alloc; node]?;
+    let mut pod = object(alloc, key(alloc, "web")?)?;
+    pod.fields = Fields::new(fields);
+    Ok(Some(pod))
 }

@@ -17,7 +17,6 @@ mod spaces;
 mod things;
 mod trees;
 
-pub use answers::{NO_STEP, words};
 use case_rows::{Lines, Tally, run_rows};
 use ends::Ends;
 pub use ends::send;

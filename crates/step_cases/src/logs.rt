@@ -1,7 +1,6 @@
 //! The states that a log leaves.
 
-use crate::answers::{NO_STEP, words};
-use case_rows::{Steps, key, number, object, row_text, split};
+use case_rows::{NO_STEP, Steps, Wording, key, number, object, split, tell_row};
 use kube_meta::{Memory, Resource, Row};
 use rev_log::{Change, Revision, state};
 use std::alloc::Global;
@@ -25,19 +24,20 @@ impl Logs {
 }
 
 impl Steps for Logs {
-    fn answer(&mut self, alloc: Global, step: &str) -> Result<String, Memory> {
+    fn answer(&mut self, alloc: Global, step: &str, told: &mut Wording) -> Result<(), Memory> {
         let (verb, rest) = split(step);
         match verb {
             "base" => {
                 let obj = Arc::new(alloc, object(alloc, key(alloc, rest)?)?)?;
                 self.base.push(Row { obj, rev: 1 })?;
-                words(alloc, "ok")
+                told.add("ok");
             }
-            "write" => write(alloc, &mut self.log, rest, true),
-            "remove" => write(alloc, &mut self.log, rest, false),
-            "state" => shown(alloc, &self.base, &self.log.clone()?, rest),
-            _ => words(alloc, NO_STEP),
+            "write" => write(alloc, &mut self.log, rest, true, told)?,
+            "remove" => write(alloc, &mut self.log, rest, false, told)?,
+            "state" => tell_state(alloc, &self.base, &self.log, rest, told)?,
+            _ => told.add(NO_STEP),
         }
+        Ok(())
     }
 }
 
@@ -47,40 +47,68 @@ fn write(
     log: &mut Vec<Revision>,
     text: &str,
     is_there: bool,
-) -> Result<String, Memory> {
+    told: &mut Wording,
+) -> Result<(), Memory> {
     let (plural, name) = split(text);
     let Some(resource) = Resource::of_plural(plural.as_bytes()) else {
-        return words(alloc, "no resource");
+        told.add("no resource");
+        return Ok(());
     };
+    let rev = (log.len() as u64).saturating_add(2);
+    let change = change_of(alloc, rev, resource, name, is_there)?;
+    log.push(Revision::single(alloc, change)?)?;
+    told.show(&rev);
+    Ok(())
+}
+
+fn change_of(
+    alloc: Global,
+    rev: u64,
+    resource: Resource,
+    name: &str,
+    is_there: bool,
+) -> Result<Change, Memory> {
     let key = key(alloc, name)?;
     let new = if is_there {
         Some(Arc::new(alloc, object(alloc, key.clone()?)?)?)
     } else {
         None
     };
-    let rev = (log.len() as u64).saturating_add(2);
-    let change = Change {
+    Ok(Change {
         rev,
         resource,
         key,
         new,
-    };
-    log.push(Revision::single(alloc, change)?)?;
-    Ok(format!(in alloc; "{rev}")?)
+    })
 }
 
 /// The rows of a resource at a revision.
-fn shown(alloc: Global, base: &[Row], log: &[Revision], text: &str) -> Result<String, Memory> {
+fn tell_state(
+    alloc: Global,
+    base: &[Row],
+    log: &[Revision],
+    text: &str,
+    told: &mut Wording,
+) -> Result<(), Memory> {
     let (plural, at) = split(text);
-    let Some(resource) = Resource::of_plural(plural.as_bytes()) else {
-        return words(alloc, "no resource");
-    };
-    let mut told = String::new(alloc);
-    for row in &state(alloc, base, log, resource, number(at))? {
-        told.push_str(row_text(alloc, row)?.as_str())?;
+    match Resource::of_plural(plural.as_bytes()) {
+        Some(resource) => {
+            let rows = state(alloc, base, log, resource, number(at))?;
+            tell_rows(&rows, told);
+            Ok(())
+        }
+        None => {
+            told.add("no resource");
+            Ok(())
+        }
     }
-    if told.is_empty() {
-        return words(alloc, "nothing");
+}
+
+fn tell_rows(rows: &[Row], told: &mut Wording) {
+    if rows.is_empty() {
+        told.add("nothing");
     }
-    Ok(told)
+    for row in rows {
+        tell_row(row, told);
+    }
 }

@@ -2,9 +2,9 @@
 
 ghost use Rattle.std.specs.Prelude.{◌≤◌, ◌<◌, ◌^◌};
 
-use crate::answers::{NO_STEP, visible, words};
+use crate::answers::tell_bytes;
 use crate::faults::{Writing, fails};
-use case_rows::{Steps, number, split};
+use case_rows::{NO_STEP, Steps, Wording, number, split};
 use edge_io::{MemSink, Sink};
 use http_send::{
     SendNo, begin_chunk, begin_reply, begin_stream, end_chunk, end_stream, part, send_chunk,
@@ -17,21 +17,34 @@ use std::alloc::Global;
 pub struct Replies;
 
 impl Steps for Replies {
-    fn answer(&mut self, alloc: Global, step: &str) -> Result<String, Memory> {
+    fn answer(&mut self, alloc: Global, step: &str, told: &mut Wording) -> Result<(), Memory> {
         let (verb, rest) = split(step);
-        let mut sink = MemSink::new(usize::MAX, Vec::new(alloc));
-        let sent = match verb {
-            "reply" => reply(&mut sink, rest),
-            "stream" => stream(&mut sink),
-            "length" => begin_chunk(&mut sink, length_of(rest)),
-            "line" => line(&mut sink, rest.as_bytes()),
-            "fails" => return fails(alloc, &WholeStream, 16),
-            _ => return words(alloc, NO_STEP),
-        };
-        match sent {
-            Ok(()) => visible(alloc, sink.bytes()),
-            Err(no) => Ok(format!(in alloc; "{no:?}")?),
+        match verb {
+            "fails" => fails(alloc, &WholeStream, 16, told),
+            _ => {
+                tell_written(alloc, verb, rest, told);
+                Ok(())
+            }
         }
+    }
+}
+
+/// What is written of a reply or a stream.
+fn tell_written(alloc: Global, verb: &str, rest: &str, told: &mut Wording) {
+    let mut sink = MemSink::new(usize::MAX, Vec::new(alloc));
+    let sent = match verb {
+        "reply" => reply(&mut sink, rest),
+        "stream" => stream(&mut sink),
+        "length" => begin_chunk(&mut sink, length_of(rest)),
+        "line" => line(&mut sink, rest.as_bytes()),
+        _ => {
+            told.add(NO_STEP);
+            return;
+        }
+    };
+    match sent {
+        Ok(()) => tell_bytes(sink.bytes(), told),
+        Err(no) => told.debug(&no),
     }
 }
 

@@ -5,9 +5,9 @@ ghost use Rattle.std.specs.Cmp.Lexicographic.{slice_cmp};
 ghost use Rattle.std.specs.Ordering.{nat_cmp};
 ghost use Rattle.std.specs.declared.cmp.Ordering.TheVariants.{Less};
 
-use crate::answers::{NO_STEP, numbers, one, words};
+use crate::answers::{tell_numbers, tell_one};
 use crate::things::{revision, shown};
-use case_rows::{Steps, key, number, split};
+use case_rows::{NO_STEP, Steps, Wording, key, number, split};
 use event_ring::{Event, Ring};
 use kube_meta::{Key, Memory};
 use std::alloc::Global;
@@ -32,29 +32,30 @@ impl Rings {
 }
 
 impl Steps for Rings {
-    fn answer(&mut self, alloc: Global, step: &str) -> Result<String, Memory> {
+    fn answer(&mut self, alloc: Global, step: &str, told: &mut Wording) -> Result<(), Memory> {
         let (verb, rest) = split(step);
         match verb {
             "ring" => {
                 self.ring = opened(alloc, rest)?;
-                state(alloc, &self.ring)
+                tell_state(&self.ring, told);
             }
-            "state" => state(alloc, &self.ring),
-            "push" => push(alloc, &mut self.ring, rest),
-            "pair" => told(alloc, push_pair(alloc, &mut self.ring, number(rest))?),
+            "state" => tell_state(&self.ring, told),
+            "push" => push(alloc, &mut self.ring, rest, told)?,
+            "pair" => tell_dropped(push_pair(alloc, &mut self.ring, number(rest))?, told),
             "fit" => {
                 self.ring.fit(number(rest))?;
-                state(alloc, &self.ring)
+                tell_state(&self.ring, told);
             }
             "clear" => {
                 self.ring.clear(number(rest));
-                state(alloc, &self.ring)
+                tell_state(&self.ring, told);
             }
-            "since" => since(alloc, &self.ring, number(rest)),
-            "left" => left(alloc, rest),
-            "alike" => alike(alloc, rest),
-            _ => words(alloc, NO_STEP),
+            "since" => since(alloc, &self.ring, number(rest), told)?,
+            "left" => left(alloc, rest, told)?,
+            "alike" => alike(alloc, rest, told)?,
+            _ => told.add(NO_STEP),
         }
+        Ok(())
     }
 }
 
@@ -67,30 +68,40 @@ fn opened(alloc: Global, text: &str) -> Result<Ring, Memory> {
     Ring::new(alloc, window, most, number(fresh), 1)
 }
 
-fn state(alloc: Global, ring: &Ring) -> Result<String, Memory> {
-    let is_empty = if ring.is_empty() { "empty, " } else { "" };
-    Ok(format!(in alloc;
-        "{is_empty}floor {}, last {}, {} of {}",
-        ring.floor(),
-        ring.last(),
-        ring.len(),
-        ring.capacity()
-    )?)
+fn tell_state(ring: &Ring, told: &mut Wording) {
+    if ring.is_empty() {
+        told.add("empty, ");
+    }
+    told.add("floor ");
+    told.show(&ring.floor());
+    told.add(", last ");
+    told.show(&ring.last());
+    told.add(", ");
+    told.show(&ring.len());
+    told.add(" of ");
+    told.show(&ring.capacity());
 }
 
 /// Pushes the event of one change; behind ` at ` the time may stand, to which the ring is then fitted first.
-fn push(alloc: Global, ring: &mut Ring, text: &str) -> Result<String, Memory> {
-    let Some((rev, now)) = text.split_once(" at ") else {
-        return told(alloc, push_one(alloc, ring, number(text), 0)?);
+fn push(alloc: Global, ring: &mut Ring, text: &str, told: &mut Wording) -> Result<(), Memory> {
+    let dropped = match text.split_once(" at ") {
+        Some((rev, now)) => {
+            ring.fit(number(now))?;
+            push_one(alloc, ring, number(rev), number(now))?
+        }
+        None => push_one(alloc, ring, number(text), 0)?,
     };
-    ring.fit(number(now))?;
-    told(alloc, push_one(alloc, ring, number(rev), number(now))?)
+    tell_dropped(dropped, told);
+    Ok(())
 }
 
-fn told(alloc: Global, dropped: Option<u64>) -> Result<String, Memory> {
+fn tell_dropped(dropped: Option<u64>, told: &mut Wording) {
     match dropped {
-        Some(count) => Ok(format!(in alloc; "{count} dropped")?),
-        None => words(alloc, "not above the last"),
+        Some(count) => {
+            told.show(&count);
+            told.add(" dropped");
+        }
+        None => told.add("not above the last"),
     }
 }
 
@@ -127,11 +138,12 @@ fn rises(first: &Key, second: &Key) -> bool
     }
 }
 
-fn since(alloc: Global, ring: &Ring, at: u64) -> Result<String, Memory> {
+fn since(alloc: Global, ring: &Ring, at: u64, told: &mut Wording) -> Result<(), Memory> {
     match ring.since(at) {
-        Ok(_) => numbers(alloc, lent(alloc, ring, at)?.as_slice()),
-        Err(below) => Ok(format!(in alloc; "{below:?}")?),
+        Ok(_) => tell_numbers(lent(alloc, ring, at)?.as_slice(), told),
+        Err(below) => told.debug(&below),
     }
+    Ok(())
 }
 
 /// The revisions of the events above a position, or none where it isn't served.
@@ -148,17 +160,23 @@ fn lent(alloc: Global, ring: &Ring, at: u64) -> Result<Vec<u64>, Memory> {
 }
 
 /// The revisions of the three objects of a change.
-fn left(alloc: Global, text: &str) -> Result<String, Memory> {
+fn left(alloc: Global, text: &str, told: &mut Wording) -> Result<(), Memory> {
     let (old, new) = split(text);
-    let (old, new) = (number(old), number(new));
+    let event = changed(alloc, number(old), number(new))?;
+    told.add("before ");
+    tell_one(revision(event.before.as_ref()), told);
+    told.add(", now ");
+    tell_one(revision(event.now.as_ref()), told);
+    told.add(", left ");
+    tell_one(revision(event.left.as_ref()), told);
+    Ok(())
+}
+
+fn changed(alloc: Global, old: u64, new: u64) -> Result<Event, Memory> {
     let key = key(alloc, "web")?;
     let before = shown(alloc, key.clone()?, old)?;
     let now = shown(alloc, key.clone()?, new)?;
-    let event = Event::new(alloc, new, key, Some(before), Some(now))?;
-    let before = one(alloc, revision(event.before.as_ref()))?;
-    let now = one(alloc, revision(event.now.as_ref()))?;
-    let left = one(alloc, revision(event.left.as_ref()))?;
-    Ok(format!(in alloc; "before {before}, now {now}, left {left}")?)
+    Event::new(alloc, new, key, Some(before), Some(now))
 }
 
 /// Of some events, told by their revisions, those that fewer than `capacity` events have a revision above: the plain
@@ -182,7 +200,7 @@ struct Beside {
 }
 
 /// Whether a ring of this capacity is the plain body's after each push of revisions of one and of two events.
-fn alike(alloc: Global, text: &str) -> Result<String, Memory> {
+fn alike(alloc: Global, text: &str, told: &mut Wording) -> Result<(), Memory> {
     let (capacity, sizes) = split(text);
     let capacity = number(capacity).clamp(1, 100) as usize;
     let mut beside = Beside {
@@ -190,11 +208,17 @@ fn alike(alloc: Global, text: &str) -> Result<String, Memory> {
         held: Vec::new(alloc),
         floor: 1,
     };
-    let differs = first_difference(alloc, &mut beside, capacity, sizes)?;
-    match differs {
-        Some(place) => Ok(format!(in alloc; "differs at push {place}")?),
-        None => Ok(format!(in alloc; "{} pushes alike", sizes.len())?),
+    match first_difference(alloc, &mut beside, capacity, sizes)? {
+        Some(place) => {
+            told.add("differs at push ");
+            told.show(&place);
+        }
+        None => {
+            told.show(&sizes.len());
+            told.add(" pushes alike");
+        }
     }
+    Ok(())
 }
 
 fn first_difference(
@@ -227,16 +251,22 @@ fn push_beside(
     } else {
         push_one(alloc, &mut beside.ring, rev, 0)?
     };
-    let stays = kept(alloc, beside.held.as_slice(), capacity)?;
-    let dropped = beside.held.len().saturating_sub(stays.len());
-    if dropped > 0 {
-        beside.floor = beside.held.get(dropped - 1).copied().unwrap_or(0);
-    }
-    beside.held = stays;
+    let dropped = drop_plainly(alloc, beside, capacity)?;
     let lent = lent(alloc, &beside.ring, beside.floor)?;
     Ok(
         answer == Some(dropped as u64)
             && beside.ring.floor() == beside.floor
             && lent.as_slice() == beside.held.as_slice(),
     )
+}
+
+/// Drops what a ring of this capacity drops, and tells how many those are.
+fn drop_plainly(alloc: Global, beside: &mut Beside, capacity: usize) -> Result<usize, Memory> {
+    let stays = kept(alloc, beside.held.as_slice(), capacity)?;
+    let dropped = beside.held.len().saturating_sub(stays.len());
+    if dropped > 0 {
+        beside.floor = beside.held.get(dropped - 1).copied().unwrap_or(0);
+    }
+    beside.held = stays;
+    Ok(dropped)
 }

@@ -1,8 +1,7 @@
 //! Objects of several namespaces in one tree.
 
-use crate::answers::words;
 use crate::things::shown;
-use case_rows::split;
+use case_rows::{Wording, split};
 use kube_meta::{Key, Memory, Text};
 use obj_tree::{Rows, Snapshot, Tree};
 use std::alloc::Global;
@@ -33,43 +32,64 @@ fn key_in(alloc: Global, ns: &str, place: u64) -> Result<Key, Memory> {
 
 /// How many objects of a namespace stand above a key, or of all where none is given, and the first and the last of
 /// them.
-pub fn within(alloc: Global, tree: &Tree, text: &str) -> Result<String, Memory> {
+pub fn within(alloc: Global, tree: &Tree, text: &str, told: &mut Wording) -> Result<(), Memory> {
     let (ns, after) = split(text);
     let after = Key::read(alloc, after.as_bytes())?;
     let snapshot = tree.snapshot()?;
-    let rows = snapshot.within(ns, after.as_ref());
+    tell_rows(alloc, snapshot.within(ns, after.as_ref()), told)
+}
+
+fn tell_rows(alloc: Global, rows: Rows<'_>, told: &mut Wording) -> Result<(), Memory> {
     let len = rows.len();
     let found = lent(alloc, rows)?;
-    if found.len() != len {
-        return Ok(format!(in alloc; "{} rows in place of {len}", found.len())?);
-    }
     match (found.first(), found.last()) {
-        (Some(first), Some(last)) => Ok(format!(in alloc; "{len} rows, {first} to {last}")?),
-        _ => words(alloc, "no rows"),
+        _ if found.len() != len => {
+            told.show(&found.len());
+            told.add(" rows in place of ");
+            told.show(&len);
+        }
+        (Some(first), Some(last)) => {
+            told.show(&len);
+            told.add(" rows, ");
+            told.show(first);
+            told.add(" to ");
+            told.show(last);
+        }
+        _ => told.add("no rows"),
     }
+    Ok(())
 }
 
 /// Whether each namespace's objects above each key are those that a range lends above it and that are in the namespace.
-pub fn alike(alloc: Global, tree: &Tree) -> Result<String, Memory> {
+pub fn are_alike(alloc: Global, tree: &Tree) -> Result<bool, Memory> {
     let snapshot = tree.snapshot()?;
     let mut alike = are_chosen(alloc, &snapshot, None)?;
     for shown in snapshot.range(None) {
         alike = alike && are_chosen(alloc, &snapshot, Some(&shown.row().obj.key))?;
     }
-    words(alloc, if alike { "alike" } else { "different" })
+    Ok(alike)
 }
 
 fn are_chosen(alloc: Global, snapshot: &Snapshot, after: Option<&Key>) -> Result<bool, Memory> {
     for ns in &SPACES {
-        let rows = snapshot.within(ns, after);
-        let len = rows.len();
-        let found = lent(alloc, rows)?;
-        let wanted = chosen(alloc, snapshot, ns, after)?;
-        if len != wanted.len() || found.as_slice() != wanted.as_slice() {
+        if !are_chosen_in(alloc, snapshot, ns, after)? {
             return Ok(false);
         }
     }
     Ok(true)
+}
+
+fn are_chosen_in(
+    alloc: Global,
+    snapshot: &Snapshot,
+    ns: &str,
+    after: Option<&Key>,
+) -> Result<bool, Memory> {
+    let rows = snapshot.within(ns, after);
+    let len = rows.len();
+    let found = lent(alloc, rows)?;
+    let wanted = chosen(alloc, snapshot, ns, after)?;
+    Ok(len == wanted.len() && found.as_slice() == wanted.as_slice())
 }
 
 fn chosen(

@@ -1,9 +1,9 @@
 //! Trees of objects, and snapshots of them. The objects are `p-1000` and so on, whose order is that of their numbers.
 
-use crate::answers::{NO_STEP, numbers, one, words};
-use crate::spaces::{self, lent, spread};
+use crate::answers::{tell_numbers, tell_one};
+use crate::spaces::{are_alike, lent, spread, within};
 use crate::things::{revision, shown};
-use case_rows::{Steps, key, number, split};
+use case_rows::{NO_STEP, Steps, Wording, key, number, split};
 use encode_once::Shown;
 use kube_meta::{Key, Memory};
 use obj_tree::{Snapshot, Tree};
@@ -32,46 +32,50 @@ impl Trees {
 }
 
 impl Steps for Trees {
-    fn answer(&mut self, alloc: Global, step: &str) -> Result<String, Memory> {
+    fn answer(&mut self, alloc: Global, step: &str, told: &mut Wording) -> Result<(), Memory> {
         let (verb, rest) = split(step);
         match verb {
             "evens" => {
                 self.tree = evens(alloc, number(rest))?;
-                size(alloc, &self.tree)
+                tell_size(&self.tree, told);
             }
-            "without" => without(alloc, &mut self.tree, rest),
-            "put" => put(alloc, &mut self.tree, rest),
-            "remove" => {
-                let old = self.tree.remove(&numbered(alloc, number(rest))?)?;
-                one(alloc, revision(old.as_ref()))
-            }
-            "get" => {
-                let key = numbered(alloc, number(rest))?;
-                one(alloc, revision(self.tree.get(&key)))
-            }
-            "first" => one(alloc, revision(self.tree.snapshot()?.range(None).next())),
-            "above" => above(alloc, &self.tree, number(rest)),
+            "without" => without(alloc, &mut self.tree, rest, told)?,
+            "put" => put(alloc, &mut self.tree, rest, told)?,
+            "remove" => remove(alloc, &mut self.tree, number(rest), told)?,
+            "get" => get(alloc, &self.tree, number(rest), told)?,
+            "first" => first(&self.tree, told)?,
+            "above" => above(alloc, &self.tree, number(rest), told)?,
             "keep" => {
                 self.kept = self.tree.snapshot()?;
                 self.before = lent(alloc, self.kept.range(None))?;
-                Ok(format!(in alloc; "{} rows", self.before.len())?)
+                told.show(&self.before.len());
+                told.add(" rows");
             }
-            "kept" => kept(alloc, &self.kept, self.before.as_slice()),
-            "alike" => alike(alloc, rest),
+            "kept" => kept(alloc, &self.kept, self.before.as_slice(), told)?,
+            "alike" => told.add(alike_words(alike(alloc, rest)?)),
             "spread" => {
                 self.tree = spread(alloc, number(rest))?;
-                size(alloc, &self.tree)
+                tell_size(&self.tree, told);
             }
-            "within" => spaces::within(alloc, &self.tree, rest),
-            "chosen" => spaces::alike(alloc, &self.tree),
-            _ => words(alloc, NO_STEP),
+            "within" => within(alloc, &self.tree, rest, told)?,
+            "chosen" => told.add(alike_words(are_alike(alloc, &self.tree)?)),
+            _ => told.add(NO_STEP),
         }
+        Ok(())
     }
 }
 
-fn size(alloc: Global, tree: &Tree) -> Result<String, Memory> {
-    let is_empty = if tree.is_empty() { "empty, " } else { "" };
-    Ok(format!(in alloc; "{is_empty}{} rows, pages {}", tree.len(), tree.pages())?)
+fn tell_size(tree: &Tree, told: &mut Wording) {
+    if tree.is_empty() {
+        told.add("empty, ");
+    }
+    told.show(&tree.len());
+    told.add(" rows, pages ");
+    told.show(&tree.pages());
+}
+
+fn alike_words(alike: bool) -> &'static str {
+    if alike { "alike" } else { "different" }
 }
 
 fn numbered(alloc: Global, number: u64) -> Result<Key, Memory> {
@@ -99,43 +103,76 @@ fn evens(alloc: Global, count: u64) -> Result<Tree, Memory> {
 
 /// Removes the even numbers from a place on, so many, and tells how many pages there were before and after each,
 /// where that changed.
-fn without(alloc: Global, tree: &mut Tree, text: &str) -> Result<String, Memory> {
+fn without(alloc: Global, tree: &mut Tree, text: &str, told: &mut Wording) -> Result<(), Memory> {
     let (from, count) = split(text);
-    let mut pages = Vec::new(alloc);
-    pages.push(tree.pages() as u64)?;
+    let mut pages = vec![in alloc; tree.pages() as u64]?;
     for place in 0..number(count) {
-        let key = numbered(alloc, even(number(from).saturating_add(place)))?;
-        tree.remove(&key)?;
+        remove_even(alloc, tree, number(from).saturating_add(place))?;
         let now = tree.pages() as u64;
         if pages.last() != Some(&now) {
             pages.push(now)?;
         }
     }
-    let pages = numbers(alloc, pages.as_slice())?;
-    Ok(format!(in alloc; "{} rows, pages {pages}", tree.len())?)
+    told.show(&tree.len());
+    told.add(" rows, pages ");
+    tell_numbers(pages.as_slice(), told);
+    Ok(())
 }
 
-fn put(alloc: Global, tree: &mut Tree, text: &str) -> Result<String, Memory> {
+fn remove_even(alloc: Global, tree: &mut Tree, place: u64) -> Result<(), Memory> {
+    let key = numbered(alloc, even(place))?;
+    let _ = tree.remove(&key)?;
+    Ok(())
+}
+
+fn put(alloc: Global, tree: &mut Tree, text: &str, told: &mut Wording) -> Result<(), Memory> {
     let (place, rev) = split(text);
     let old = tree.put(pod(alloc, number(place), number(rev))?)?;
-    one(alloc, revision(old.as_ref()))
+    tell_one(revision(old.as_ref()), told);
+    Ok(())
+}
+
+fn remove(alloc: Global, tree: &mut Tree, place: u64, told: &mut Wording) -> Result<(), Memory> {
+    let key = numbered(alloc, place)?;
+    let old = tree.remove(&key)?;
+    tell_one(revision(old.as_ref()), told);
+    Ok(())
+}
+
+fn get(alloc: Global, tree: &Tree, place: u64, told: &mut Wording) -> Result<(), Memory> {
+    let key = numbered(alloc, place)?;
+    tell_one(revision(tree.get(&key)), told);
+    Ok(())
+}
+
+fn first(tree: &Tree, told: &mut Wording) -> Result<(), Memory> {
+    let snapshot = tree.snapshot()?;
+    tell_one(revision(snapshot.range(None).next()), told);
+    Ok(())
 }
 
 /// The first revision above a number.
-fn above(alloc: Global, tree: &Tree, after: u64) -> Result<String, Memory> {
+fn above(alloc: Global, tree: &Tree, after: u64, told: &mut Wording) -> Result<(), Memory> {
     let key = numbered(alloc, after)?;
     let snapshot = tree.snapshot()?;
-    one(alloc, revision(snapshot.range(Some(&key)).next()))
+    tell_one(revision(snapshot.range(Some(&key)).next()), told);
+    Ok(())
 }
 
-fn kept(alloc: Global, snapshot: &Snapshot, before: &[u64]) -> Result<String, Memory> {
+fn kept(
+    alloc: Global,
+    snapshot: &Snapshot,
+    before: &[u64],
+    told: &mut Wording,
+) -> Result<(), Memory> {
     let now = lent(alloc, snapshot.range(None))?;
-    let same = if now.as_slice() == before {
-        "the same"
+    told.show(&snapshot.len());
+    told.add(if now.as_slice() == before {
+        " rows, the same"
     } else {
-        "others"
-    };
-    Ok(format!(in alloc; "{} rows, {same}", snapshot.len())?)
+        " rows, others"
+    });
+    Ok(())
 }
 
 /// A tree beside a plain list of numbers with their revisions, in order.
@@ -147,16 +184,17 @@ struct Beside {
 
 /// Puts 200 numbers in one order into both, and removes them in another one: by steps of these lengths, around and
 /// around. Tells whether both are the same after each.
-fn alike(alloc: Global, text: &str) -> Result<String, Memory> {
+fn alike(alloc: Global, text: &str) -> Result<bool, Memory> {
     let (puts, removals) = split(text);
     let mut beside = Beside {
         tree: Tree::new(alloc)?,
         plain: Vec::new(alloc),
     };
-    let alike = put_all(alloc, &mut beside, number(puts))?
-        && remove_all(alloc, &mut beside, number(removals))?
-        && beside.tree.is_empty();
-    words(alloc, if alike { "alike" } else { "different" })
+    Ok(
+        put_all(alloc, &mut beside, number(puts))?
+            && remove_all(alloc, &mut beside, number(removals))?
+            && beside.tree.is_empty(),
+    )
 }
 
 /// The number at a place of an order: every `step`-th of 200 numbers from 1000 on.
@@ -166,28 +204,31 @@ fn at(step: u64, place: u64) -> u64 {
 
 fn put_all(alloc: Global, beside: &mut Beside, step: u64) -> Result<bool, Memory> {
     for place in 0..200u64 {
-        let (number, rev) = (at(step, place), place + 2);
-        let old = beside.tree.put(pod(alloc, number, rev)?)?;
-        if revision(old.as_ref()) != plain_put(&mut beside.plain, number, rev)?
-            || !agree(alloc, beside, number)?
-        {
+        if !put_beside(alloc, beside, at(step, place), place + 2)? {
             return Ok(false);
         }
     }
     Ok(true)
 }
 
+fn put_beside(alloc: Global, beside: &mut Beside, number: u64, rev: u64) -> Result<bool, Memory> {
+    let old = revision(beside.tree.put(pod(alloc, number, rev)?)?.as_ref());
+    Ok(old == plain_put(&mut beside.plain, number, rev)? && agree(alloc, beside, number)?)
+}
+
 fn remove_all(alloc: Global, beside: &mut Beside, step: u64) -> Result<bool, Memory> {
     for place in 0..200u64 {
-        let number = at(step, place);
-        let old = beside.tree.remove(&numbered(alloc, number)?)?;
-        if revision(old.as_ref()) != plain_remove(&mut beside.plain, number)
-            || !agree(alloc, beside, number)?
-        {
+        if !remove_beside(alloc, beside, at(step, place))? {
             return Ok(false);
         }
     }
     Ok(true)
+}
+
+fn remove_beside(alloc: Global, beside: &mut Beside, number: u64) -> Result<bool, Memory> {
+    let key = numbered(alloc, number)?;
+    let old = revision(beside.tree.remove(&key)?.as_ref());
+    Ok(old == plain_remove(&mut beside.plain, number) && agree(alloc, beside, number)?)
 }
 
 fn plain_put(plain: &mut Vec<(u64, u64)>, number: u64, rev: u64) -> Result<Option<u64>, Memory> {
@@ -232,18 +273,28 @@ fn plain_above(alloc: Global, plain: &[(u64, u64)], after: u64) -> Result<Vec<u6
 /// Whether the tree has what the plain list has: all, and above and at one number.
 fn agree(alloc: Global, beside: &Beside, number: u64) -> Result<bool, Memory> {
     let (tree, plain) = (&beside.tree, beside.plain.as_slice());
-    let snapshot = tree.snapshot()?;
     let key = numbered(alloc, number)?;
-    let all = lent(alloc, snapshot.range(None))?;
-    let above = lent(alloc, snapshot.range(Some(&key)))?;
     Ok(
         tree.len() == plain.len()
-            && snapshot.range(None).len() == plain.len()
-            && snapshot.range(Some(&key)).len() == above.len()
             && tree.is_empty() == plain.is_empty()
             && tree.pages() <= plain.len() / 16 + 1
-            && all.as_slice() == plain_above(alloc, plain, 0)?.as_slice()
-            && above.as_slice() == plain_above(alloc, plain, number)?.as_slice()
-            && revision(tree.get(&key)) == plain_get(plain, number),
+            && revision(tree.get(&key)) == plain_get(plain, number)
+            && agree_above(alloc, beside, None, 0)?
+            && agree_above(alloc, beside, Some(&key), number)?,
     )
+}
+
+/// Whether the tree lends above a key what the plain list has above its number.
+fn agree_above(
+    alloc: Global,
+    beside: &Beside,
+    after: Option<&Key>,
+    number: u64,
+) -> Result<bool, Memory> {
+    let snapshot = beside.tree.snapshot()?;
+    let rows = snapshot.range(after);
+    let len = rows.len();
+    let found = lent(alloc, rows)?;
+    let wanted = plain_above(alloc, beside.plain.as_slice(), number)?;
+    Ok(len == wanted.len() && found.as_slice() == wanted.as_slice())
 }

@@ -1,69 +1,83 @@
 //! Label selectors.
 
 use crate::plain_labels;
-use crate::samples::{Answer, labels, truth, words};
-use case_rows::split;
+use crate::samples::{NO_INPUT, labels, sameness, truth};
+use case_rows::{Wording, split};
 use label_select::{LabelSel, Tokens};
-use std::alloc::Global;
+use std::alloc::{AllocError, Global};
 
 /// Rows: `read T`, `empty T`, `match T | LABELS`, `same T | T`, `tokens T`, and `alike LENGTH`, all short texts of a
 /// length beside a plain reader.
-pub fn answer(alloc: Global, input: &str) -> Answer {
+pub fn answer(alloc: Global, input: &str, told: &mut Wording) -> Result<(), AllocError> {
     let (what, text) = split(input);
     let (text, other) = text.split_once(" | ").unwrap_or((text, ""));
     match what {
-        "read" => read(alloc, text),
-        "empty" => empty(alloc, text),
-        "match" => matched(alloc, text, other),
-        "same" => same(alloc, text, other),
-        "tokens" => tokens(alloc, text),
-        "alike" => plain_labels::answer(alloc, text),
-        _ => Ok(None),
+        "read" => read(alloc, text, told),
+        "empty" => empty(alloc, text, told),
+        "match" => matched(alloc, text, other, told)?,
+        "same" => same(alloc, text, other, told)?,
+        "tokens" => tokens(text, told),
+        "alike" => plain_labels::answer(alloc, text, told),
+        _ => told.add(NO_INPUT),
+    }
+    Ok(())
+}
+
+fn read(alloc: Global, text: &str, told: &mut Wording) {
+    match LabelSel::read(alloc, text) {
+        Ok(_) => told.add("a selector"),
+        Err(fault) => told.debug(&fault),
     }
 }
 
-fn read(alloc: Global, text: &str) -> Answer {
+fn empty(alloc: Global, text: &str, told: &mut Wording) {
     match LabelSel::read(alloc, text) {
-        Ok(_) => words(alloc, "a selector"),
-        Err(fault) => Ok(Some(format!(in alloc; "{fault:?}")?)),
+        Ok(selector) => told.add(truth(selector.is_empty())),
+        Err(_) => told.add(NO_INPUT),
     }
 }
 
-fn empty(alloc: Global, text: &str) -> Answer {
+fn matched(alloc: Global, text: &str, pairs: &str, told: &mut Wording) -> Result<(), AllocError> {
+    let labels = labels(alloc, pairs)?;
     match LabelSel::read(alloc, text) {
-        Ok(selector) => truth(alloc, selector.is_empty()),
-        Err(_) => Ok(None),
+        Ok(selector) => told.add(truth(selector.matches(&labels))),
+        Err(_) => told.add(NO_INPUT),
     }
-}
-
-fn matched(alloc: Global, text: &str, pairs: &str) -> Answer {
-    match LabelSel::read(alloc, text) {
-        Ok(selector) => truth(alloc, selector.matches(&labels(alloc, pairs)?)),
-        Err(_) => Ok(None),
-    }
+    Ok(())
 }
 
 /// Whether two selectors, and their copies, are the same.
-fn same(alloc: Global, text: &str, other: &str) -> Answer {
-    let Ok(one) = LabelSel::read(alloc, text) else {
-        return Ok(None);
-    };
-    let Ok(other) = LabelSel::read(alloc, other) else {
-        return Ok(None);
-    };
-    let (copy, other_copy) = (one.copy(alloc)?, other.copy(alloc)?);
-    if one.same(&other) == copy.same(&other_copy) {
-        truth(alloc, one.same(&other))
-    } else {
-        words(alloc, "a copy is another")
+fn same(alloc: Global, text: &str, other: &str, told: &mut Wording) -> Result<(), AllocError> {
+    let one = LabelSel::read(alloc, text);
+    let other = LabelSel::read(alloc, other);
+    match (&one, &other) {
+        (Ok(one), Ok(other)) => compare(alloc, one, other, told),
+        _ => {
+            told.add(NO_INPUT);
+            Ok(())
+        }
     }
 }
 
-fn tokens(alloc: Global, text: &str) -> Answer {
-    let mut found = String::new(alloc);
+fn compare(
+    alloc: Global,
+    one: &LabelSel,
+    other: &LabelSel,
+    told: &mut Wording,
+) -> Result<(), AllocError> {
+    let copy = one.copy(alloc)?;
+    let other_copy = other.copy(alloc)?;
+    told.add(sameness(one.same(other), copy.same(&other_copy)));
+    Ok(())
+}
+
+fn tokens(text: &str, told: &mut Wording) {
     for token in Tokens::of(text) {
-        let word = format!(in alloc; "{:?} {} at {};", token.kind, token.text, token.at)?;
-        found.push_str(word.as_str())?;
+        told.debug(&token.kind);
+        told.add(" ");
+        told.add(token.text);
+        told.add(" at ");
+        told.show(&token.at);
+        told.add(";");
     }
-    Ok(Some(found))
 }

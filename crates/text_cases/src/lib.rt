@@ -1,6 +1,6 @@
 //! Answers to rows on texts: names, selectors, options, bodies of objects, requests as bytes, texts of replies.
 //!
-//! `cases` reads the rows. They stand apart from it, since they need few crates, and so are proved sooner.
+//! `part_cases` reads the rows. They stand apart from it, since they need few crates, and so are proved sooner.
 #![tactic(auto)]
 
 mod fields;
@@ -16,22 +16,32 @@ mod samples;
 mod selections;
 mod watches;
 
-pub use samples::{Answer, resource, words};
-use std::alloc::Global;
+use case_rows::Wording;
+pub use samples::{NO_INPUT, resource};
+use std::alloc::{AllocError, Global};
 
-/// The answer of the subject that a file's name says; none where the file has another subject.
-pub fn answer(alloc: Global, file: &str, input: &str) -> Answer {
+/// The answer of the subject that a file's name says. An input that isn't written as its file's rows are, or whose
+/// file has another subject, is answered with `NO_INPUT`.
+pub fn answer(
+    alloc: Global,
+    file: &str,
+    input: &str,
+    told: &mut Wording,
+) -> Result<(), AllocError> {
     match file {
-        "texts/names.txt" => names::answer(alloc, input),
-        "texts/labels.txt" => labels::answer(alloc, input),
-        "texts/fields.txt" => fields::answer(alloc, input),
-        "texts/selections.txt" => selections::answer(alloc, input),
-        "texts/params.txt" => params::answer(alloc, input),
-        "texts/lists.txt" => lists::answer(alloc, input),
-        "texts/watches.txt" => watches::answer(alloc, input),
-        "texts/requests.txt" => requests::answer(alloc, input),
-        "texts/objects.txt" => objects::answer(alloc, input),
-        "texts/replies.txt" => replies::answer(alloc, input),
-        _ => Ok(None),
+        "texts/names.txt" => names::answer(alloc, input, told),
+        "texts/labels.txt" => labels::answer(alloc, input, told),
+        "texts/fields.txt" => fields::answer(alloc, input, told),
+        "texts/selections.txt" => selections::answer(alloc, input, told),
+        "texts/params.txt" => params::answer(alloc, input, told),
+        "texts/lists.txt" => lists::answer(alloc, input, told),
+        "texts/watches.txt" => watches::answer(alloc, input, told),
+        "texts/requests.txt" => requests::answer(alloc, input, told),
+        "texts/objects.txt" => objects::answer(alloc, input, told),
+        "texts/replies.txt" => replies::answer(alloc, input, told),
+        _ => {
+            told.add(NO_INPUT);
+            Ok(())
+        }
     }
 }

@@ -1,24 +1,25 @@
 //! The options of lists and gets, and continue tokens.
 
-use crate::samples::{Answer, key, resource};
-use case_rows::split;
+use crate::samples::{NO_INPUT, key, resource};
+use case_rows::{Wording, split};
 use http_read::Params;
-use kube_meta::{Resource, Text};
-use list_rules::{AskNo, GetAsk, ListAsk, meaning, read_token, token};
+use kube_meta::{Key, Resource, Text};
+use list_rules::{AskNo, GetAsk, ListAsk, TokenNo, meaning, read_token, token};
 use select_all::{SelNo, Selection};
 use std::alloc::{AllocError, Global};
 
 /// Rows: `list QUERY` of the pods of `default`; `get QUERY` of one of them; `token REVISION KEY` of these pods; `read
 /// RESOURCE TOKEN` of the resource in `default`.
-pub fn answer(alloc: Global, input: &str) -> Answer {
+pub fn answer(alloc: Global, input: &str, told: &mut Wording) -> Result<(), AllocError> {
     let (what, text) = split(input);
     match what {
-        "list" => list(alloc, text),
-        "get" => get(alloc, text),
-        "token" => write(alloc, text),
-        "read" => read(alloc, text),
-        _ => Ok(None),
+        "list" => list(alloc, text, told)?,
+        "get" => get(alloc, text, told)?,
+        "token" => write(alloc, text, told)?,
+        "read" => read(alloc, text, told)?,
+        _ => told.add(NO_INPUT),
     }
+    Ok(())
 }
 
 /// All of a resource in `default`.
@@ -36,61 +37,88 @@ fn asked(alloc: Global, query: &str) -> Result<Option<Result<ListAsk, AskNo>>, A
     }
 }
 
-fn list(alloc: Global, query: &str) -> Answer {
+fn list(alloc: Global, query: &str, told: &mut Wording) -> Result<(), AllocError> {
     match asked(alloc, query)? {
-        Some(Ok(ask)) => Ok(Some(ask_words(alloc, &ask)?)),
-        Some(Err(fault)) => Ok(Some(format!(in alloc; "{fault:?}")?)),
-        None => Ok(None),
+        Some(Ok(ask)) => tell_ask(&ask, told),
+        Some(Err(fault)) => told.debug(&fault),
+        None => told.add(NO_INPUT),
     }
+    Ok(())
 }
 
 /// The meaning, and then the limit and the key where there are such.
-fn ask_words(alloc: Global, ask: &ListAsk) -> Result<String, AllocError> {
-    let mut text = format!(in alloc; "{:?}", meaning(ask))?;
+fn tell_ask(ask: &ListAsk, told: &mut Wording) {
+    told.debug(&meaning(ask));
     if ask.limit != 0 {
-        text.push_str(format!(in alloc; " limit {}", ask.limit)?.as_str())?;
+        told.add(" limit ");
+        told.show(&ask.limit);
     }
     if let Some(key) = &ask.after {
-        text.push_str(format!(in alloc; " behind {}", key.as_str())?.as_str())?;
+        told.add(" behind ");
+        told.add(key.as_str());
     }
-    Ok(text)
 }
 
-fn get(alloc: Global, query: &str) -> Answer {
+fn get(alloc: Global, query: &str, told: &mut Wording) -> Result<(), AllocError> {
     let params = Params::read(alloc, query)?;
-    let Some(key) = key(alloc, "default/p-5")? else {
-        return Ok(None);
-    };
-    Ok(Some(match GetAsk::from_params(Resource::Pods, key, &params) {
-        Ok(ask) => format!(in alloc; "{:?}", ask.meaning)?,
-        Err(fault) => format!(in alloc; "{fault:?}")?,
-    }))
+    match key(alloc, "default/p-5")? {
+        Some(key) => tell_get(&GetAsk::from_params(Resource::Pods, key, &params), told),
+        None => told.add(NO_INPUT),
+    }
+    Ok(())
 }
 
-fn write(alloc: Global, input: &str) -> Answer {
-    let (revision, name) = split(input);
-    let Ok(revision) = revision.parse::<u64>() else {
-        return Ok(None);
-    };
-    let Some(last) = key(alloc, name)? else {
-        return Ok(None);
-    };
-    match asked(alloc, "limit=2")? {
-        Some(Ok(ask)) => Ok(Some(token(alloc, &ask, revision, &last)?.to_string()?)),
-        _ => Ok(None),
+fn tell_get(read: &Result<GetAsk, AskNo>, told: &mut Wording) {
+    match read {
+        Ok(ask) => told.debug(&ask.meaning),
+        Err(fault) => told.debug(fault),
     }
 }
 
-fn read(alloc: Global, input: &str) -> Answer {
+fn write(alloc: Global, input: &str, told: &mut Wording) -> Result<(), AllocError> {
+    let (revision, name) = split(input);
+    let last = key(alloc, name)?;
+    let ask = asked(alloc, "limit=2")?;
+    match (revision.parse::<u64>(), &last, &ask) {
+        (Ok(revision), Some(last), Some(Ok(ask))) => tell_token(alloc, ask, revision, last, told),
+        _ => {
+            told.add(NO_INPUT);
+            Ok(())
+        }
+    }
+}
+
+fn tell_token(
+    alloc: Global,
+    ask: &ListAsk,
+    revision: u64,
+    last: &Key,
+    told: &mut Wording,
+) -> Result<(), AllocError> {
+    told.add(token(alloc, ask, revision, last)?.as_str());
+    Ok(())
+}
+
+fn read(alloc: Global, input: &str, told: &mut Wording) -> Result<(), AllocError> {
     let (name, text) = split(input);
     let Some(resource) = resource(name) else {
-        return Ok(None);
+        told.add(NO_INPUT);
+        return Ok(());
     };
     match in_default(alloc, resource)? {
-        Ok(selection) => Ok(Some(match read_token(alloc, text, &selection, "", "") {
-            Ok((revision, key)) => format!(in alloc; "{revision} {}", key.as_str())?,
-            Err(fault) => format!(in alloc; "{fault:?}")?,
-        })),
-        Err(_) => Ok(None),
+        Ok(selection) => tell_read(&read_token(alloc, text, &selection, "", ""), told),
+        Err(_) => told.add(NO_INPUT),
+    }
+    Ok(())
+}
+
+fn tell_read(read: &Result<(u64, Key), TokenNo>, told: &mut Wording) {
+    match read {
+        Ok((revision, key)) => {
+            told.show(revision);
+            told.add(" ");
+            told.add(key.as_str());
+        }
+        Err(fault) => told.debug(fault),
     }
 }

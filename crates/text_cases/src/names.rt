@@ -1,78 +1,88 @@
 //! Names, labels, keys, revisions and resources.
 
-use crate::samples::{Answer, truth, words};
-use case_rows::split;
+use crate::samples::{NO_INPUT, truth};
+use case_rows::{Wording, split};
 use kube_meta::{
     Key, Resource, Rev, Text, is_label_key, is_label_value, is_namespace, is_object_name,
 };
-use std::alloc::Global;
+use std::alloc::{AllocError, Global};
 
 /// Rows: `namespace T`, `name T`, `label key T`, `label value T`, `revision T`, `key NAMESPACE NAME`, `read T`,
 /// `order KEY KEY`, `rank PLURAL PLURAL`, `resource PLURAL`, `group GROUP VERSION PLURAL`, where the core group is
 /// `core`.
-pub fn answer(alloc: Global, input: &str) -> Answer {
+pub fn answer(alloc: Global, input: &str, told: &mut Wording) -> Result<(), AllocError> {
     let (what, text) = split(input);
     match what {
-        "namespace" => truth(alloc, is_namespace(text)),
-        "name" => truth(alloc, is_object_name(text)),
-        "label" => label(alloc, text),
-        "revision" => revision(alloc, text),
-        "key" => key(alloc, text),
-        "read" => read(alloc, text),
-        "order" => order(alloc, text),
-        "rank" => rank(alloc, text),
-        "resource" => found(alloc, Resource::of_plural(text.as_bytes())),
-        "group" => group(alloc, text),
-        _ => Ok(None),
+        "namespace" => told.add(truth(is_namespace(text))),
+        "name" => told.add(truth(is_object_name(text))),
+        "label" => label(text, told),
+        "revision" => revision(text, told),
+        "key" => key(alloc, text, told)?,
+        "read" => read(alloc, text, told)?,
+        "order" => order(alloc, text, told)?,
+        "rank" => told.add(rank(text)),
+        "resource" => found(Resource::of_plural(text.as_bytes()), told),
+        "group" => group(text, told),
+        _ => told.add(NO_INPUT),
     }
+    Ok(())
 }
 
-fn label(alloc: Global, text: &str) -> Answer {
+fn label(text: &str, told: &mut Wording) {
     let (part, text) = split(text);
     match part {
-        "key" => truth(alloc, is_label_key(text)),
-        "value" => truth(alloc, is_label_value(text)),
-        _ => Ok(None),
+        "key" => told.add(truth(is_label_key(text))),
+        "value" => told.add(truth(is_label_value(text))),
+        _ => told.add(NO_INPUT),
     }
 }
 
-fn revision(alloc: Global, text: &str) -> Answer {
-    Ok(Some(match Rev::read(text.as_bytes()) {
-        Ok(revision) => format!(in alloc; "{revision}")?,
-        Err(fault) => format!(in alloc; "{fault:?}")?,
-    }))
+fn revision(text: &str, told: &mut Wording) {
+    match Rev::read(text.as_bytes()) {
+        Ok(revision) => told.show(&revision),
+        Err(fault) => told.debug(&fault),
+    }
 }
 
-fn key(alloc: Global, text: &str) -> Answer {
+fn key(alloc: Global, text: &str, told: &mut Wording) -> Result<(), AllocError> {
     let Some((ns, name)) = text.split_once(' ') else {
-        return Ok(None);
+        told.add(NO_INPUT);
+        return Ok(());
     };
-    Ok(Some(
-        match Key::new(Text::new(alloc, ns)?, Text::new(alloc, name)?) {
-            Ok(key) => format!(in alloc; "{} = {} / {}", key.as_str(), key.ns(), key.name())?,
-            Err(fault) => format!(in alloc; "{fault:?}")?,
-        },
-    ))
+    match Key::new(Text::new(alloc, ns)?, Text::new(alloc, name)?) {
+        Ok(key) => {
+            told.add(key.as_str());
+            told.add(" = ");
+            tell_parts(&key, told);
+        }
+        Err(fault) => told.debug(&fault),
+    }
+    Ok(())
 }
 
-fn read(alloc: Global, text: &str) -> Answer {
+fn tell_parts(key: &Key, told: &mut Wording) {
+    told.add(key.ns());
+    told.add(" / ");
+    told.add(key.name());
+}
+
+fn read(alloc: Global, text: &str, told: &mut Wording) -> Result<(), AllocError> {
     match Key::read(alloc, text.as_bytes())? {
-        Some(key) => Ok(Some(format!(in alloc; "{} / {}", key.ns(), key.name())?)),
-        None => words(alloc, "no key"),
+        Some(key) => tell_parts(&key, told),
+        None => told.add("no key"),
     }
+    Ok(())
 }
 
-fn order(alloc: Global, text: &str) -> Answer {
-    let Some((one, other)) = text.split_once(' ') else {
-        return Ok(None);
-    };
-    let Some(one) = crate::samples::key(alloc, one)? else {
-        return Ok(None);
-    };
-    match crate::samples::key(alloc, other)? {
-        Some(other) => words(alloc, sign(&one, &other)),
-        None => Ok(None),
+fn order(alloc: Global, text: &str, told: &mut Wording) -> Result<(), AllocError> {
+    let (one, other) = split(text);
+    let one = crate::samples::key(alloc, one)?;
+    let other = crate::samples::key(alloc, other)?;
+    match (&one, &other) {
+        (Some(one), Some(other)) => told.add(sign(one, other)),
+        _ => told.add(NO_INPUT),
     }
+    Ok(())
 }
 
 fn sign(one: &Key, other: &Key) -> &'static str {
@@ -86,47 +96,45 @@ fn sign(one: &Key, other: &Key) -> &'static str {
 }
 
 /// The order of two resources.
-fn rank(alloc: Global, text: &str) -> Answer {
+fn rank(text: &str) -> &'static str {
     let (one, other) = split(text);
     let Some(one) = Resource::of_plural(one.as_bytes()) else {
-        return Ok(None);
+        return NO_INPUT;
     };
     match Resource::of_plural(other.as_bytes()) {
-        Some(other) if one < other => words(alloc, "before"),
-        Some(other) if one == other => words(alloc, "same"),
-        Some(_) => words(alloc, "behind"),
-        None => Ok(None),
+        Some(other) if one < other => "before",
+        Some(other) if one == other => "same",
+        Some(_) => "behind",
+        None => NO_INPUT,
     }
 }
 
 /// The resource of a group, a version and a name in paths.
-fn group(alloc: Global, text: &str) -> Answer {
+fn group(text: &str, told: &mut Wording) {
     let (group, rest) = split(text);
     let (version, plural) = split(rest);
     let group = if group == "core" { "" } else { group };
-    found(alloc, Resource::of_group(group, version, plural))
+    found(Resource::of_group(group, version, plural), told);
 }
 
-fn found(alloc: Global, resource: Option<Resource>) -> Answer {
+fn found(resource: Option<Resource>, told: &mut Wording) {
     match resource {
-        Some(resource) => names(alloc, resource),
-        None => words(alloc, "no resource"),
+        Some(resource) => tell_names(resource, told),
+        None => told.add("no resource"),
     }
 }
 
-fn names(alloc: Global, resource: Resource) -> Answer {
-    let singular = format!(in alloc;
-        "{} {} {}",
+fn tell_names(resource: Resource, told: &mut Wording) {
+    for name in [
         resource.plural(),
         resource.kind(),
-        resource.list_kind()
-    )?;
-    let group = format!(in alloc;
-        "{} {} {}",
+        resource.list_kind(),
         resource.api_version(),
         resource.base_path(),
-        resource.message_name()
-    )?;
-    let fields = resource.listed_fields().len();
-    Ok(Some(format!(in alloc; "{} {} {fields}", singular.as_str(), group.as_str())?))
+        resource.message_name(),
+    ] {
+        told.add(name);
+        told.add(" ");
+    }
+    told.show(&resource.listed_fields().len());
 }

@@ -1,7 +1,7 @@
 //! Objects in bodies.
 
-use crate::samples::{Answer, resource, words};
-use case_rows::split;
+use crate::samples::{NO_INPUT, resource};
+use case_rows::{Wording, split};
 use json_obj::{ObjNo, obj_of, read_obj, read_value};
 use kube_meta::{Obj, Resource, Row, Text, is_namespace};
 use meta_view::meta_text;
@@ -26,157 +26,180 @@ enum Part {
 /// Rows: `create RESOURCE NAMESPACE BODY` and with the same words `labels`, `fields`, `metadata`, `partial`; `replace
 /// RESOURCE NAMESPACE NAME BODY`; `value RESOURCE NAMESPACE BODY`, a value that may have floats; `json BODY`, whether
 /// it is one value.
-pub fn answer(alloc: Global, input: &str) -> Answer {
+pub fn answer(alloc: Global, input: &str, told: &mut Wording) -> Result<(), AllocError> {
     let (what, text) = split(input);
     match what {
-        "create" => shown(alloc, Part::Json, text),
-        "labels" => shown(alloc, Part::Labels, text),
-        "fields" => shown(alloc, Part::Fields, text),
-        "metadata" => shown(alloc, Part::Metadata, text),
-        "partial" => shown(alloc, Part::Partial, text),
-        "replace" => replaced(alloc, text),
-        "value" => of_value(alloc, text),
-        "json" => json(alloc, text),
-        _ => Ok(None),
+        "create" => shown(alloc, Part::Json, text, told)?,
+        "labels" => shown(alloc, Part::Labels, text, told)?,
+        "fields" => shown(alloc, Part::Fields, text, told)?,
+        "metadata" => shown(alloc, Part::Metadata, text, told)?,
+        "partial" => shown(alloc, Part::Partial, text, told)?,
+        "replace" => replaced(alloc, text, told)?,
+        "value" => of_value(alloc, text, told)?,
+        "json" => json(alloc, text, told),
+        _ => told.add(NO_INPUT),
     }
+    Ok(())
 }
 
 /// The resource and the namespace of a row, and what stands behind them.
-fn place(alloc: Global, input: &str) -> Result<Option<(Resource, Text, &str)>, AllocError> {
+fn place(input: &str) -> Option<(Resource, &str, &str)> {
     let (name, rest) = split(input);
-    let (ns, body) = split(rest);
+    let (ns, behind) = split(rest);
     match resource(name) {
-        Some(resource) => Ok(Some((resource, Text::new(alloc, ns)?, body))),
-        None => Ok(None),
+        Some(resource) => Some((resource, ns, behind)),
+        None => None,
     }
 }
 
-fn shown(alloc: Global, what: Part, input: &str) -> Answer {
-    let Some((resource, ns, body)) = place(alloc, input)? else {
-        return Ok(None);
+fn shown(alloc: Global, what: Part, input: &str, told: &mut Wording) -> Result<(), AllocError> {
+    let Some((resource, ns, body)) = place(input) else {
+        told.add(NO_INPUT);
+        return Ok(());
     };
+    let ns = Text::new(alloc, ns)?;
     if !is_namespace(ns.as_str()) {
-        return Ok(None);
+        told.add(NO_INPUT);
+        return Ok(());
     }
     let read = read_obj(alloc, body.as_bytes(), resource, &ns, None);
-    Ok(Some(read_words(alloc, what, read)?))
+    tell_read(alloc, what, read, told)
 }
 
-fn replaced(alloc: Global, input: &str) -> Answer {
-    let Some((resource, ns, rest)) = place(alloc, input)? else {
-        return Ok(None);
+fn replaced(alloc: Global, input: &str, told: &mut Wording) -> Result<(), AllocError> {
+    let Some((resource, ns, rest)) = place(input) else {
+        told.add(NO_INPUT);
+        return Ok(());
     };
     let (name, body) = split(rest);
     let name = Text::new(alloc, name)?;
+    let ns = Text::new(alloc, ns)?;
     if !is_namespace(ns.as_str()) {
-        return Ok(None);
+        told.add(NO_INPUT);
+        return Ok(());
     }
     let read = read_obj(alloc, body.as_bytes(), resource, &ns, Some(&name));
-    Ok(Some(read_words(alloc, Part::Json, read)?))
+    tell_read(alloc, Part::Json, read, told)
 }
 
-fn of_value(alloc: Global, input: &str) -> Answer {
-    let Some((resource, ns, body)) = place(alloc, input)? else {
-        return Ok(None);
+fn of_value(alloc: Global, input: &str, told: &mut Wording) -> Result<(), AllocError> {
+    let Some((resource, ns, body)) = place(input) else {
+        told.add(NO_INPUT);
+        return Ok(());
     };
+    let ns = Text::new(alloc, ns)?;
     if !is_namespace(ns.as_str()) {
-        return Ok(None);
+        told.add(NO_INPUT);
+        return Ok(());
     }
     match Value::from_str(alloc, body) {
         Ok(value) => {
             let read = obj_of(alloc, &value, resource, &ns, None);
-            Ok(Some(read_words(alloc, Part::Json, read)?))
+            tell_read(alloc, Part::Json, read, told)
         }
-        Err(_) => Ok(None),
+        Err(_) => {
+            told.add(NO_INPUT);
+            Ok(())
+        }
     }
 }
 
-fn json(alloc: Global, body: &str) -> Answer {
+fn json(alloc: Global, body: &str, told: &mut Wording) {
     match read_value(alloc, body.as_bytes()) {
-        Ok(value) => words(
-            alloc,
-            if value.is_array() {
-                "a list"
-            } else if value.is_object() {
-                "an object"
-            } else {
-                "another value"
-            },
-        ),
-        Err(fault) => Ok(Some(format!(in alloc; "{fault:?}")?)),
+        Ok(value) => told.add(kind_of(&value)),
+        Err(fault) => told.debug(&fault),
     }
 }
 
-fn read_words(
+fn kind_of(value: &Value) -> &'static str {
+    if value.is_array() {
+        "a list"
+    } else if value.is_object() {
+        "an object"
+    } else {
+        "another value"
+    }
+}
+
+fn tell_read(
     alloc: Global,
     what: Part,
     read: Result<(Obj, Option<u64>), ObjNo>,
-) -> Result<String, AllocError> {
+    told: &mut Wording,
+) -> Result<(), AllocError> {
     match read {
-        Ok((object, given)) => object_words(alloc, what, object, given),
-        Err(fault) => format!(in alloc; "{fault:?}"),
+        Ok((object, given)) => tell_object(alloc, what, object, given, told),
+        Err(fault) => {
+            told.debug(&fault);
+            Ok(())
+        }
     }
 }
 
-fn object_words(
+fn tell_object(
     alloc: Global,
     what: Part,
     object: Obj,
     given: Option<u64>,
-) -> Result<String, AllocError> {
-    let (front, back) = (object.front.as_str(), object.back.as_str());
+    told: &mut Wording,
+) -> Result<(), AllocError> {
     match what {
-        Part::Json => match given {
-            Some(given) => format!(in alloc; "given {given} {front}7{back}"),
-            None => format!(in alloc; "{front}7{back}"),
-        },
-        Part::Labels => labels_words(alloc, &object),
-        Part::Fields => fields_words(alloc, &object),
-        Part::Metadata => metadata_words(alloc, front, back, &object),
-        Part::Partial => partial_words(alloc, object),
+        Part::Json => tell_json(&object, given, told),
+        Part::Labels => tell_labels(&object, told),
+        Part::Fields => tell_fields(&object, told),
+        Part::Metadata => tell_metadata(&object, told),
+        Part::Partial => return tell_partial(alloc, object, told),
     }
+    Ok(())
 }
 
-fn labels_words(alloc: Global, object: &Obj) -> Result<String, AllocError> {
-    let mut text = String::new(alloc);
+fn tell_json(object: &Obj, given: Option<u64>, told: &mut Wording) {
+    if let Some(given) = given {
+        told.add("given ");
+        told.show(&given);
+        told.add(" ");
+    }
+    told.add(object.front.as_str());
+    told.add("7");
+    told.add(object.back.as_str());
+}
+
+fn tell_labels(object: &Obj, told: &mut Wording) {
     for pair in object.labels.pairs() {
-        let label = format!(in alloc; "{}={};", pair.0.as_str(), pair.1.as_str())?;
-        text.push_str(label.as_str())?;
+        told.add(pair.0.as_str());
+        told.add("=");
+        told.add(pair.1.as_str());
+        told.add(";");
     }
-    Ok(text)
 }
 
-fn fields_words(alloc: Global, object: &Obj) -> Result<String, AllocError> {
-    let mut text = String::new(alloc);
+fn tell_fields(object: &Obj, told: &mut Wording) {
     for place in 0..object.fields.len() {
         if let Some(value) = object.fields.get(place) {
-            text.push_str(value.as_str())?;
-            text.push_str(";")?;
+            told.add(value.as_str());
+            told.add(";");
         }
     }
-    Ok(text)
 }
 
-fn metadata_words(
-    alloc: Global,
-    front: &str,
-    back: &str,
-    object: &Obj,
-) -> Result<String, AllocError> {
+fn tell_metadata(object: &Obj, told: &mut Wording) {
+    let (front, back) = (object.front.as_str(), object.back.as_str());
     match (front.get(object.meta_from..), back.get(..object.meta_to)) {
-        (Some(from), Some(to)) => format!(in alloc; "{from}7{to}"),
-        _ => String::from_str(alloc, "no bounds"),
+        (Some(from), Some(to)) => {
+            told.add(from);
+            told.add("7");
+            told.add(to);
+        }
+        _ => told.add("no bounds"),
     }
 }
 
-fn partial_words(alloc: Global, object: Obj) -> Result<String, AllocError> {
+fn tell_partial(alloc: Global, object: Obj, told: &mut Wording) -> Result<(), AllocError> {
     let row = Row {
         obj: Arc::new(alloc, object)?,
         rev: 7,
     };
     let text = meta_text(alloc, &row)?;
-    match str::from_utf8(text.as_slice()) {
-        Ok(text) => String::from_str(alloc, text),
-        Err(_) => String::from_str(alloc, "no UTF-8"),
-    }
+    told.add(str::from_utf8(text.as_slice()).unwrap_or("no UTF-8"));
+    Ok(())
 }

@@ -1,25 +1,29 @@
 //! The parameters of a query.
 
-use crate::samples::{Answer, words};
+use crate::samples::NO_INPUT;
+use case_rows::Wording;
 use http_read::Params;
-use std::alloc::Global;
+use std::alloc::{AllocError, Global};
 
 /// Rows: `get NAME of QUERY`, `truth NAME of QUERY`.
-pub fn answer(alloc: Global, input: &str) -> Answer {
+pub fn answer(alloc: Global, input: &str, told: &mut Wording) -> Result<(), AllocError> {
     let Some((asked, query)) = input.split_once(" of ") else {
-        return Ok(None);
+        told.add(NO_INPUT);
+        return Ok(());
     };
     let params = Params::read(alloc, query)?;
     match asked.split_once(' ') {
-        Some(("get", name)) => words(alloc, params.get(name).unwrap_or("unset")),
-        Some(("truth", name)) => words(
-            alloc,
-            match params.truth(name) {
-                Some(true) => "true",
-                Some(false) => "false",
-                None => "unset",
-            },
-        ),
-        _ => Ok(None),
+        Some(("get", name)) => told.add(params.get(name).unwrap_or("unset")),
+        Some(("truth", name)) => told.add(truth_words(params.truth(name))),
+        _ => told.add(NO_INPUT),
+    }
+    Ok(())
+}
+
+fn truth_words(truth: Option<bool>) -> &'static str {
+    match truth {
+        Some(true) => "true",
+        Some(false) => "false",
+        None => "unset",
     }
 }

@@ -1,9 +1,10 @@
 //! Label selectors read a second time, plainly: a table of states that goes over the text byte by byte, with which
 //! the reader is compared on all short texts of a small alphabet.
 
-use crate::samples::Answer;
+use crate::samples::NO_INPUT;
+use case_rows::Wording;
 use label_select::{LabelNo, LabelSel};
-use std::alloc::{AllocError, Global};
+use std::alloc::Global;
 
 /// What was read last, and so what may follow.
 #[derive(Clone, Copy)]
@@ -184,7 +185,7 @@ fn selectors(len: usize, texts: u32) -> u32 {
 }
 
 /// The texts of a length, up to 6, how many of them are selectors, and how many the two readers tell in another way.
-pub fn answer(alloc: Global, text: &str) -> Answer {
+pub fn answer(alloc: Global, text: &str, told: &mut Wording) {
     let (len, texts) = match text {
         "0" => (0, 1),
         "1" => (1, 9),
@@ -193,13 +194,15 @@ pub fn answer(alloc: Global, text: &str) -> Answer {
         "4" => (4, 6561),
         "5" => (5, 59049),
         "6" => (6, 531441),
-        _ => return Ok(None),
+        _ => {
+            told.add(NO_INPUT);
+            return;
+        }
     };
-    let read = selectors(len, texts);
-    let unlike = unlike(alloc, len, texts);
-    Ok(Some(alike_words(alloc, texts, read, unlike)?))
-}
-
-fn alike_words(alloc: Global, texts: u32, read: u32, unlike: u32) -> Result<String, AllocError> {
-    format!(in alloc; "{texts} texts, {read} read, {unlike} told in another way")
+    told.show(&texts);
+    told.add(" texts, ");
+    told.show(&selectors(len, texts));
+    told.add(" read, ");
+    told.show(&unlike(alloc, len, texts));
+    told.add(" told in another way");
 }

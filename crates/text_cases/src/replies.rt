@@ -1,7 +1,7 @@
 //! Texts of replies.
 
-use crate::samples::{Answer, resource, words};
-use case_rows::split;
+use crate::samples::{NO_INPUT, resource};
+use case_rows::{Wording, split};
 use json_obj::{
     EventType, More, Refusal, bookmark, expired_pieces, list_parts, status, value_pieces,
 };
@@ -13,27 +13,21 @@ use std::alloc::{AllocError, Global};
 /// TOKEN LEFT`, each also with the resource `metadata`; `status CODE REASON MESSAGE`, and `too-large CODE REASON
 /// MESSAGE`; `line TYPE`, `value NUMBER`, `expired ASKED FLOOR`; `accept TYPES`, the form that is asked for. Items
 /// and objects are written `..`.
-pub fn answer(alloc: Global, input: &str) -> Answer {
+pub fn answer(alloc: Global, input: &str, told: &mut Wording) -> Result<(), AllocError> {
     let (what, text) = split(input);
     match what {
-        "bookmark" => marked(alloc, text, false),
-        "closing" => marked(alloc, text, true),
-        "list" | "page" => list(alloc, text),
-        "status" => refusal(alloc, text, false),
-        "too-large" => refusal(alloc, text, true),
-        "line" => line(alloc, text),
-        "value" => pieces(alloc, &value_pieces(text.as_bytes())),
-        "expired" => expired(alloc, text),
-        "accept" => words(
-            alloc,
-            if wants_metadata(text.as_bytes()) {
-                "metadata"
-            } else {
-                "whole"
-            },
-        ),
-        _ => Ok(None),
+        "bookmark" => marked(alloc, text, false, told)?,
+        "closing" => marked(alloc, text, true, told)?,
+        "list" | "page" => list(alloc, text, told)?,
+        "status" => refusal(alloc, text, false, told)?,
+        "too-large" => refusal(alloc, text, true, told)?,
+        "line" => line(text, told),
+        "value" => tell_pieces(&value_pieces(text.as_bytes()), told),
+        "expired" => expired(text, told),
+        "accept" => told.add(form_of(text)),
+        _ => told.add(NO_INPUT),
     }
+    Ok(())
 }
 
 /// The resource of a row; `metadata` is none, for texts with the metadata alone.
@@ -45,21 +39,29 @@ fn shown(name: &str) -> Option<Option<Resource>> {
     }
 }
 
-fn text_of(alloc: Global, bytes: &[u8]) -> Answer {
-    match str::from_utf8(bytes) {
-        Ok(text) => Ok(Some(String::from_str(alloc, text)?)),
-        Err(_) => Ok(None),
+fn tell_bytes(bytes: &[u8], told: &mut Wording) {
+    told.add(str::from_utf8(bytes).unwrap_or("(no UTF-8)"));
+}
+
+/// Pieces, one after the other.
+fn tell_pieces(pieces: &[&[u8]], told: &mut Wording) {
+    for piece in pieces {
+        tell_bytes(piece, told);
     }
 }
 
-fn marked(alloc: Global, input: &str, closing: bool) -> Answer {
+fn marked(alloc: Global, input: &str, closing: bool, told: &mut Wording) -> Result<(), AllocError> {
     let (name, revision) = split(input);
     let text = match (shown(name), revision.parse::<u64>()) {
         (Some(Some(resource)), Ok(rev)) => bookmark(alloc, resource, rev, closing)?,
         (Some(None), Ok(rev)) => meta_bookmark(alloc, rev, closing)?,
-        _ => return Ok(None),
+        _ => {
+            told.add(NO_INPUT);
+            return Ok(());
+        }
     };
-    text_of(alloc, text.as_slice())
+    tell_bytes(text.as_slice(), told);
+    Ok(())
 }
 
 /// That a page has more behind it, where its row says so: the token, and how many are left.
@@ -73,25 +75,33 @@ fn more_of(alloc: Global, rest: &str) -> Result<Option<More>, AllocError> {
     }
 }
 
-fn list(alloc: Global, input: &str) -> Answer {
+fn list(alloc: Global, input: &str, told: &mut Wording) -> Result<(), AllocError> {
     let (name, rest) = split(input);
     let (revision, rest) = split(rest);
     let more = more_of(alloc, rest)?;
-    let (mut front, back) = match (shown(name), revision.parse::<u64>()) {
+    let (front, back) = match (shown(name), revision.parse::<u64>()) {
         (Some(Some(resource)), Ok(rev)) => list_parts(alloc, resource, rev, more.as_ref())?,
         (Some(None), Ok(rev)) => meta_list_parts(alloc, rev, more.as_ref())?,
-        _ => return Ok(None),
+        _ => {
+            told.add(NO_INPUT);
+            return Ok(());
+        }
     };
-    front.extend_from_slice(b"..")?;
-    front.extend_from_slice(back.as_slice())?;
-    text_of(alloc, front.as_slice())
+    tell_pieces(&[front.as_slice(), b"..", back.as_slice()], told);
+    Ok(())
 }
 
-fn refusal(alloc: Global, input: &str, too_large: bool) -> Answer {
+fn refusal(
+    alloc: Global,
+    input: &str,
+    too_large: bool,
+    told: &mut Wording,
+) -> Result<(), AllocError> {
     let (code, rest) = split(input);
     let (reason, message) = split(rest);
     let Ok(code) = code.parse::<u16>() else {
-        return Ok(None);
+        told.add(NO_INPUT);
+        return Ok(());
     };
     let refusal = Refusal {
         code,
@@ -99,21 +109,21 @@ fn refusal(alloc: Global, input: &str, too_large: bool) -> Answer {
         message: Text::new(alloc, message)?,
         too_large,
     };
-    text_of(alloc, status(alloc, &refusal)?.as_slice())
+    tell_bytes(status(alloc, &refusal)?.as_slice(), told);
+    Ok(())
 }
 
-/// Pieces, one after the other.
-fn pieces(alloc: Global, pieces: &[&[u8]]) -> Answer {
-    let mut text = Vec::new(alloc);
-    for piece in pieces {
-        text.extend_from_slice(piece)?;
-    }
-    text_of(alloc, text.as_slice())
-}
-
-fn expired(alloc: Global, input: &str) -> Answer {
+fn expired(input: &str, told: &mut Wording) {
     let (asked, floor) = split(input);
-    pieces(alloc, &expired_pieces(asked.as_bytes(), floor.as_bytes()))
+    tell_pieces(&expired_pieces(asked.as_bytes(), floor.as_bytes()), told);
+}
+
+fn form_of(accept: &str) -> &'static str {
+    if wants_metadata(accept.as_bytes()) {
+        "metadata"
+    } else {
+        "whole"
+    }
 }
 
 fn event_type(name: &str) -> Option<EventType> {
@@ -128,9 +138,9 @@ fn event_type(name: &str) -> Option<EventType> {
 }
 
 /// A line of a watch around its object.
-fn line(alloc: Global, name: &str) -> Answer {
+fn line(name: &str, told: &mut Wording) {
     match event_type(name) {
-        Some(kind) => pieces(alloc, &[kind.front(), b"..", kind.back()]),
-        None => Ok(None),
+        Some(kind) => tell_pieces(&[kind.front(), b"..", kind.back()], told),
+        None => told.add(NO_INPUT),
     }
 }

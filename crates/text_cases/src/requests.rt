@@ -2,32 +2,36 @@
 
 ghost use Rattle.std.specs.Prelude.{◌<◌};
 
-use crate::samples::{Answer, words};
-use case_rows::split;
+use crate::samples::NO_INPUT;
+use case_rows::{Wording, split};
 use edge_io::MemSource;
 use http_read::{Reader, Req, ReqNo};
 use std::alloc::{AllocError, Global};
 
 /// Rows: `bytes BYTES`, all requests and the end; `faults COUNT BYTES`, how many requests come where the source fails
 /// at its call 0, 1, .. up to the count.
-pub fn answer(alloc: Global, input: &str) -> Answer {
+pub fn answer(alloc: Global, input: &str, told: &mut Wording) -> Result<(), AllocError> {
     let (what, text) = split(input);
     match what {
-        "bytes" => in_pieces(alloc, text),
-        "faults" => faults(alloc, text),
-        _ => Ok(None),
+        "bytes" => in_pieces(alloc, text, told),
+        "faults" => faults(alloc, text, told),
+        _ => {
+            told.add(NO_INPUT);
+            Ok(())
+        }
     }
 }
 
-fn in_pieces(alloc: Global, text: &str) -> Answer {
-    let whole = all(alloc, source(alloc, text, 65_536)?)?;
-    let by_bytes = all(alloc, source(alloc, text, 1)?)?;
-    let by_sevens = all(alloc, source(alloc, text, 7)?)?;
+fn in_pieces(alloc: Global, text: &str, told: &mut Wording) -> Result<(), AllocError> {
+    let whole = all(alloc, text, 65_536)?;
+    let by_bytes = all(alloc, text, 1)?;
+    let by_sevens = all(alloc, text, 7)?;
     if whole.as_str() == by_bytes.as_str() && whole.as_str() == by_sevens.as_str() {
-        Ok(Some(whole))
+        told.add(whole.as_str());
     } else {
-        words(alloc, "other pieces give another answer")
+        told.add("other pieces give another answer");
     }
+    Ok(())
 }
 
 fn source(alloc: Global, text: &str, step: usize) -> Result<MemSource, AllocError>
@@ -36,51 +40,68 @@ fn source(alloc: Global, text: &str, step: usize) -> Result<MemSource, AllocErro
     Ok(MemSource::new(text.as_bytes().to_vec(alloc)?, step, Vec::new(alloc)))
 }
 
-/// The requests of a source, and how they end.
-fn all(alloc: Global, mut source: MemSource) -> Result<String, AllocError> {
+/// The requests of a text that comes in pieces, and how they end.
+fn all(alloc: Global, text: &str, step: usize) -> Result<String, AllocError>
+    requires { 0 < step }
+{
+    let mut told = Wording::new(alloc);
+    tell_all(alloc, &mut source(alloc, text, step)?, &mut told)?;
+    told.whole()
+}
+
+fn tell_all(alloc: Global, source: &mut MemSource, told: &mut Wording) -> Result<(), AllocError> {
     let mut reader = Reader::new(alloc)?;
-    let mut text = String::new(alloc);
     for _ in 0..1_000u16 {
-        match reader.next_request(&mut source) {
-            Ok(Some(req)) => text.push_str(request(alloc, &req)?.as_str())?,
+        match reader.next_request(source) {
+            Ok(Some(req)) => tell_request(&req, told),
             Ok(None) => {
-                text.push_str("end")?;
-                return Ok(text);
+                told.add("end");
+                break;
             }
             Err(why) => {
-                text.push_str(format!(in alloc; "{why:?}")?.as_str())?;
-                return Ok(text);
+                told.debug(&why);
+                break;
             }
         }
     }
-    Ok(text)
+    Ok(())
 }
 
 /// The method, the segments, the body's length, and what else the head says; each request ends with a semicolon.
-fn request(alloc: Global, req: &Req) -> Result<String, AllocError> {
-    let mut text = format!(in alloc; "{}", req.method.as_str())?;
+fn tell_request(req: &Req, told: &mut Wording) {
+    told.add(req.method.as_str());
     for segment in req.path.as_slice() {
-        text.push_str(format!(in alloc; " [{}]", segment.as_str())?.as_str())?;
+        told.add(" [");
+        told.add(segment.as_str());
+        told.add("]");
     }
     let length = req.body.as_slice().len();
     if length != 0 {
-        text.push_str(format!(in alloc; " body {length}")?.as_str())?;
+        told.add(" body ");
+        told.show(&length);
     }
     if req.close {
-        text.push_str(" close")?;
+        told.add(" close");
     }
     if req.foreign {
-        text.push_str(" foreign")?;
+        told.add(" foreign");
     }
+    tell_fields(req, told);
+    told.add("; ");
+}
+
+/// What is accepted, and what a change to a WebSocket says.
+fn tell_fields(req: &Req, told: &mut Wording) {
     if let Some(accept) = &req.accept {
-        text.push_str(format!(in alloc; " accept {}", accept.as_str())?.as_str())?;
+        told.add(" accept ");
+        told.add(accept.as_str());
     }
     if let Some(upgrade) = &req.upgrade {
-        let (key, version) = (upgrade.key.as_str(), upgrade.version.as_str());
-        text.push_str(format!(in alloc; " upgrade key {key} version {version}")?.as_str())?;
+        told.add(" upgrade key ");
+        told.add(upgrade.key.as_str());
+        told.add(" version ");
+        told.add(upgrade.version.as_str());
     }
-    text.push_str("; ")?;
-    Ok(text)
 }
 
 /// How many requests come before the first refusal, where the source's call `at` fails. None where that refusal isn't
@@ -88,41 +109,47 @@ fn request(alloc: Global, req: &Req) -> Result<String, AllocError> {
 fn before_fault(alloc: Global, text: &str, at: u64) -> Result<Option<u32>, AllocError> {
     let mut source = MemSource::new(text.as_bytes().to_vec(alloc)?, 1, vec![in alloc; at]?);
     let mut reader = Reader::new(alloc)?;
-    let mut requests = 0u32;
-    for _ in 0..1_000u16 {
-        match reader.next_request(&mut source) {
-            Ok(Some(_)) => requests = requests.saturating_add(1),
-            Ok(None) => return Ok(None),
-            Err(ReqNo::ReadFault) => {
-                let again = reader.next_request(&mut source).err();
-                return Ok((again == Some(ReqNo::ReadFault)).then_some(requests));
-            }
-            Err(_) => return Ok(None),
-        }
-    }
-    Ok(None)
+    Ok(counted(&mut reader, &mut source))
 }
 
-fn faults(alloc: Global, input: &str) -> Answer {
+fn counted(reader: &mut Reader, source: &mut MemSource) -> Option<u32> {
+    let mut requests = 0u32;
+    for _ in 0..1_000u16 {
+        match reader.next_request(source) {
+            Ok(Some(_)) => requests = requests.saturating_add(1),
+            Err(ReqNo::ReadFault) => {
+                let again = reader.next_request(source).err();
+                return (again == Some(ReqNo::ReadFault)).then_some(requests);
+            }
+            Ok(None) | Err(_) => return None,
+        }
+    }
+    None
+}
+
+fn faults(alloc: Global, input: &str, told: &mut Wording) -> Result<(), AllocError> {
     let (count, text) = split(input);
     let Ok(count) = count.parse::<u32>() else {
-        return Ok(None);
+        told.add(NO_INPUT);
+        return Ok(());
     };
-    let mut found = String::new(alloc);
     let mut last = None;
     for at in 0..u64::from(count) {
         let requests = before_fault(alloc, text, at)?;
         if at == 0 || requests != last {
-            found.push_str(run_words(alloc, at, requests)?.as_str())?;
+            tell_run(at, requests, told);
             last = requests;
         }
     }
-    Ok(Some(found))
+    Ok(())
 }
 
-fn run_words(alloc: Global, at: u64, requests: Option<u32>) -> Result<String, AllocError> {
+fn tell_run(at: u64, requests: Option<u32>, told: &mut Wording) {
     match requests {
-        Some(requests) => format!(in alloc; "{requests} from call {at};"),
-        None => format!(in alloc; "no fault from call {at};"),
+        Some(requests) => told.show(&requests),
+        None => told.add("no fault"),
     }
+    told.add(" from call ");
+    told.show(&at);
+    told.add(";");
 }

@@ -3,17 +3,21 @@
 use kube_meta::{Fields, Key, Labels, Resource, Text};
 use std::alloc::{AllocError, Global};
 
-/// An answer in words; none where an input isn't written as it should be.
-pub type Answer = Result<Option<String>, AllocError>;
-
-/// These words as an answer.
-pub fn words(alloc: Global, text: &str) -> Answer {
-    Ok(Some(String::from_str(alloc, text)?))
-}
+/// What is answered to an input that its file's subject doesn't know.
+pub const NO_INPUT: &str = "(this row's input isn't written as its file's rows are)";
 
 /// `yes` or `no`.
-pub fn truth(alloc: Global, holds: bool) -> Answer {
-    words(alloc, if holds { "yes" } else { "no" })
+pub fn truth(holds: bool) -> &'static str {
+    if holds { "yes" } else { "no" }
+}
+
+/// Whether two values are the same, where their copies tell the same of each other.
+pub fn sameness(same: bool, copies_same: bool) -> &'static str {
+    if same == copies_same {
+        truth(same)
+    } else {
+        "a copy is another"
+    }
 }
 
 /// The resource with this name in paths.

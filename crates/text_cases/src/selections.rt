@@ -1,23 +1,24 @@
 //! Both selectors together, and what a change of an object is to them.
 
-use crate::samples::{Answer, fields, key, labels, truth, words};
-use case_rows::split;
-use kube_meta::{Obj, Resource, Text};
+use crate::samples::{NO_INPUT, key, labels, truth};
+use case_rows::{Wording, object, split};
+use kube_meta::{Key, Obj, Resource, Text};
 use select_all::Selection;
 use std::alloc::{AllocError, Global};
 
 /// Rows, of pods: `read LABELS | FIELDS`, `select NAMESPACE | LABELS | FIELDS | KEY | OBJECT'S LABELS`, `change
 /// LABELS | BEFORE | NOW` with the object's labels or `absent`, `same NAMESPACE | LABELS | FIELDS | NAMESPACE | ..`.
 /// The namespace `*` is all.
-pub fn answer(alloc: Global, input: &str) -> Answer {
+pub fn answer(alloc: Global, input: &str, told: &mut Wording) -> Result<(), AllocError> {
     let (what, text) = split(input);
     match what {
-        "read" => read(alloc, text),
-        "select" => select(alloc, text),
-        "change" => change(alloc, text),
-        "same" => same(alloc, text),
-        _ => Ok(None),
+        "read" => read(alloc, text, told),
+        "select" => select(alloc, text, told)?,
+        "change" => change(alloc, text, told)?,
+        "same" => same(alloc, text, told)?,
+        _ => told.add(NO_INPUT),
     }
+    Ok(())
 }
 
 /// The next part of a row.
@@ -43,39 +44,36 @@ fn selection(alloc: Global, rest: &mut &str) -> Result<Option<Selection>, AllocE
 
 /// A pod with a key and labels.
 fn pod(alloc: Global, name: &str, pairs: &str) -> Result<Option<Obj>, AllocError> {
-    let Some(key) = key(alloc, name)? else {
-        return Ok(None);
-    };
-    Ok(Some(Obj {
-        key,
-        labels: labels(alloc, pairs)?,
-        fields: fields(alloc, "")?,
-        front: Text::new(alloc, "")?,
-        back: Text::new(alloc, "")?,
-        meta_from: 0,
-        meta_to: 0,
-    }))
-}
-
-fn read(alloc: Global, input: &str) -> Answer {
-    let (label, field) = input.split_once(" | ").unwrap_or((input, ""));
-    match Selection::read(alloc, Resource::Pods, None, label, field) {
-        Ok(_) => words(alloc, "a selection"),
-        Err(fault) => Ok(Some(format!(in alloc; "{fault:?}")?)),
+    match key(alloc, name)? {
+        Some(key) => Ok(Some(labelled(alloc, key, pairs)?)),
+        None => Ok(None),
     }
 }
 
-fn select(alloc: Global, input: &str) -> Answer {
+fn labelled(alloc: Global, key: Key, pairs: &str) -> Result<Obj, AllocError> {
+    let mut pod = object(alloc, key)?;
+    pod.labels = labels(alloc, pairs)?;
+    Ok(pod)
+}
+
+fn read(alloc: Global, input: &str, told: &mut Wording) {
+    let (label, field) = input.split_once(" | ").unwrap_or((input, ""));
+    match Selection::read(alloc, Resource::Pods, None, label, field) {
+        Ok(_) => told.add("a selection"),
+        Err(fault) => told.debug(&fault),
+    }
+}
+
+fn select(alloc: Global, input: &str, told: &mut Wording) -> Result<(), AllocError> {
     let mut rest = input;
     let chosen = selection(alloc, &mut rest)?;
     let name = part(&mut rest);
-    let Some(chosen) = chosen else {
-        return Ok(None);
-    };
-    match pod(alloc, name, rest)? {
-        Some(pod) => truth(alloc, chosen.selects(&pod)),
-        None => Ok(None),
+    let pod = pod(alloc, name, rest)?;
+    match (&chosen, &pod) {
+        (Some(chosen), Some(pod)) => told.add(truth(chosen.selects(pod))),
+        _ => told.add(NO_INPUT),
     }
+    Ok(())
 }
 
 /// A pod with these labels, or none where it is absent.
@@ -87,32 +85,45 @@ fn state(alloc: Global, pairs: &str) -> Result<Option<Obj>, AllocError> {
     }
 }
 
-fn change(alloc: Global, input: &str) -> Answer {
+fn change(alloc: Global, input: &str, told: &mut Wording) -> Result<(), AllocError> {
     let mut rest = input;
     let label = part(&mut rest);
     let before = state(alloc, part(&mut rest))?;
     let now = state(alloc, rest)?;
     match Selection::read(alloc, Resource::Pods, None, label, "") {
-        Ok(chosen) => match chosen.passes(before.as_ref(), now.as_ref()) {
-            Some(kind) => Ok(Some(format!(in alloc; "{kind:?}")?)),
-            None => words(alloc, "nothing"),
-        },
-        Err(_) => Ok(None),
+        Ok(chosen) => tell_change(&chosen, before.as_ref(), now.as_ref(), told),
+        Err(_) => told.add(NO_INPUT),
+    }
+    Ok(())
+}
+
+fn tell_change(chosen: &Selection, before: Option<&Obj>, now: Option<&Obj>, told: &mut Wording) {
+    match chosen.passes(before, now) {
+        Some(kind) => told.debug(&kind),
+        None => told.add("nothing"),
     }
 }
 
-fn same(alloc: Global, input: &str) -> Answer {
+fn same(alloc: Global, input: &str, told: &mut Wording) -> Result<(), AllocError> {
     let mut rest = input;
     let one = selection(alloc, &mut rest)?;
     let other = selection(alloc, &mut rest)?;
-    let Some(one) = one else {
-        return Ok(None);
-    };
-    match other {
-        Some(other) => {
-            let copy = other.copy(alloc)?;
-            truth(alloc, one.same(&other) && one.same(&copy))
+    match (&one, &other) {
+        (Some(one), Some(other)) => compare(alloc, one, other, told),
+        _ => {
+            told.add(NO_INPUT);
+            Ok(())
         }
-        None => Ok(None),
     }
+}
+
+fn compare(
+    alloc: Global,
+    one: &Selection,
+    other: &Selection,
+    told: &mut Wording,
+) -> Result<(), AllocError> {
+    let copy = other.copy(alloc)?;
+    told.add(truth(one.same(other) && one.same(&copy)));
+    Ok(())
 }

@@ -1,35 +1,42 @@
 //! The options of watches.
 
-use crate::samples::Answer;
+use crate::samples::NO_INPUT;
+use case_rows::Wording;
 use http_read::Params;
 use kube_meta::Resource;
 use select_all::Selection;
 use std::alloc::{AllocError, Global};
-use watch_rules::{WatchAsk, plan};
+use watch_rules::{WatchAsk, WatchNo, plan};
 
 /// Rows: the query of a watch of all pods.
-pub fn answer(alloc: Global, query: &str) -> Answer {
+pub fn answer(alloc: Global, query: &str, told: &mut Wording) -> Result<(), AllocError> {
     let params = Params::read(alloc, query)?;
-    let Ok(selection) = Selection::read(alloc, Resource::Pods, None, "", "") else {
-        return Ok(None);
-    };
-    Ok(Some(match WatchAsk::from_params(selection, &params) {
-        Ok(ask) => ask_words(alloc, &ask)?,
-        Err(fault) => format!(in alloc; "{fault:?}")?,
-    }))
+    match Selection::read(alloc, Resource::Pods, None, "", "") {
+        Ok(selection) => tell_read(&WatchAsk::from_params(selection, &params), told),
+        Err(_) => told.add(NO_INPUT),
+    }
+    Ok(())
+}
+
+fn tell_read(read: &Result<WatchAsk, WatchNo>, told: &mut Wording) {
+    match read {
+        Ok(ask) => tell_ask(ask, told),
+        Err(fault) => told.debug(fault),
+    }
 }
 
 /// The start, and then what else was asked for.
-fn ask_words(alloc: Global, ask: &WatchAsk) -> Result<String, AllocError> {
-    let mut text = format!(in alloc; "{:?}", plan(ask))?;
+fn tell_ask(ask: &WatchAsk, told: &mut Wording) {
+    told.debug(&plan(ask));
     if ask.closing {
-        text.push_str(" closing")?;
+        told.add(" closing");
     }
     if ask.bookmarks {
-        text.push_str(" bookmarks")?;
+        told.add(" bookmarks");
     }
     if ask.timeout_s != 0 {
-        text.push_str(format!(in alloc; " {} s", ask.timeout_s)?.as_str())?;
+        told.add(" ");
+        told.show(&ask.timeout_s);
+        told.add(" s");
     }
-    Ok(text)
 }

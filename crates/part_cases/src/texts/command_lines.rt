@@ -1,8 +1,9 @@
 //! What command lines ask for.
 
-use command_line::{Asked, LoadOptions, ServeOptions, WordsNo, read_words};
+use case_rows::Wording;
+use command_line::{Asked, ServeOptions, WordsNo, read_words};
 use std::alloc::{AllocError, Global};
-use text_cases::{Answer, words};
+use std::fmt::Display;
 use up_api::Settings;
 
 /// Rows: the words of a command line behind the program's name, with a blank between two; none where the row is empty.
@@ -10,16 +11,30 @@ use up_api::Settings;
 /// `--batch`, `--history`, `--bookmark-ms` and `--timeout-s`; a server with `--port`, `--workers`, `--open` and
 /// `--connections`, then these, and `--peer` where it is given; a load with `--from` and `--requests`. A check has no
 /// options.
-pub fn answer(alloc: Global, input: &str) -> Answer {
+pub fn answer(alloc: Global, input: &str, told: &mut Wording) -> Result<(), AllocError> {
     match read_words(alloc, &split(alloc, input)?) {
-        Ok(Asked::Help) => words(alloc, "help"),
-        Ok(Asked::Version) => words(alloc, "version"),
-        Ok(Asked::Session(settings)) => Ok(Some(session(alloc, &settings)?)),
-        Ok(Asked::Serve(options)) => Ok(Some(serve(alloc, &options)?)),
-        Ok(Asked::Load(options)) => Ok(Some(load(alloc, options)?)),
-        Ok(Asked::Check) => words(alloc, "check"),
-        Err(WordsNo::Bad) => words(alloc, "bad"),
-        Err(WordsNo::Memory) => Err(AllocError),
+        Ok(asked) => tell_asked(&asked, told),
+        Err(WordsNo::Bad) => told.add("bad"),
+        Err(WordsNo::Memory) => return Err(AllocError),
+    }
+    Ok(())
+}
+
+fn tell_asked(asked: &Asked, told: &mut Wording) {
+    match asked {
+        Asked::Help => told.add("help"),
+        Asked::Version => told.add("version"),
+        Asked::Session(settings) => {
+            told.add("session");
+            tell_settings(settings, told);
+        }
+        Asked::Serve(options) => tell_server(options, told),
+        Asked::Load(options) => {
+            told.add("load");
+            tell_next(&options.from, told);
+            tell_next(&options.requests, told);
+        }
+        Asked::Check => told.add("check"),
     }
 }
 
@@ -33,35 +48,32 @@ fn split(alloc: Global, line: &str) -> Result<Vec<String>, AllocError> {
     Ok(list)
 }
 
-fn session(alloc: Global, settings: &Settings) -> Result<String, AllocError> {
-    let told = settings_text(alloc, settings)?;
-    format!(in alloc; "session {}", told.as_str())
+/// A value behind a blank.
+fn tell_next<D: Display>(value: &D, told: &mut Wording) {
+    told.add(" ");
+    told.show(value);
 }
 
-fn serve(alloc: Global, options: &ServeOptions) -> Result<String, AllocError> {
-    let told = settings_text(alloc, &options.settings)?;
-    let (port, workers) = (options.port, options.workers);
-    let own = format!(in alloc;
-        "serve {} {} {} {} {}",
-        port,
-        workers,
-        options.open,
-        options.connections,
-        told.as_str()
-    )?;
-    match options.peer {
-        Some(peer) => format!(in alloc; "{} peer {}", own.as_str(), peer),
-        None => Ok(own),
+fn tell_server(options: &ServeOptions, told: &mut Wording) {
+    told.add("serve");
+    tell_next(&options.port, told);
+    tell_next(&options.workers, told);
+    tell_next(&options.open, told);
+    tell_next(&options.connections, told);
+    tell_settings(&options.settings, told);
+    if let Some(peer) = options.peer {
+        told.add(" peer");
+        tell_next(&peer, told);
     }
 }
 
-fn settings_text(alloc: Global, set: &Settings) -> Result<String, AllocError> {
-    let kept = format!(in alloc; "{} {} {}", set.window, set.window_max, set.fresh_ms)?;
-    let turns = format!(in alloc; "{} {} {}", set.lane, set.batch, set.history)?;
-    let watches = format!(in alloc; "{} {}", set.bookmark_ms, set.timeout_s)?;
-    format!(in alloc; "{} {} {}", kept.as_str(), turns.as_str(), watches.as_str())
-}
-
-fn load(alloc: Global, options: LoadOptions) -> Result<String, AllocError> {
-    format!(in alloc; "load {} {}", options.from, options.requests)
+fn tell_settings(set: &Settings, told: &mut Wording) {
+    tell_next(&set.window, told);
+    tell_next(&set.window_max, told);
+    tell_next(&set.fresh_ms, told);
+    tell_next(&set.lane, told);
+    tell_next(&set.batch, told);
+    tell_next(&set.history, told);
+    tell_next(&set.bookmark_ms, told);
+    tell_next(&set.timeout_s, told);
 }

@@ -5,61 +5,80 @@ use api_errors::{
     Failure, already_exists, bad_upgrade, conflict, expired, not_found, operation_told, read_only,
     request_told, route_told, too_large, used_up, write_told,
 };
-use case_rows::split;
+use case_rows::{Wording, split};
 use edge_io::MemSource;
-use http_read::Reader;
+use http_read::{Reader, ReqNo};
 use kube_meta::Resource;
 use std::alloc::{AllocError, Global};
-use text_cases::{Answer, resource, words};
+use text_cases::{NO_INPUT, resource};
 use up_store::{OpNo, WriteNo};
 
 /// Rows: `route METHOD TARGET` and `route METHOD TARGET | BODY`, by the route's refusal; `request BYTES`, by the
 /// reader's; and by name `exists RESOURCE NAME`, `absent RESOURCE NAME`, `stale RESOURCE NAME`, which stands at 3 and
 /// was given as 2, `write RESOURCE NAME`, the same as a write's refusal, `expired`, `too-large`, `used-up`,
 /// `read-only`, `bad-upgrade`, `cut`.
-pub fn answer(alloc: Global, input: &str) -> Answer {
+pub fn answer(alloc: Global, input: &str, told: &mut Wording) -> Result<(), AllocError> {
     let (what, text) = split(input);
     match what {
-        "route" => route(alloc, text),
-        "request" => request(alloc, text),
-        "exists" | "absent" | "stale" | "write" => object(alloc, what, text),
-        _ => named(alloc, what),
+        "route" => route(alloc, text, told),
+        "request" => request(alloc, text, told),
+        "exists" | "absent" | "stale" | "write" => object(alloc, what, text, told),
+        _ => named(alloc, what, told),
     }
 }
 
 /// The code, the reason and the message.
-fn told_words(alloc: Global, told: Option<Failure>) -> Answer {
-    let Some(told) = told else {
-        return words(alloc, "nothing is told");
+fn tell(alloc: Global, failure: Option<Failure>, told: &mut Wording) -> Result<(), AllocError> {
+    let Some(failure) = failure else {
+        told.add("nothing is told");
+        return Ok(());
     };
-    let refusal = told.into_refusal(alloc)?;
-    let again = if refusal.too_large { " again" } else { "" };
-    let (reason, message) = (refusal.reason.as_str(), refusal.message.as_str());
-    Ok(Some(format!(in alloc; "{}{again} {reason}: {message}", refusal.code)?))
+    let refusal = failure.into_refusal(alloc)?;
+    told.show(&refusal.code);
+    if refusal.too_large {
+        told.add(" again");
+    }
+    told.add(" ");
+    told.add(refusal.reason.as_str());
+    told.add(": ");
+    told.add(refusal.message.as_str());
+    Ok(())
 }
 
-fn route(alloc: Global, input: &str) -> Answer {
+fn route(alloc: Global, input: &str, told: &mut Wording) -> Result<(), AllocError> {
     match routes::routed(alloc, input)? {
-        Some(Err(fault)) => told_words(alloc, route_told(alloc, fault)?),
-        Some(Ok(_)) => words(alloc, "a route"),
-        None => Ok(None),
+        Some(Err(fault)) => return tell(alloc, route_told(alloc, fault)?, told),
+        Some(Ok(_)) => told.add("a route"),
+        None => told.add(NO_INPUT),
+    }
+    Ok(())
+}
+
+fn request(alloc: Global, bytes: &str, told: &mut Wording) -> Result<(), AllocError> {
+    match refused(alloc, bytes)? {
+        Some(fault) => tell(alloc, request_told(alloc, fault)?, told),
+        None => {
+            told.add("no refusal");
+            Ok(())
+        }
     }
 }
 
-fn request(alloc: Global, bytes: &str) -> Answer {
+/// Why the first request is refused, if it is.
+fn refused(alloc: Global, bytes: &str) -> Result<Option<ReqNo>, AllocError> {
     let mut source = MemSource::new(bytes.as_bytes().to_vec(alloc)?, 65_536, Vec::new(alloc));
     let mut reader = Reader::new(alloc)?;
-    match reader.next_request(&mut source) {
-        Ok(_) => words(alloc, "no refusal"),
-        Err(fault) => told_words(alloc, request_told(alloc, fault)?),
-    }
+    Ok(reader.next_request(&mut source).err())
 }
 
-fn object(alloc: Global, what: &str, text: &str) -> Answer {
+fn object(alloc: Global, what: &str, text: &str, told: &mut Wording) -> Result<(), AllocError> {
     let (plural, name) = split(text);
     match resource(plural) {
-        Some(resource) => told_words(alloc, of_object(alloc, what, resource, name)?),
-        None => Ok(None),
+        Some(resource) => tell(alloc, of_object(alloc, what, resource, name)?, told),
+        None => {
+            told.add(NO_INPUT);
+            Ok(())
+        }
     }
 }
 
@@ -82,15 +101,18 @@ fn of_object(
     }
 }
 
-fn named(alloc: Global, what: &str) -> Answer {
-    let told = match what {
+fn named(alloc: Global, what: &str, told: &mut Wording) -> Result<(), AllocError> {
+    let failure = match what {
         "expired" => Some(expired(alloc, 3, 4)?),
         "too-large" => Some(too_large(alloc, 99, 5)?),
         "used-up" => Some(used_up(alloc)?),
         "read-only" => Some(read_only(alloc)?),
         "bad-upgrade" => Some(bad_upgrade(alloc)?),
         "cut" => operation_told(alloc, OpNo::UsedUp { at: 4 })?,
-        _ => return Ok(None),
+        _ => {
+            told.add(NO_INPUT);
+            return Ok(());
+        }
     };
-    told_words(alloc, told)
+    tell(alloc, failure, told)
 }

@@ -1,33 +1,35 @@
 //! What is answered to a step.
 
 use crate::hub::scene::{Scene, Stage, Watch};
-use crate::hub::texts::{lines_text, rows_text};
-use crate::store::calls::operated;
+use crate::hub::texts::{tell_lines, tell_rows};
+use crate::store::calls::tell_operated;
 use crate::store::writes::{write_of, writes_of};
-use case_rows::{Steps, number, split};
+use case_rows::{NO_STEP, Steps, Wording, number, split};
 use kube_meta::{Memory, Resource};
 use select_all::Selection;
 use std::alloc::Global;
-use step_cases::{NO_STEP, words};
 use up_api::LogFacts;
 use up_store::Transaction;
 
 impl<N: LogFacts> Steps for Stage<N> {
-    fn answer(&mut self, alloc: Global, step: &str) -> Result<String, Memory> {
+    fn answer(&mut self, alloc: Global, step: &str, told: &mut Wording) -> Result<(), Memory> {
         let (verb, rest) = split(step);
         match verb {
-            "create" | "replace" | "remove" => write(alloc, &mut self.scene, step),
-            "transact" => transact(alloc, &mut self.scene, rest),
-            "cut" => operated(alloc, self.scene.cut()),
-            "compact" => operated(alloc, self.scene.compact(number(rest))),
-            "floor" | "end" | "at" => look(alloc, &mut self.scene, verb, number(rest)),
-            "pump" => pump(alloc, &mut self.scene, number(rest)),
+            "create" | "replace" | "remove" => write(alloc, &mut self.scene, step, told)?,
+            "transact" => transact(alloc, &mut self.scene, rest, told)?,
+            "cut" => tell_operated(&self.scene.cut(), told),
+            "compact" => tell_operated(&self.scene.compact(number(rest)), told),
+            "floor" => told.show(&self.scene.hub.floor()),
+            "end" => told.show(&self.scene.hub.end()),
+            "at" => state(&self.scene, number(rest), told),
+            "pump" => pump(&mut self.scene, number(rest), told)?,
             "tick" => {
                 self.scene.tick(number(rest));
-                words(alloc, "ok")
+                told.add("ok");
             }
-            _ => watching(alloc, self, verb, rest),
+            _ => watching(alloc, self, verb, rest, told)?,
         }
+        Ok(())
     }
 }
 
@@ -37,71 +39,80 @@ fn watching<N: LogFacts>(
     stage: &mut Stage<N>,
     verb: &str,
     rest: &str,
-) -> Result<String, Memory> {
+    told: &mut Wording,
+) -> Result<(), Memory> {
     let (first, second) = split(rest);
     match verb {
-        "open" => open(alloc, stage, number(first), second),
-        "take" => take(alloc, stage, number(first)),
-        "catch" => catch(alloc, stage, number(first), number(second)),
-        "close" => close(alloc, stage, number(first)),
-        _ => words(alloc, NO_STEP),
+        "open" => open(alloc, stage, number(first), second, told)?,
+        "take" => take(stage, number(first), told),
+        "catch" => catch(stage, number(first), number(second), told),
+        "close" => close(stage, number(first), told),
+        _ => told.add(NO_STEP),
     }
+    Ok(())
 }
 
-fn write<N: LogFacts>(alloc: Global, scene: &mut Scene<N>, text: &str) -> Result<String, Memory> {
+fn write<N: LogFacts>(
+    alloc: Global,
+    scene: &mut Scene<N>,
+    text: &str,
+    told: &mut Wording,
+) -> Result<(), Memory> {
     let Some(ask) = write_of(alloc, text)? else {
-        return words(alloc, "no write");
+        told.add("no write");
+        return Ok(());
     };
     match scene.write(&ask) {
-        Ok(written) => Ok(format!(in alloc; "{}", written.rev)?),
-        Err(no) => Ok(format!(in alloc; "{no:?}")?),
+        Ok(written) => told.show(&written.rev),
+        Err(no) => told.debug(&no),
     }
+    Ok(())
 }
 
 fn transact<N: LogFacts>(
     alloc: Global,
     scene: &mut Scene<N>,
     text: &str,
-) -> Result<String, Memory> {
-    let transaction = match Transaction::new(writes_of(alloc, text)?) {
-        Ok(transaction) => transaction,
-        Err(no) => return Ok(format!(in alloc; "{no:?}")?),
-    };
-    match scene.transact(&transaction) {
-        Ok(_) => Ok(format!(in alloc; "{}", scene.told.shown())?),
-        Err(no) => Ok(format!(in alloc; "{no:?}")?),
+    told: &mut Wording,
+) -> Result<(), Memory> {
+    match Transaction::new(writes_of(alloc, text)?) {
+        Ok(transaction) => tell_transacted(scene, &transaction, told),
+        Err(no) => told.debug(&no),
     }
+    Ok(())
 }
 
-fn look<N: LogFacts>(
-    alloc: Global,
+fn tell_transacted<N: LogFacts>(
     scene: &mut Scene<N>,
-    verb: &str,
-    at: u64,
-) -> Result<String, Memory> {
-    match verb {
-        "floor" => Ok(format!(in alloc; "{}", scene.hub.floor())?),
-        "end" => Ok(format!(in alloc; "{}", scene.hub.end())?),
-        _ => state(alloc, scene, at),
+    transaction: &Transaction,
+    told: &mut Wording,
+) {
+    match scene.transact(transaction) {
+        Ok(_) => told.show(&scene.told.shown()),
+        Err(no) => told.debug(&no),
     }
 }
 
-fn state<N: LogFacts>(alloc: Global, scene: &mut Scene<N>, at: u64) -> Result<String, Memory> {
+fn state<N: LogFacts>(scene: &Scene<N>, at: u64, told: &mut Wording) {
     if at > scene.hub.end() {
-        return words(alloc, "above the end");
+        told.add("above the end");
+        return;
     }
     match scene.hub.at(at) {
-        Ok(snapshot) => rows_text(alloc, &snapshot),
-        Err(no) => Ok(format!(in alloc; "{no:?}")?),
+        Ok(snapshot) => tell_rows(&snapshot, told),
+        Err(no) => told.debug(&no),
     }
 }
 
-fn pump<N: LogFacts>(alloc: Global, scene: &mut Scene<N>, until: u64) -> Result<String, Memory> {
+fn pump<N: LogFacts>(scene: &mut Scene<N>, until: u64, told: &mut Wording) -> Result<(), Memory> {
     let pumped = scene.pump(until)?;
-    Ok(format!(in alloc;
-        "end {}, cuts {}, rebuilds {}",
-        pumped.end, pumped.cuts, pumped.rebuilds
-    )?)
+    told.add("end ");
+    told.show(&pumped.end);
+    told.add(", cuts ");
+    told.show(&pumped.cuts);
+    told.add(", rebuilds ");
+    told.show(&pumped.rebuilds);
+    Ok(())
 }
 
 fn open<N: LogFacts>(
@@ -109,44 +120,49 @@ fn open<N: LogFacts>(
     stage: &mut Stage<N>,
     position: u64,
     fields: &str,
-) -> Result<String, Memory> {
+    told: &mut Wording,
+) -> Result<(), Memory> {
     let Ok(selection) = Selection::read(alloc, Resource::Pods, None, "", fields) else {
-        return words(alloc, "no selection");
+        told.add("no selection");
+        return Ok(());
     };
     let (id, lane) = stage.scene.open(&selection, position)?;
-    let number = stage.watches.len();
+    told.add("watch ");
+    told.show(&stage.watches.len());
     stage.watches.push(Watch {
         id,
         lane,
         selection,
         position,
     })?;
-    Ok(format!(in alloc; "watch {number}")?)
+    Ok(())
 }
 
-fn take<N: LogFacts>(alloc: Global, stage: &mut Stage<N>, number: u64) -> Result<String, Memory> {
+fn take<N: LogFacts>(stage: &mut Stage<N>, number: u64, told: &mut Wording) {
     let Some(watch) = stage.watches.get_mut(number as usize) else {
-        return words(alloc, "no such watch");
+        told.add("no such watch");
+        return;
     };
     let Some(batch) = watch.lane.ready() else {
-        return words(alloc, "nothing");
+        told.add("nothing");
+        return;
     };
-    let text = lines_text(alloc, &batch.lines)?;
     if batch.from != watch.position || !batch.selection.same(&watch.selection) {
-        return Ok(format!(in alloc; "dropped {} to {}: {text}", batch.from, batch.to)?);
+        told.add("dropped ");
+    } else {
+        watch.position = batch.to;
     }
-    watch.position = batch.to;
-    Ok(format!(in alloc; "{} to {}: {text}", batch.from, batch.to)?)
+    told.show(&batch.from);
+    told.add(" to ");
+    told.show(&batch.to);
+    told.add(": ");
+    tell_lines(&batch.lines, told);
 }
 
-fn catch<N: LogFacts>(
-    alloc: Global,
-    stage: &mut Stage<N>,
-    number: u64,
-    many: u64,
-) -> Result<String, Memory> {
+fn catch<N: LogFacts>(stage: &mut Stage<N>, number: u64, many: u64, told: &mut Wording) {
     let Some(watch) = stage.watches.get_mut(number as usize) else {
-        return words(alloc, "no such watch");
+        told.add("no such watch");
+        return;
     };
     let many = many.clamp(1, 10000) as usize;
     match stage
@@ -155,17 +171,20 @@ fn catch<N: LogFacts>(
     {
         Ok(caught) => {
             watch.position = caught.upto;
-            let text = lines_text(alloc, &caught.lines)?;
-            Ok(format!(in alloc; "up to {}: {text}", caught.upto)?)
+            told.add("up to ");
+            told.show(&caught.upto);
+            told.add(": ");
+            tell_lines(&caught.lines, told);
         }
-        Err(no) => Ok(format!(in alloc; "{no:?}")?),
+        Err(no) => told.debug(&no),
     }
 }
 
-fn close<N: LogFacts>(alloc: Global, stage: &mut Stage<N>, number: u64) -> Result<String, Memory> {
+fn close<N: LogFacts>(stage: &mut Stage<N>, number: u64, told: &mut Wording) {
     let Some(watch) = stage.watches.get(number as usize) else {
-        return words(alloc, "no such watch");
+        told.add("no such watch");
+        return;
     };
     stage.scene.close(watch.id);
-    words(alloc, "ok")
+    told.add("ok");
 }

@@ -1,31 +1,29 @@
 //! Answers in words.
 
-use case_rows::row_text;
-use kube_meta::Memory;
+use case_rows::{Wording, tell_row};
 use obj_tree::Snapshot;
-use std::alloc::Global;
-use step_cases::words;
 use watch_lane::Line;
 
 /// Each line as `[Added p-1 2]`.
-pub fn lines_text(alloc: Global, lines: &[Line]) -> Result<String, Memory> {
+pub fn tell_lines(lines: &[Line], told: &mut Wording) {
     if lines.is_empty() {
-        return words(alloc, "nothing");
+        told.add("nothing");
     }
-    let mut text = String::new(alloc);
     for line in lines {
         let row = line.shown.row();
-        let (kind, name) = (line.kind, row.obj.key.name());
-        text.push_str(format!(in alloc; "[{kind:?} {name} {}]", row.rev)?.as_str())?;
+        told.add("[");
+        told.debug(&line.kind);
+        told.add(" ");
+        told.add(row.obj.key.name());
+        told.add(" ");
+        told.show(&row.rev);
+        told.add("]");
     }
-    Ok(text)
 }
 
 /// Each row of a state as `[p-1 2]`.
-pub fn rows_text(alloc: Global, snapshot: &Snapshot) -> Result<String, Memory> {
-    let mut text = String::new(alloc);
+pub fn tell_rows(snapshot: &Snapshot, told: &mut Wording) {
     for shown in snapshot.range(None) {
-        text.push_str(row_text(alloc, shown.row())?.as_str())?;
+        tell_row(shown.row(), told);
     }
-    Ok(text)
 }

@@ -5,12 +5,11 @@ ghost use Rattle.std.specs.Prelude.{◌≡◌, true};
 use crate::store::opening::LAST;
 use crate::store::served::Served;
 use crate::store::writes::{unchanged, write_of, writes_of, written};
-use case_rows::{Steps, number, row_text, split};
+use case_rows::{NO_STEP, Steps, Wording, number, split, tell_row};
 use kube_meta::{Memory, Resource, Row};
 use rev_log::Revision;
 use std::alloc::Global;
-use step_cases::{NO_STEP, words};
-use up_api::{Feed, LogFacts, Pass};
+use up_api::{Feed, History, LogFacts, Pass};
 use up_store::{OpNo, ScriptedStore, Store, Transaction, TxWriteNo, Written};
 
 /// A store, or a door to one, a pass of it, and a feed that was begun.
@@ -22,20 +21,23 @@ pub struct Client<N: LogFacts, U: Served<N>> {
 }
 
 impl<N: LogFacts, U: Served<N>> Steps for Client<N, U> {
-    fn answer(&mut self, alloc: Global, step: &str) -> Result<String, Memory> {
+    fn answer(&mut self, alloc: Global, step: &str, told: &mut Wording) -> Result<(), Memory> {
         let (word, rest) = split(step);
         match word {
-            "create" | "replace" | "remove" => write(alloc, self, step),
-            "transact" => transact(alloc, self, rest),
-            "list" => list(alloc, self, number(rest)),
-            "begin" => begin(alloc, self, number(rest)),
-            "poll" => poll(alloc, self, number(rest) as usize),
-            "history" => history(alloc, self),
-            "cut" => operated(alloc, self.served.drop_feeds(&mut self.told)),
-            "compact" => operated(alloc, self.served.compact(number(rest), &mut self.told)),
-            "hear" => words(alloc, "no mirror"),
-            _ => words(alloc, NO_STEP),
+            "create" | "replace" | "remove" => write(alloc, self, step, told)?,
+            "transact" => transact(alloc, self, rest, told)?,
+            "list" => list(self, number(rest), told),
+            "begin" => begin(self, number(rest), told),
+            "poll" => poll(self, number(rest) as usize, told),
+            "history" => history(self, told)?,
+            "cut" => tell_operated(&self.served.drop_feeds(&mut self.told), told),
+            "compact" => {
+                tell_operated(&self.served.compact(number(rest), &mut self.told), told);
+            }
+            "hear" => told.add("no mirror"),
+            _ => told.add(NO_STEP),
         }
+        Ok(())
     }
 }
 
@@ -48,12 +50,12 @@ pub struct Doors<N: LogFacts, U: Served<N>> {
 }
 
 impl<N: LogFacts, U: Served<N>> Steps for Doors<N, U> {
-    fn answer(&mut self, alloc: Global, step: &str) -> Result<String, Memory> {
+    fn answer(&mut self, alloc: Global, step: &str, told: &mut Wording) -> Result<(), Memory> {
         self.is_second = !self.is_second;
         if self.is_second {
-            self.second.answer(alloc, step)
+            self.second.answer(alloc, step, told)
         } else {
-            self.first.answer(alloc, step)
+            self.first.answer(alloc, step, told)
         }
     }
 }
@@ -66,12 +68,12 @@ pub struct Mirror<N: LogFacts> {
 }
 
 impl<N: LogFacts> Steps for Mirror<N> {
-    fn answer(&mut self, alloc: Global, step: &str) -> Result<String, Memory> {
+    fn answer(&mut self, alloc: Global, step: &str, told: &mut Wording) -> Result<(), Memory> {
         let Some(heard) = step.strip_prefix("hear ") else {
-            return self.client.answer(alloc, step);
+            return self.client.answer(alloc, step, told);
         };
         let client = &mut self.client;
-        hear(alloc, client.served.store(), &mut client.told, heard)
+        hear(alloc, client.served.store(), &mut client.told, heard, told)
     }
 }
 
@@ -79,9 +81,10 @@ impl<N: LogFacts> Steps for Mirror<N> {
 fn hear<N: LogFacts>(
     alloc: Global,
     store: &mut Store<N>,
-    told: &mut Pass<N>,
+    pass: &mut Pass<N>,
     text: &str,
-) -> Result<String, Memory>
+    told: &mut Wording,
+) -> Result<(), Memory>
     requires { N.mirror ≡ true }
 {
     let (rev, name) = split(text);
@@ -91,151 +94,159 @@ fn hear<N: LogFacts>(
     } else {
         written(alloc, rev, name)?
     };
-    let line = match store.hear_next(revision, told) {
-        Ok(rev) => format!(in alloc; "{rev}")?,
-        Err(no) => format!(in alloc; "{no:?}")?,
-    };
-    with_floor(alloc, line.as_str(), told.floor())
+    match store.hear_next(revision, pass) {
+        Ok(rev) => told.show(&rev),
+        Err(no) => told.debug(&no),
+    }
+    tell_floor(pass.floor(), told);
+    Ok(())
 }
 
-fn with_floor(alloc: Global, line: &str, floor: u64) -> Result<String, Memory> {
-    Ok(format!(in alloc; "{line}; floor {floor}")?)
+fn tell_floor(floor: u64, told: &mut Wording) {
+    told.add("; floor ");
+    told.show(&floor);
 }
 
 fn write<N: LogFacts, U: Served<N>>(
     alloc: Global,
     client: &mut Client<N, U>,
     text: &str,
-) -> Result<String, Memory> {
+    told: &mut Wording,
+) -> Result<(), Memory> {
     let Some(ask) = write_of(alloc, text)? else {
-        return words(alloc, "no write");
+        told.add("no write");
+        return Ok(());
     };
-    let line = match client.served.write(&ask, &mut client.told) {
-        Ok(written) => written_text(alloc, &written)?,
-        Err(no) => format!(in alloc; "{no:?}")?,
-    };
-    with_floor(alloc, line.as_str(), client.told.floor())
+    match client.served.write(&ask, &mut client.told) {
+        Ok(written) => tell_written(&written, told),
+        Err(no) => told.debug(&no),
+    }
+    tell_floor(client.told.floor(), told);
+    Ok(())
 }
 
 fn transact<N: LogFacts, U: Served<N>>(
     alloc: Global,
     client: &mut Client<N, U>,
     text: &str,
-) -> Result<String, Memory> {
-    let ask = match Transaction::new(writes_of(alloc, text)?) {
-        Ok(ask) => ask,
-        Err(no) => return Ok(format!(in alloc; "{no:?}")?),
-    };
-    let answered = client.served.transact(&ask, &mut client.told);
-    let line = transacted(alloc, answered)?;
-    with_floor(alloc, line.as_str(), client.told.floor())
-}
-
-fn transacted(alloc: Global, answered: Result<Vec<Written>, TxWriteNo>) -> Result<String, Memory> {
-    let answers = match answered {
-        Ok(answers) => answers,
-        Err(no) => return Ok(format!(in alloc; "{no:?}")?),
-    };
-    let mut text = String::new(alloc);
-    for written in &answers {
-        text.push_str("[")?;
-        text.push_str(written_text(alloc, written)?.as_str())?;
-        text.push_str("]")?;
+    told: &mut Wording,
+) -> Result<(), Memory> {
+    match Transaction::new(writes_of(alloc, text)?) {
+        Ok(ask) => {
+            tell_transacted(&client.served.transact(&ask, &mut client.told), told);
+            tell_floor(client.told.floor(), told);
+        }
+        Err(no) => told.debug(&no),
     }
-    Ok(text)
+    Ok(())
 }
 
-fn written_text(alloc: Global, written: &Written) -> Result<String, Memory> {
-    Ok(format!(in alloc; "{} {}", written.row.obj.key.name(), written.rev)?)
+fn tell_transacted(answered: &Result<Vec<Written>, TxWriteNo>, told: &mut Wording) {
+    match answered {
+        Ok(answers) => {
+            for written in answers {
+                told.add("[");
+                tell_written(written, told);
+                told.add("]");
+            }
+        }
+        Err(no) => told.debug(no),
+    }
 }
 
-fn list<N: LogFacts, U: Served<N>>(
-    alloc: Global,
-    client: &mut Client<N, U>,
-    at: u64,
-) -> Result<String, Memory> {
+fn tell_written(written: &Written, told: &mut Wording) {
+    told.add(written.row.obj.key.name());
+    told.add(" ");
+    told.show(&written.rev);
+}
+
+fn list<N: LogFacts, U: Served<N>>(client: &mut Client<N, U>, at: u64, told: &mut Wording) {
     match client.served.list_at(Resource::Pods, at, &mut client.told) {
-        Ok(rows) => rows_text(alloc, &rows),
-        Err(no) => Ok(format!(in alloc; "{no:?}")?),
+        Ok(rows) => tell_rows(&rows, told),
+        Err(no) => told.debug(&no),
     }
 }
 
-fn begin<N: LogFacts, U: Served<N>>(
-    alloc: Global,
-    client: &mut Client<N, U>,
-    at: u64,
-) -> Result<String, Memory> {
+fn begin<N: LogFacts, U: Served<N>>(client: &mut Client<N, U>, at: u64, told: &mut Wording) {
     match client.served.begin(Resource::Pods, at, &mut client.told) {
         Ok(feed) => {
             client.feed = Some(feed);
-            Ok(format!(in alloc; "upto {}, generation {}", feed.upto, feed.gen_)?)
+            told.add("upto ");
+            told.show(&feed.upto);
+            told.add(", generation ");
+            told.show(&feed.gen_);
         }
-        Err(no) => Ok(format!(in alloc; "{no:?}")?),
+        Err(no) => told.debug(&no),
     }
 }
 
-fn poll<N: LogFacts, U: Served<N>>(
-    alloc: Global,
-    client: &mut Client<N, U>,
-    max: usize,
-) -> Result<String, Memory> {
+fn poll<N: LogFacts, U: Served<N>>(client: &mut Client<N, U>, max: usize, told: &mut Wording) {
     let Some(mut feed) = client.feed else {
-        return words(alloc, "no feed");
+        told.add("no feed");
+        return;
     };
     if max < 1 || feed.upto > client.told.end() {
-        return words(alloc, "nothing to poll");
+        told.add("nothing to poll");
+        return;
     }
     let polled = client.served.poll(&mut feed, max, &mut client.told);
     client.feed = Some(feed);
     match polled {
-        Ok(polled) => {
-            let revisions = revisions_text(alloc, &polled.revisions)?;
-            Ok(format!(in alloc; "upto {}: {revisions}", polled.upto)?)
-        }
-        Err(no) => Ok(format!(in alloc; "{no:?}")?),
+        Ok(polled) => tell_revisions(polled.upto, &polled.revisions, told),
+        Err(no) => told.debug(&no),
     }
 }
 
 fn history<N: LogFacts, U: Served<N>>(
-    alloc: Global,
     client: &mut Client<N, U>,
-) -> Result<String, Memory> {
+    told: &mut Wording,
+) -> Result<(), Memory> {
     let history = client.served.history(Resource::Pods, &mut client.told)?;
-    let rows = rows_text(alloc, &history.rows)?;
-    let revisions = revisions_text(alloc, &history.revisions)?;
-    let reads = client.served.reads();
-    Ok(format!(in alloc;
-        "floor {}: {rows}, upto {}: {revisions}; {reads} reads",
-        history.floor, history.upto
-    )?)
+    tell_history(&history, told);
+    told.add("; ");
+    told.show(&client.served.reads());
+    told.add(" reads");
+    Ok(())
+}
+
+fn tell_history(history: &History, told: &mut Wording) {
+    told.add("floor ");
+    told.show(&history.floor);
+    told.add(": ");
+    tell_rows(&history.rows, told);
+    told.add(", ");
+    tell_revisions(history.upto, &history.revisions, told);
 }
 
 /// What is answered to an operation.
-pub fn operated(alloc: Global, answered: Result<u64, OpNo>) -> Result<String, Memory> {
+pub fn tell_operated(answered: &Result<u64, OpNo>, told: &mut Wording) {
     match answered {
-        Ok(number) => Ok(format!(in alloc; "{number}")?),
-        Err(no) => Ok(format!(in alloc; "{no:?}")?),
+        Ok(number) => told.show(number),
+        Err(no) => told.debug(no),
     }
 }
 
-fn rows_text(alloc: Global, rows: &[Row]) -> Result<String, Memory> {
-    let mut text = String::new(alloc);
+fn tell_rows(rows: &[Row], told: &mut Wording) {
     for row in rows {
-        text.push_str(row_text(alloc, row)?.as_str())?;
+        tell_row(row, told);
     }
-    Ok(text)
 }
 
-fn revisions_text(alloc: Global, revisions: &[Revision]) -> Result<String, Memory> {
+/// How far revisions go, and how many changes each of them has.
+fn tell_revisions(upto: u64, revisions: &[Revision], told: &mut Wording) {
+    told.add("upto ");
+    told.show(&upto);
+    told.add(": ");
     if revisions.is_empty() {
-        return words(alloc, "none");
+        told.add("none");
     }
-    let mut text = String::new(alloc);
     for revision in revisions {
-        let one = format!(in alloc; "[{} of {}]", revision.rev, revision.changes.len())?;
-        text.push_str(one.as_str())?;
+        told.add("[");
+        told.show(&revision.rev);
+        told.add(" of ");
+        told.show(&revision.changes.len());
+        told.add("]");
     }
-    Ok(text)
 }
 
 /// Creates twenty pods whose names begin so.
@@ -245,8 +256,17 @@ pub fn twenty<N: LogFacts, U: Served<N> + Drop>(
     name: &str,
 ) -> Result<(), Memory> {
     for i in 0..20 {
-        let text = format!(in alloc; "create {name}-{i}")?;
-        client.answer(alloc, text.as_str())?;
+        create(alloc, &mut client, name, i)?;
     }
     Ok(())
+}
+
+fn create<N: LogFacts, U: Served<N>>(
+    alloc: Global,
+    client: &mut Client<N, U>,
+    name: &str,
+    number: u64,
+) -> Result<(), Memory> {
+    let step = format!(in alloc; "create {name}-{number}")?;
+    client.answer(alloc, step.as_str(), &mut Wording::new(alloc))
 }
