@@ -2,7 +2,7 @@
 
 use crate::whose::{Whose, namespace_of, selector_of};
 use ask_watch::{AskNo, Start, ask_watch};
-use case_rows::{Steps, number, split};
+use case_rows::{Steps, Wording, number, split};
 use edge_io::MemSink;
 use kube_meta::Memory;
 use std::alloc::Global;
@@ -12,29 +12,52 @@ use std::alloc::Global;
 pub struct Asks;
 
 impl Steps for Asks {
-    fn answer(&mut self, alloc: Global, step: &str) -> Result<String, Memory> {
+    fn answer(&mut self, alloc: Global, step: &str, told: &mut Wording) -> Result<(), Memory> {
         let (start, rest) = split(step);
         let (whose, call) = Whose::split(rest);
-        let mut fails = Vec::new(alloc);
-        if !call.is_empty() {
-            fails.push(number(call))?;
+        let mut sink = sink_of(alloc, call)?;
+        match asked(alloc, start_of(start), whose, &mut sink)? {
+            Ok(()) => tell_written(sink.bytes(), told),
+            Err(AskNo::WriteFault) => {
+                tell_written(sink.bytes(), told);
+                told.add("<WriteFault>");
+            }
+            Err(AskNo::Memory) => return Err(Memory),
         }
-        let mut sink = MemSink::new(1, fails);
-        let asked = ask_watch(
-            alloc,
-            &namespace_of(alloc, whose.ns)?,
-            start_of(start),
-            selector_of(alloc, whose.label)?.as_str(),
-            selector_of(alloc, whose.field)?.as_str(),
-            &mut sink,
-        );
-        let written = String::from_utf8_lossy(alloc, sink.bytes())?;
-        let shown = written.as_str().replace(alloc, "\r\n", "<CRLF>")?;
-        match asked {
-            Ok(()) => Ok(shown),
-            Err(AskNo::WriteFault) => format!(in alloc; "{shown}<WriteFault>"),
-            Err(AskNo::Memory) => Err(Memory),
+        Ok(())
+    }
+}
+
+// A sink, of which this call fails, if one is given.
+fn sink_of(alloc: Global, call: &str) -> Result<MemSink, Memory> {
+    let mut fails = Vec::new(alloc);
+    if !call.is_empty() {
+        fails.push(number(call))?;
+    }
+    Ok(MemSink::new(1, fails))
+}
+
+fn asked(
+    alloc: Global,
+    start: Start,
+    whose: Whose<'_>,
+    sink: &mut MemSink,
+) -> Result<Result<(), AskNo>, Memory> {
+    let ns = namespace_of(alloc, whose.ns)?;
+    let label = selector_of(alloc, whose.label)?;
+    let field = selector_of(alloc, whose.field)?;
+    Ok(ask_watch(alloc, &ns, start, label.as_str(), field.as_str(), sink))
+}
+
+/// Tells the bytes that were written, line by line.
+pub fn tell_written(bytes: &[u8], told: &mut Wording) {
+    let mut is_first = true;
+    for line in str::from_utf8(bytes).unwrap_or("(no UTF-8)").split("\r\n") {
+        if !is_first {
+            told.add("<CRLF>");
         }
+        is_first = false;
+        told.add(line);
     }
 }
 

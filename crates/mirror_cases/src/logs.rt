@@ -4,26 +4,26 @@ ghost use Rattle.std.specs.Prelude.{◌≡◌, ◌≤◌, ◌^◌, ℕ, List, []
 ghost use Rattle.kube_meta.specs.declared.resources.Resource.TheVariants.{Pods};
 ghost use Rattle.watch_read.specs.Lines.{Reads};
 
-use crate::openings::{opening_of, rows_text};
+use crate::openings::{opening_of, tell_rows};
 use crate::streams::bytes_of;
 use crate::whose::Whose;
 use crate::words::push_word;
-use case_rows::{Steps, number, split};
+use case_rows::{Steps, Wording, number, split};
 use edge_io::{MemSink, MemSource};
 use kube_meta::{MAX_REVISION, Memory, Resource};
 use mirror_opening::{Opening, Parts};
-use mirror_store::{MirrorLog, MirrorNo};
+use mirror_store::{MirrorLog, MirrorNo, RebaseNo};
 use rev_front::{Blank, blank};
 use rev_log::Revision;
 use std::alloc::Global;
 use std::marker::Brand;
 use std::sync::Wait;
-use up_api::{LogFacts, Pass, Upstream};
+use up_api::{LogFacts, Pass, Polled, Upstream};
 use up_store::{HearNo, StoreDoor};
 use watch_read::{PeerLine, read_line};
 
 /// How many revisions the store of a mirror keeps.
-const HISTORY: u64 = 1000;
+pub const HISTORY: u64 = 1000;
 
 /// Logs that hear lines.
 #[derive(Drop)]
@@ -32,25 +32,24 @@ pub struct Logs<'a, R> {
 }
 
 impl<'a, R: Wait> Steps for Logs<'a, R> {
-    fn answer(&mut self, alloc: Global, step: &str) -> Result<String, Memory> {
-        begun(self.rt, alloc, step)
+    fn answer(&mut self, alloc: Global, step: &str, told: &mut Wording) -> Result<(), Memory> {
+        begun(self.rt, alloc, step, told)
     }
 }
 
 // Begins a log, and makes the steps on it.
-fn begun<R: Wait>(rt: &R, alloc: Global, step: &str) -> Result<String, Memory> {
+fn begun<R: Wait>(rt: &R, alloc: Global, step: &str, told: &mut Wording) -> Result<(), Memory> {
     let (head, words) = step.split_once(" | ").unwrap_or((step, ""));
     let words = String::from_str(alloc, words)?;
-    let opening = match opening_at(alloc, head)? {
-        Ok(opening) => opening,
-        Err(why) => return Ok(why),
+    let Some(opening) = opening_at(alloc, head, told)? else {
+        return Ok(());
     };
     let made = blank(alloc, opening.base())?;
-    heard::<Brand, R>(rt, alloc, opening, made, words)
+    heard::<Brand, R>(rt, alloc, opening, made, words, told)
 }
 
-// The opening at a base of the pods with a label, where those that are named stand.
-fn opening_at(alloc: Global, head: &str) -> Result<Result<Opening, String>, Memory> {
+// The opening at a base of the pods with a label, where those that are named stand. Where there is none, it tells why.
+fn opening_at(alloc: Global, head: &str, told: &mut Wording) -> Result<Option<Opening>, Memory> {
     let (base, rest) = split(head);
     let (label, rows) = split(rest);
     let words = format!(in alloc; "H [ {rows} C:{base} ; ]")?;
@@ -65,6 +64,7 @@ fn opening_at(alloc: Global, head: &str) -> Result<Result<Opening, String>, Memo
         whose,
         &mut MemSource::new(bytes, 65536, Vec::new(alloc)),
         &mut MemSink::new(65536, Vec::new(alloc)),
+        told,
     )
 }
 
@@ -75,7 +75,8 @@ fn heard<N: LogFacts, R: Wait>(
     opening: Opening,
     made: Blank<Revision>,
     words: String,
-) -> Result<String, Memory>
+    told: &mut Wording,
+) -> Result<(), Memory>
     requires name { made ≡ N.log }
     requires first { made.first ≡ opening.base }
     requires base { N.base ≡ opening.rows }
@@ -83,8 +84,8 @@ fn heard<N: LogFacts, R: Wait>(
 {
     let mut log: MirrorLog<N, &R> = log_of(rt, alloc, opening, made)?;
     let mut door = log.door()?;
-    let mut told = door.pass()?;
-    all_steps(alloc, &mut log, &mut door, &mut told, words.as_str())
+    let mut pass = door.pass()?;
+    all_steps(alloc, &mut log, &mut door, &mut pass, words.as_str(), told)
 }
 
 // The log of an opening.
@@ -115,77 +116,170 @@ fn all_steps<N: LogFacts, R: Wait>(
     alloc: Global,
     log: &mut MirrorLog<N, &R>,
     door: &mut StoreDoor<N, &R>,
-    told: &mut Pass<N>,
+    pass: &mut Pass<N>,
     words: &str,
-) -> Result<String, Memory>
+    told: &mut Wording,
+) -> Result<(), Memory>
     requires mirror { N.mirror ≡ true }
 {
-    let mut answer = String::new(alloc);
+    let mut is_first = true;
     for word in words.split(' ') {
-        if !answer.is_empty() {
-            answer.push_str("; ")?;
+        if !is_first {
+            told.add("; ");
         }
-        let one = made_step(alloc, log, door, told, word)?;
-        answer.push_str(one.as_str())?;
+        is_first = false;
+        make_step(alloc, log, door, pass, word, told)?;
     }
-    Ok(answer)
+    Ok(())
 }
 
-// Makes one step: another door hears a revision without a change, or is asked for a list; the connection is cut, and
-// what was kept is forgotten; or the log hears a line.
-fn made_step<N: LogFacts, R: Wait>(
+// Makes one step: another door hears a revision without a change, or is asked for a list or a watch; the log begins
+// anew from an opening; the connection is cut, and what was kept is forgotten; or the log hears a line.
+fn make_step<N: LogFacts, R: Wait>(
     alloc: Global,
     log: &mut MirrorLog<N, &R>,
     door: &mut StoreDoor<N, &R>,
-    told: &mut Pass<N>,
+    pass: &mut Pass<N>,
     word: &str,
-) -> Result<String, Memory>
+    told: &mut Wording,
+) -> Result<(), Memory>
     requires mirror { N.mirror ≡ true }
 {
     if let Some(rev) = word.strip_prefix("hear:") {
-        return heard_elsewhere(alloc, door, told, number(rev).min(MAX_REVISION));
+        return hear_elsewhere(alloc, door, pass, number(rev).min(MAX_REVISION), told);
     }
     if let Some(at) = word.strip_prefix("list:") {
-        return listed(alloc, door, told, number(at));
+        list(door, pass, number(at), told);
+        return Ok(());
+    }
+    if let Some(at) = word.strip_prefix("watch:") {
+        watch(door, pass, number(at), told);
+        return Ok(());
+    }
+    if let Some(words) = word.strip_prefix("anew:") {
+        return begin_anew(alloc, log, words, told);
     }
     if word == "cut" {
         log.forget();
-        return format!(in alloc; "cut at {}", log.to());
+        told.add("cut at ");
+        told.show(&log.to());
+        return Ok(());
     }
-    taken(alloc, log, word)
+    take(alloc, log, word, told)
 }
 
-// The pods of the store at a revision.
-fn listed<N: LogFacts, R: Wait>(
-    alloc: Global,
+/// The pods of the store at a revision.
+pub fn list<N: LogFacts, R: Wait>(
     door: &mut StoreDoor<N, &R>,
-    told: &mut Pass<N>,
+    pass: &mut Pass<N>,
     at: u64,
-) -> Result<String, Memory> {
-    match door.list_at(Resource::Pods, at, told) {
+    told: &mut Wording,
+) {
+    match door.list_at(Resource::Pods, at, pass) {
         Ok(rows) => {
-            let rows = rows_text(alloc, &rows)?;
-            format!(in alloc; "at {at}{rows}")
+            told.add("at ");
+            told.show(&at);
+            tell_rows(&rows, told);
         }
-        Err(no) => format!(in alloc; "{no:?}"),
+        Err(no) => told.debug(&no),
     }
+}
+
+// How many revisions a feed of the store's pods from a revision has, and up to where.
+fn watch<N: LogFacts, R: Wait>(
+    door: &mut StoreDoor<N, &R>,
+    pass: &mut Pass<N>,
+    at: u64,
+    told: &mut Wording,
+) {
+    let mut feed = match door.begin(Resource::Pods, at, pass) {
+        Ok(feed) => feed,
+        Err(no) => {
+            told.debug(&no);
+            return;
+        }
+    };
+    match door.poll(&mut feed, 1000, pass) {
+        Ok(polled) => tell_polled(&polled, told),
+        Err(no) => told.debug(&no),
+    }
+}
+
+fn tell_polled(polled: &Polled, told: &mut Wording) {
+    told.show(&polled.revisions.len());
+    told.add(" to ");
+    told.show(&polled.upto);
+}
+
+// Begins the log anew from the opening at a base of the pods that are named behind it, as `9,web@2,db@7`.
+fn begin_anew<N: LogFacts, R: Wait>(
+    alloc: Global,
+    log: &mut MirrorLog<N, &R>,
+    words: &str,
+    told: &mut Wording,
+) -> Result<(), Memory> {
+    let head = head_of(alloc, words)?;
+    match opening_at(alloc, head.as_str(), told)? {
+        Some(opening) => rebase(log, opening, told),
+        None => Ok(()),
+    }
+}
+
+// The base, the selector of all and the lines of the pods that are named, or of other lines with their own names.
+fn head_of(alloc: Global, words: &str) -> Result<String, Memory> {
+    let (base, pods) = words.split_once(',').unwrap_or((words, ""));
+    let mut head = Wording::new(alloc);
+    head.add(base);
+    head.add(" -");
+    for pod in pods.split(',') {
+        if !pod.is_empty() {
+            head.add(if pod.contains(':') { " " } else { " A:" });
+            head.add(pod);
+            head.add(" ;");
+        }
+    }
+    head.whole()
+}
+
+// Begins the log anew with an opening.
+fn rebase<N: LogFacts, R: Wait>(
+    log: &mut MirrorLog<N, &R>,
+    opening: Opening,
+    told: &mut Wording,
+) -> Result<(), Memory> {
+    let base = opening.base();
+    let rows = opening.into_parts().rows;
+    match log.rebase(&rows, base) {
+        Ok(to) => {
+            told.add("Anew ");
+            told.show(&to);
+        }
+        Err(RebaseNo::Memory) => return Err(Memory),
+        Err(no) => told.debug(&no),
+    }
+    Ok(())
 }
 
 // What another door answers to a revision without a change.
-fn heard_elsewhere<N: LogFacts, R: Wait>(
+fn hear_elsewhere<N: LogFacts, R: Wait>(
     alloc: Global,
     door: &mut StoreDoor<N, &R>,
-    told: &mut Pass<N>,
+    pass: &mut Pass<N>,
     rev: u64,
-) -> Result<String, Memory>
+    told: &mut Wording,
+) -> Result<(), Memory>
     requires mirror { N.mirror ≡ true }
     requires last { rev ≤ 2 ^ 62 }
 {
-    match door.hear(unchanged(alloc, rev), told) {
-        Ok(rev) => format!(in alloc; "heard {rev}"),
-        Err(HearNo::Memory) => Err(Memory),
-        Err(no) => format!(in alloc; "{no:?}"),
+    match door.hear(unchanged(alloc, rev), pass) {
+        Ok(rev) => {
+            told.add("heard ");
+            told.show(&rev);
+        }
+        Err(HearNo::Memory) => return Err(Memory),
+        Err(no) => told.debug(&no),
     }
+    Ok(())
 }
 
 // The revision that changes nothing.
@@ -206,20 +300,31 @@ fn line_of(alloc: Global, word: &str) -> Result<Option<PeerLine>, Memory>
 }
 
 // Up to where a line moves the log, or what is wrong with it.
-fn taken<N: LogFacts, R: Wait>(
+fn take<N: LogFacts, R: Wait>(
     alloc: Global,
     log: &mut MirrorLog<N, &R>,
     word: &str,
-) -> Result<String, Memory> {
-    let answered = match line_of(alloc, word)? {
-        Some(PeerLine::Told { kind, obj, rev }) => log.hear_event(kind, obj, rev),
-        Some(PeerLine::Bookmark { at, closing }) => log.hear_mark(at, closing),
-        Some(PeerLine::Error { .. }) | None => return String::from_str(alloc, "no event"),
-    };
-    match answered {
-        Ok(to) => format!(in alloc; "Line {to}"),
-        Err(MirrorNo::Refused(fault)) => format!(in alloc; "{fault:?}"),
-        Err(MirrorNo::Memory) => Err(Memory),
-        Err(no) => format!(in alloc; "{no:?}"),
+    told: &mut Wording,
+) -> Result<(), Memory> {
+    match line_of(alloc, word)? {
+        Some(PeerLine::Told { kind, obj, rev }) => tell_heard(log.hear_event(kind, obj, rev), told),
+        Some(PeerLine::Bookmark { at, closing }) => tell_heard(log.hear_mark(at, closing), told),
+        Some(PeerLine::Error { .. }) | None => {
+            told.add("no event");
+            Ok(())
+        }
     }
+}
+
+fn tell_heard(heard: Result<u64, MirrorNo>, told: &mut Wording) -> Result<(), Memory> {
+    match heard {
+        Ok(to) => {
+            told.add("Line ");
+            told.show(&to);
+        }
+        Err(MirrorNo::Refused(fault)) => told.debug(&fault),
+        Err(MirrorNo::Memory) => return Err(Memory),
+        Err(no) => told.debug(&no),
+    }
+    Ok(())
 }

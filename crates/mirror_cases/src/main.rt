@@ -1,9 +1,10 @@
 //! Cases of mirrors, as data: texts that are read as lines of a peer's watch, streams of bytes that are read as lines,
-//! requests, openings, and logs that hear lines. Each file that the command line names has rows, each a step and the
-//! answer that is wanted. How they are written stands in `data/README.txt`.
+//! requests, openings, logs that hear lines, and mirrors over connections. Each file that the command line names has
+//! rows, each a step and the answer that is wanted. How they are written stands in `data/README.txt`.
 #![tactic(auto)]
 
 mod asks;
+mod links;
 mod logs;
 mod openings;
 mod streams;
@@ -13,6 +14,7 @@ mod words;
 
 use asks::Asks;
 use case_rows::{Lines, Tally, run_rows};
+use links::Links;
 use logs::Logs;
 use openings::Openings;
 use std::alloc::Global;
@@ -48,6 +50,7 @@ fn run_file<R: Runtime + Wait>(
         "asks.txt" => run_rows(rt, alloc, lines, &mut Asks, tally),
         "openings.txt" => run_rows(rt, alloc, lines, &mut Openings, tally),
         "logs.txt" => run_rows(rt, alloc, lines, &mut Logs { rt }, tally),
+        "links.txt" => run_rows(rt, alloc, lines, &mut Links { rt }, tally),
         "streams.txt" => run_rows(rt, alloc, lines, &mut Streams, tally),
         _ => {
             tally.count(false);

@@ -2,12 +2,12 @@
 
 ghost use Rattle.std.specs.Prelude.{◌<◌};
 
-use crate::texts::told;
+use crate::texts::tell_text;
 use crate::words::{push_head, push_word};
-use case_rows::Steps;
+use case_rows::{Steps, Wording};
 use edge_io::MemSource;
 use kube_meta::{Memory, Resource};
-use line_stream::{LineNo, LineReader, Step};
+use line_stream::{LineReader, Step};
 use std::alloc::Global;
 
 /// How much data is read where a row doesn't say it.
@@ -18,19 +18,20 @@ const ROOM: u64 = 1 << 30;
 pub struct Streams;
 
 impl Steps for Streams {
-    fn answer(&mut self, alloc: Global, step: &str) -> Result<String, Memory> {
+    fn answer(&mut self, alloc: Global, step: &str, told: &mut Wording) -> Result<(), Memory> {
         if let Some(words) = step.strip_prefix("CUT ") {
-            return cut(alloc, words);
+            return cut(alloc, words, told);
         }
         let (room, words) = room_of(step);
         let bytes = bytes_of(alloc, words)?;
-        let slow = read(alloc, bytes.clone()?, room, 1)?;
-        let fast = read(alloc, bytes, room, 65536)?;
-        if slow.as_str() == fast.as_str() {
-            Ok(fast)
-        } else {
-            format!(in alloc; "{fast}, and byte by byte {slow}")
+        let slow = read(alloc, bytes.as_slice(), room, 1)?;
+        let fast = read(alloc, bytes.as_slice(), room, 65536)?;
+        told.add(fast.as_str());
+        if slow.as_str() != fast.as_str() {
+            told.add(", and byte by byte ");
+            told.add(slow.as_str());
         }
+        Ok(())
     }
 }
 
@@ -92,48 +93,61 @@ fn push_chunk(alloc: Global, bytes: &mut Vec<u8>, data: &[u8]) -> Result<(), Mem
 }
 
 // The lines of some bytes, and how they end.
-fn read(alloc: Global, bytes: Vec<u8>, room: u64, step: usize) -> Result<String, Memory>
+fn read(alloc: Global, bytes: &[u8], room: u64, step: usize) -> Result<String, Memory>
     requires { 0 < step }
 {
-    let most = bytes.len();
-    let mut source = MemSource::new(bytes, step, Vec::new(alloc));
-    let mut reader = LineReader::open(alloc, room);
-    let mut answer = String::new(alloc);
-    if let Err(why) = reader.read_head(&mut source) {
-        return ended(alloc, answer, why);
-    }
-    for _ in 0..most {
-        match reader.next_line(&mut source) {
-            Ok(Step::Line) => {
-                answer.push_str(told(alloc, Resource::Pods, reader.line())?.as_str())?;
-                answer.push_str("; ")?;
-            }
-            Ok(Step::Over) => {
-                answer.push_str("Over")?;
-                return Ok(answer);
-            }
-            Err(why) => return ended(alloc, answer, why),
-        }
-    }
-    Ok(answer)
+    let mut source = MemSource::new(bytes.to_vec(alloc)?, step, Vec::new(alloc));
+    let mut told = Wording::new(alloc);
+    tell_lines(alloc, &mut source, bytes.len(), room, &mut told)?;
+    told.whole()
 }
 
-// The lines, and why there is no further one.
-fn ended(alloc: Global, lines: String, why: LineNo) -> Result<String, Memory> {
-    format!(in alloc; "{lines}{why:?}")
+fn tell_lines(
+    alloc: Global,
+    source: &mut MemSource,
+    most: usize,
+    room: u64,
+    told: &mut Wording,
+) -> Result<(), Memory> {
+    let mut reader = LineReader::open(alloc, room);
+    if let Err(why) = reader.read_head(source) {
+        told.debug(&why);
+        return Ok(());
+    }
+    for _ in 0..most {
+        match reader.next_line(source) {
+            Ok(Step::Line) => {
+                tell_text(alloc, Resource::Pods, reader.line(), told)?;
+                told.add("; ");
+            }
+            Ok(Step::Over) => {
+                told.add("Over");
+                return Ok(());
+            }
+            Err(why) => {
+                told.debug(&why);
+                return Ok(());
+            }
+        }
+    }
+    Ok(())
 }
 
 // How often the bytes, cut somewhere, aren't read as a beginning of their lines, and then as cut short.
-fn cut(alloc: Global, words: &str) -> Result<String, Memory> {
+fn cut(alloc: Global, words: &str, told: &mut Wording) -> Result<(), Memory> {
     let bytes = bytes_of(alloc, words)?;
-    let whole = read(alloc, bytes.clone()?, ROOM, 65536)?;
+    let whole = read(alloc, bytes.as_slice(), ROOM, 65536)?;
     let mut others = 0u64;
     for n in 0..bytes.len() {
-        let part = read(alloc, bytes[..n].to_vec(alloc)?, ROOM, 65536)?;
+        let part = read(alloc, &bytes[..n], ROOM, 65536)?;
         match part.as_str().strip_suffix("CutShort") {
             Some(lines) if whole.as_str().starts_with(lines) => {}
             _ => others = others.saturating_add(1),
         }
     }
-    format!(in alloc; "{} cuts, {others} read otherwise", bytes.len())
+    told.show(&bytes.len());
+    told.add(" cuts, ");
+    told.show(&others);
+    told.add(" read otherwise");
+    Ok(())
 }

@@ -1,7 +1,7 @@
 //! Rows of texts that are read as lines of a watch: the resource, and words that are put one behind the other.
 
 use crate::words::push_word;
-use case_rows::{Steps, split};
+use case_rows::{Steps, Wording, split};
 use kube_meta::{Memory, Resource};
 use std::alloc::Global;
 use watch_read::{PeerLine, read_line};
@@ -11,28 +11,50 @@ use watch_read::{PeerLine, read_line};
 pub struct Texts;
 
 impl Steps for Texts {
-    fn answer(&mut self, alloc: Global, step: &str) -> Result<String, Memory> {
+    fn answer(&mut self, alloc: Global, step: &str, told: &mut Wording) -> Result<(), Memory> {
         let (plural, words) = split(step);
         let Some(resource) = Resource::of_plural(plural.as_bytes()) else {
-            return String::from_str(alloc, "no resource");
+            told.add("no resource");
+            return Ok(());
         };
         let mut text = Vec::new(alloc);
         for word in words.split(' ') {
             push_word(alloc, &mut text, word)?;
         }
-        told(alloc, resource, text.as_slice())
+        tell_text(alloc, resource, text.as_slice(), told)
     }
 }
 
 /// What a text is read as.
-pub fn told(alloc: Global, resource: Resource, text: &[u8]) -> Result<String, Memory> {
+pub fn tell_text(
+    alloc: Global,
+    resource: Resource,
+    text: &[u8],
+    told: &mut Wording,
+) -> Result<(), Memory> {
     match read_line(alloc, resource, text)? {
-        Some(PeerLine::Told { kind, obj, rev }) => {
-            format!(in alloc; "{kind:?} {} {rev}", obj.key.as_str())
+        Some(line) => tell_line(&line, told),
+        None => told.add("none"),
+    }
+    Ok(())
+}
+
+fn tell_line(line: &PeerLine, told: &mut Wording) {
+    match line {
+        PeerLine::Told { kind, obj, rev } => {
+            told.debug(kind);
+            told.add(" ");
+            told.add(obj.key.as_str());
+            told.add(" ");
+            told.show(rev);
         }
-        Some(PeerLine::Bookmark { at, closing: false }) => format!(in alloc; "Bookmark {at}"),
-        Some(PeerLine::Bookmark { at, closing: true }) => format!(in alloc; "Closing {at}"),
-        Some(PeerLine::Error { code }) => format!(in alloc; "Error {code}"),
-        None => String::from_str(alloc, "none"),
+        PeerLine::Bookmark { at, closing } => {
+            told.add(if *closing { "Closing " } else { "Bookmark " });
+            told.show(at);
+        }
+        PeerLine::Error { code } => {
+            told.add("Error ");
+            told.show(code);
+        }
     }
 }
