@@ -180,11 +180,13 @@ fn stored(
     })
 }
 
-// A text that is kept. It's UTF-8, as each text.
+// A text that is kept, without the room into which it grew. It's UTF-8, as each text.
 fn kept(text: String) -> Text
     ensures same { result ≡ string_bytes text }
     ensures utf8 { IsUtf8 result }
 {
+    let mut text = text;
+    text.shrink_to_fit();
     let _utf8 = text.as_str();
     Text::from_string(text)
 }
@@ -207,14 +209,14 @@ fn key_of(alloc: Global, metadata: &Value, ns: &Text) -> Result<Key, Memory>
 fn fields_of(alloc: Global, value: &Value, resource: Resource) -> Result<Fields, Memory>
     ensures { IfOk result (λ fields. fields ≡ object.field_values resource (view value.now)) }
 {
-    let mut values = Vec::new(alloc);
     match resource {
         Resource::Pods => {
+            let mut values = Vec::with_capacity(alloc, 2)?;
             values.push(Text::new(alloc, text_at(value, "spec", "nodeName"))?)?;
             values.push(Text::new(alloc, text_at(value, "status", "phase"))?)?;
             Ok(Fields::new(values))
         }
-        Resource::ConfigMaps | Resource::Deployments => Ok(Fields::new(values)),
+        Resource::ConfigMaps | Resource::Deployments => Ok(Fields::new(Vec::new(alloc))),
     }
 }
 
