@@ -1,7 +1,7 @@
--- The first term that asks for a field, along a list.
+-- The first term that asks for a field, or for the name, along a list.
 use Rattle.std.proofs.Common.{◌≡◌, ℕ, ◌+◌, ◌<◌, ◌≤◌, true, false, List, ◌∷◌, length, get_or, drop, Some, None, refl, sym, ap, ◌∙◌}
 use Rattle.std.proofs.lemmas.List.{at_drop_more, at_drop_all}
-use Rattle.field_select.specs.Meaning.{wanted, asks_for}
+use Rattle.field_select.specs.Meaning.{wanted, wanted_name, asks_for, asks_name}
 use Rattle.field_select.specs.declared.terms.Term.{Term}
 
 module _ (terms : List Term) (n i : ℕ) where
@@ -16,3 +16,10 @@ module _ (terms : List Term) (n i : ℕ) where
 
   pub wanted_never : length terms ≤ n → wanted (drop n terms) i ≡ None
   wanted_never le = at_drop_all (λ ts. wanted ts i) terms n le
+
+module _ (terms : List Term) (n : ℕ) where
+  named_at : (t : Term) → n < length terms → t ≡ get_or terms n t → wanted_name (drop n terms) ≡ wanted_name (t ∷ drop (n + 1) terms)
+  named_at t lt is = at_drop_more wanted_name terms n t lt ∙ ap (λ x. wanted_name (x ∷ drop (n + 1) terms)) (sym is)
+
+  pub named_later : (t : Term) → n < length terms → t ≡ get_or terms n t → asks_name t ≡ false → wanted_name (drop (n + 1) terms) ≡ wanted_name (drop n terms)
+  named_later t lt is other = sym (named_at t lt is ∙ rw other refl)

@@ -49,3 +49,18 @@ asks_for i term = term.equal && is_listed i term.field
 abbrev pub wanted : List Term → ℕ → Option (List ℕ)
 wanted [] i = None
 wanted (t ∷ ts) i = if asks_for i t then Some t.value else wanted ts i
+
+-- whether the field is the object's name
+abbrev pub is_name : Field → Bool
+is_name Name = true
+is_name Namespace = false
+is_name (Listed k) = false
+
+-- whether the term has `=` or `==` and is on the name
+abbrev pub asks_name : Term → Bool
+asks_name term = term.equal && is_name term.field
+
+-- the name that the first such term asks for
+abbrev pub wanted_name : List Term → Option (List ℕ)
+wanted_name [] = None
+wanted_name (t ∷ ts) = if asks_name t then Some t.value else wanted_name ts

@@ -5,7 +5,7 @@ ghost use Rattle.field_select.specs.declared.terms.Term.{Term as Asked};
 ghost use Rattle.field_select.specs.Grammar.{IsSelector};
 ghost use Rattle.field_select.specs.Reading.{selector_of};
 ghost use Rattle.field_select.specs.Left.{ReadsTerms};
-ghost use Rattle.field_select.specs.Meaning.{Selects, selects, wanted};
+ghost use Rattle.field_select.specs.Meaning.{Selects, selects, wanted, wanted_name};
 
 use crate::reading::terms_of;
 use crate::refusal::FieldNo;
@@ -84,6 +84,19 @@ impl FieldSel {
     {
         for term in &self.terms {
             if term.asks_for(i) {
+                return Some(term.value.as_str());
+            }
+        }
+        None
+    }
+
+    /// The name that an object has to have: the value of the first term on `metadata.name` with `=` or
+    /// `==`.
+    pub fn wanted_name(&self) -> Option<&str>
+        ensures { option_copied result ≡ wanted_name self.now }
+    {
+        for term in &self.terms {
+            if term.asks_name() {
                 return Some(term.value.as_str());
             }
         }

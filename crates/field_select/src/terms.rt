@@ -1,7 +1,7 @@
 //! One term of a field selector.
 
 ghost use Rattle.std.specs.Prelude.{◌≡◌, ◌↔◌, IfOk, IsTrue};
-ghost use Rattle.field_select.specs.Meaning.{asks_for, is_listed, value_of};
+ghost use Rattle.field_select.specs.Meaning.{asks_for, asks_name, is_listed, is_name, value_of};
 
 use kube_meta::{Fields, Key, Memory, Text};
 
@@ -50,6 +50,13 @@ impl Field {
         }
     }
 
+    /// Whether it is the object's name.
+    pub fn is_name(self) -> bool
+        ensures { result ≡ is_name self }
+    {
+        matches!(self, Field::Name)
+    }
+
     /// Whether the two are the same field.
     pub fn same(self, other: Field) -> bool
         ensures { IsTrue result ↔ (self ≡ other) }
@@ -81,6 +88,13 @@ impl Term {
         ensures { result ≡ asks_for i self.now }
     {
         self.equal && self.field.is_listed(i)
+    }
+
+    /// Whether the object's name has to be the value.
+    pub fn asks_name(&self) -> bool
+        ensures { result ≡ asks_name self.now }
+    {
+        self.equal && self.field.is_name()
     }
 
     /// A copy of the term.
