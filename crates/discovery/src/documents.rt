@@ -31,7 +31,8 @@ pub enum Document {
     Probe(Probe),
 }
 
-/// What a probe asks. One answer serves all three: a server that answers is alive, ready and healthy.
+/// What a probe asks. One answer serves all three, since a server that answers is alive and healthy, and ready too
+/// unless it is a mirror that has lost its peer.
 #[derive(Clone, Copy, Debug, PartialEq, Eq)]
 pub enum Probe {
     Livez,

@@ -20,6 +20,8 @@ pub enum ContentType {
     Json,
     /// `text/plain`, in UTF-8.
     PlainText,
+    /// The same, in version 0.0.4 of the text format of Prometheus.
+    MetricsText,
 }
 
 // The standard reason phrase of a status code, empty where it has none.
@@ -46,6 +48,9 @@ fn content_type_line(kind: ContentType) -> &'static [u8]
     match kind {
         ContentType::Json => b"\r\nContent-Type: application/json",
         ContentType::PlainText => b"\r\nContent-Type: text/plain; charset=utf-8",
+        ContentType::MetricsText => {
+            b"\r\nContent-Type: text/plain; version=0.0.4; charset=utf-8"
+        }
     }
 }
 

@@ -1,0 +1,112 @@
+-- The families of samples that a monitor is told, by name, meaning and type. What Kubernetes' own server tells too has the
+-- name that it has there.
+use Rattle.std.specs.Prelude.{ℕ, List, [], ◌∷◌, codes}
+use Rattle.metrics.specs.declared.caches.CacheMetrics.{CacheMetrics}
+use Rattle.metrics.specs.declared.served.Verb.{Verb}
+use Rattle.metrics.specs.declared.served.Verb.TheVariants as verb
+use Rattle.metrics_text.specs.declared.families.Family.{Family}
+use Rattle.metrics_text.specs.declared.families.Family.TheVariants as family
+use Rattle.metrics_text.specs.declared.families.Figure.{Figure}
+use Rattle.metrics_text.specs.declared.families.Figure.TheVariants as figure
+
+-- ---- the figures of a cache
+
+-- all of them, in the order in which they are told
+unfoldable pub all_figures : List Figure
+all_figures = figure.End ∷ figure.Objects ∷ figure.Window ∷ figure.Floor ∷ figure.Received ∷ figure.Watchers ∷ figure.Behind ∷ figure.Rebuilds ∷ figure.Cuts ∷ []
+
+-- the name of the family of a figure
+abbrev pub figure_name : Figure → List ℕ
+figure_name figure.End = codes "apiserver_watch_cache_resource_version"
+figure_name figure.Objects = codes "apiserver_resource_objects"
+figure_name figure.Window = codes "watch_cache_capacity"
+figure_name figure.Floor = codes "watchcache_cache_floor"
+figure_name figure.Received = codes "apiserver_watch_cache_events_received_total"
+figure_name figure.Watchers = codes "watchcache_watchers"
+figure_name figure.Behind = codes "watchcache_watchers_behind"
+figure_name figure.Rebuilds = codes "watchcache_cache_rebuilds_total"
+figure_name figure.Cuts = codes "watchcache_cache_cuts_total"
+
+-- what the samples of its family mean
+abbrev pub figure_help : Figure → List ℕ
+figure_help figure.End = codes "Revision up to which the watch cache stands for the log, by resource."
+figure_help figure.Objects = codes "Number of objects in the watch cache, by resource."
+figure_help figure.Window = codes "Number of events that the watch cache keeps at most, by resource."
+figure_help figure.Floor = codes "Revision above which the watch cache keeps all events, by resource."
+figure_help figure.Received = codes "Counter of events taken into the watch cache, by resource."
+figure_help figure.Watchers = codes "Number of open watches, by resource."
+figure_help figure.Behind = codes "Number of open watches that catch up from kept events, by resource."
+figure_help figure.Rebuilds = codes "Counter of times the watch cache was built anew, by resource."
+figure_help figure.Cuts = codes "Counter of times the watch cache found its feed cut, by resource."
+
+-- the type of its family: a counter never falls while the server runs
+abbrev pub figure_kind : Figure → List ℕ
+figure_kind figure.End = codes "gauge"
+figure_kind figure.Objects = codes "gauge"
+figure_kind figure.Window = codes "gauge"
+figure_kind figure.Floor = codes "gauge"
+figure_kind figure.Received = codes "counter"
+figure_kind figure.Watchers = codes "gauge"
+figure_kind figure.Behind = codes "gauge"
+figure_kind figure.Rebuilds = codes "counter"
+figure_kind figure.Cuts = codes "counter"
+
+-- its value
+abbrev pub figure_of : Figure → CacheMetrics → ℕ
+figure_of figure.End told = told.end
+figure_of figure.Objects told = told.objects
+figure_of figure.Window told = told.window
+figure_of figure.Floor told = told.floor
+figure_of figure.Received told = told.received
+figure_of figure.Watchers told = told.watchers
+figure_of figure.Behind told = told.behind
+figure_of figure.Rebuilds told = told.rebuilds
+figure_of figure.Cuts told = told.cuts
+
+-- ---- all families
+
+-- the name of a family
+abbrev pub name_of : Family → List ℕ
+name_of family.Revision = codes "watchcache_log_revision"
+name_of family.Floor = codes "watchcache_log_floor"
+name_of family.Generation = codes "watchcache_log_generation"
+name_of (family.OfCaches of_cache) = figure_name of_cache
+name_of family.Connections = codes "watchcache_connections"
+name_of family.Events = codes "watchcache_events_sent_total"
+name_of family.Requests = codes "apiserver_request_total"
+name_of family.Following = codes "watchcache_mirror_following"
+
+-- what its samples mean
+abbrev pub help_of : Family → List ℕ
+help_of family.Revision = codes "Revision that the log has reached."
+help_of family.Floor = codes "Revision from which on the log is kept."
+help_of family.Generation = codes "Generation of the log: how often its feeds were cut."
+help_of (family.OfCaches of_cache) = figure_help of_cache
+help_of family.Connections = codes "Number of open connections."
+help_of family.Events = codes "Counter of events told to watches."
+help_of family.Requests = codes "Counter of requests, by verb, resource and status code."
+help_of family.Following = codes "Whether the mirror follows its peer."
+
+-- its type
+abbrev pub kind_of : Family → List ℕ
+kind_of family.Revision = codes "gauge"
+kind_of family.Floor = codes "gauge"
+kind_of family.Generation = codes "gauge"
+kind_of (family.OfCaches of_cache) = figure_kind of_cache
+kind_of family.Connections = codes "gauge"
+kind_of family.Events = codes "counter"
+kind_of family.Requests = codes "counter"
+kind_of family.Following = codes "gauge"
+
+-- ---- requests
+
+-- how a label names what a request asks for
+abbrev pub verb_name : Verb → List ℕ
+verb_name verb.Get = codes "GET"
+verb_name verb.List = codes "LIST"
+verb_name verb.Watch = codes "WATCH"
+verb_name verb.Create = codes "POST"
+verb_name verb.Replace = codes "PUT"
+verb_name verb.Remove = codes "DELETE"
+verb_name verb.Transact = codes "TRANSACT"
+verb_name verb.Operate = codes "OPERATE"
