@@ -1,6 +1,6 @@
 //! The cache.
 
-ghost use Rattle.std.specs.Prelude.{◌≡◌, ◌<◌, ◌≤◌, ℕ, max, List, [], ◌++◌, IfOk, IfErr, OnOk, OnErr};
+ghost use Rattle.std.specs.Prelude.{◌≡◌, ◌<◌, ◌≤◌, ℕ, max, List, [], ◌++◌, length, IfOk, IfErr, OnOk, OnErr};
 ghost use Rattle.rev_log.specs.Changes.{RevisionData};
 ghost use Rattle.rev_log.specs.Logs.{Log};
 ghost use Rattle.rev_log.specs.States.{IsStateAt};
@@ -147,6 +147,20 @@ impl Cache {
         ensures { result ≡ self.now.ring.floor }
     {
         self.ring.floor()
+    }
+
+    /// How many events the ring keeps at most now.
+    pub fn window(&self) -> usize
+        ensures { result ≡ self.now.ring.capacity }
+    {
+        self.ring.capacity()
+    }
+
+    /// How many objects it holds.
+    pub fn len(&self) -> usize
+        ensures { result ≡ length self.now.rows }
+    {
+        self.tree.len()
     }
 
     /// The objects at its end. Later changes don't show in it.

@@ -3,6 +3,7 @@
 ghost use Rattle.std.specs.Prelude.{◌≡◌, ◌≤◌, ◌<◌, ℕ, None, Ok, Some, IfOk, IfErr, OnErr, OnOk, IfSome};
 ghost use Rattle.up_api.specs.Feeds.{feed_at};
 ghost use Rattle.up_api.specs.Sections.{log_of, Learns, StaysOrSeesAll, StandsAt, Knows};
+ghost use Rattle.reflect_core.specs.Along.{TakesInPolls};
 ghost use Rattle.reflect_core.specs.Pumps.{generation_of, GoesOn, IsCompleteTo, IsKnown, FeedsFrom, LastPoll};
 ghost use Rattle.reflect_core.specs.declared.following.Followed.TheVariants as followed;
 
@@ -75,6 +76,8 @@ impl Reflector {
         ensures window { H.window held.new ≡ H.window held.old }
         ensures base { H.base held.new ≡ H.base held.old }
         ensures rebuilds { H.rebuilds held.new ≡ H.rebuilds held.old }
+        ensures time { H.time held.new ≡ H.time held.old }
+        ensures along { TakesInPolls H.ends_at H.goes_along (log_of N.base told.new) held.old held.new }
         ensures seen { StaysOrSeesAll told.old told.new }
         ensures own { U.own up.new ≡ U.own up.old }
         ensures history { U.history up.new ≡ U.history up.old }
@@ -130,6 +133,8 @@ fn poll_until<N: LogFacts, H: Held<N>, U: Upstream<N>>(
     ensures window { H.window held.new ≡ H.window held.old }
     ensures base { H.base held.new ≡ H.base held.old }
     ensures rebuilds { H.rebuilds held.new ≡ H.rebuilds held.old }
+    ensures time { H.time held.new ≡ H.time held.old }
+    ensures along { TakesInPolls H.ends_at H.goes_along (log_of N.base told.new) held.old held.new }
     ensures seen { StaysOrSeesAll told.old told.new }
     ensures own { U.own up.new ≡ U.own up.old }
     ensures history { U.history up.new ≡ U.history up.old }

@@ -1,7 +1,8 @@
 //! Bringing a cache to a revision.
 
-ghost use Rattle.std.specs.Prelude.{◌≡◌, ◌≤◌, ◌<◌, ◌+◌, ◌⊎◌, ℕ, Ok, None, Some, IfOk, IfErr, OnErr, IfSome, option_map};
+ghost use Rattle.std.specs.Prelude.{◌≡◌, ◌≤◌, ◌<◌, ◌+◌, ◌⊎◌, ℕ, Ok, None, Some, IfOk, IfErr, OnErr, OnOk, IfSome, option_map};
 ghost use Rattle.up_api.specs.Sections.{log_of, Learns, StaysOrSeesAll, StandsAt, Knows, raised_once};
+ghost use Rattle.reflect_core.specs.Along.{GoesTo, TakesInPolls};
 ghost use Rattle.reflect_core.specs.Pumps.{generation_of, unmoved, GoesOn, IsKnown, HasCause, RisesFor, MayRiseFor, raised, raised_where_told};
 
 use crate::following::Followed;
@@ -41,6 +42,7 @@ impl Reflector {
         ensures same { (self.new.resource ≡ self.old.resource) × (self.new.batch ≡ self.old.batch) }
         ensures resource { H.resource held.new ≡ H.resource held.old }
         ensures window { H.window held.new ≡ H.window held.old }
+        ensures time { H.time held.new ≡ H.time held.old }
         ensures base { (H.base held.new ≡ H.base held.old) ⊎ (H.base held.new ≤ told.new.floor) }
         ensures seen { StaysOrSeesAll told.old told.new }
         ensures onward { H.ends_at held.old ≤ H.ends_at held.new }
@@ -55,6 +57,9 @@ impl Reflector {
         ensures goes_on { IfOk result (λ pumped. H.ends_at held.old < until → pumped.rebuilds ≡ 0 →
             GoesOn (log_of N.base told.new) self.old self.new told.old told.new
             (H.ends_at held.old) until (H.ends_at held.new) pumped.cuts) }
+        ensures along { IfOk result (λ pumped.
+            GoesTo H.ends_at H.goes_along H.begins_anew (log_of N.base told.new) pumped.rebuilds held.old held.new) }
+        ensures along_partly { OnErr result (TakesInPolls H.ends_at H.goes_along (log_of N.base told.new) held.old held.new) }
         ensures rebuilds { IfOk result (λ pumped. (pumped.rebuilds ≤ 1) × (H.rebuilds held.new ≡ raised pumped.rebuilds (H.rebuilds held.old))) }
         ensures reads { IfOk result (λ pumped. U.reads up.new ≡ raised_where_told pumped.rebuilds (U.reads up.old)) }
         ensures cause { IfOk result (λ pumped. pumped.rebuilds ≡ 1 →
@@ -93,6 +98,7 @@ impl Reflector {
         ensures same { (self.new.resource ≡ self.old.resource) × (self.new.batch ≡ self.old.batch) }
         ensures resource { H.resource held.new ≡ H.resource held.old }
         ensures window { H.window held.new ≡ H.window held.old }
+        ensures time { H.time held.new ≡ H.time held.old }
         ensures base { (H.base held.new ≡ H.base held.old) ⊎ (H.base held.new ≤ told.new.floor) }
         ensures seen { StaysOrSeesAll told.old told.new }
         ensures onward { H.ends_at held.old ≤ H.ends_at held.new }
@@ -104,6 +110,9 @@ impl Reflector {
         ensures cuts { IfOk result (λ pumped. (1 ≤ pumped.cuts) × (pumped.cuts ≤ 2) × (told.old.gen + pumped.cuts ≤ told.new.gen + 1)) }
         ensures goes_on { IfOk result (λ pumped. pumped.rebuilds ≡ 0 →
             GoesOn (log_of N.base told.new) self.old self.new told.old told.new (H.ends_at held.old) until (H.ends_at held.new) 0) }
+        ensures along { IfOk result (λ pumped.
+            GoesTo H.ends_at H.goes_along H.begins_anew (log_of N.base told.new) pumped.rebuilds held.old held.new) }
+        ensures along_partly { OnErr result (TakesInPolls H.ends_at H.goes_along (log_of N.base told.new) held.old held.new) }
         ensures rebuilds { IfOk result (λ pumped. (pumped.rebuilds ≤ 1) × (H.rebuilds held.new ≡ raised pumped.rebuilds (H.rebuilds held.old))) }
         ensures reads { IfOk result (λ pumped. U.reads up.new ≡ raised_where_told pumped.rebuilds (U.reads up.old)) }
         ensures cause { IfOk result (λ pumped. pumped.rebuilds ≡ 1 →
@@ -139,6 +148,7 @@ fn rebuild<N: LogFacts, H: Held<N>, U: Upstream<N>>(
     ensures stands { StandsAt (H.stands_for held.new) N.base told.new (H.ends_at held.new) }
     ensures resource { H.resource held.new ≡ H.resource held.old }
     ensures window { H.window held.new ≡ H.window held.old }
+    ensures time { H.time held.new ≡ H.time held.old }
     ensures base { (H.base held.new ≡ H.base held.old) ⊎ (H.base held.new ≤ told.new.floor) }
     ensures seen { StaysOrSeesAll told.old told.new }
     ensures onward { H.ends_at held.old ≤ H.ends_at held.new }
@@ -149,7 +159,8 @@ fn rebuild<N: LogFacts, H: Held<N>, U: Upstream<N>>(
     ensures end { IfOk result (λ pumped. pumped.end ≡ H.ends_at held.new) }
     ensures answer { IfOk result (λ pumped. (pumped.cuts ≡ cuts) × (pumped.rebuilds ≡ 1)) }
     ensures rebuilds { IfOk result (λ pumped. H.rebuilds held.new ≡ raised_once (H.rebuilds held.old)) }
-    ensures kept { OnErr result (H.rebuilds held.new ≡ H.rebuilds held.old) }
+    ensures begins { OnOk result (H.begins_anew held.old held.new) }
+    ensures kept { OnErr result (held.new ≡ held.old) }
     ensures reads { U.reads up.new ≡ option_map raised_once (U.reads up.old) }
 {
     let history = up.history(resource, told)?;

@@ -32,6 +32,15 @@ pub trait Held<N: LogFacts> {
     // the revision up to which it stands for the log
     ghost ends_at: { Self → ℕ };
 
+    // the greatest time that it was told
+    ghost time: { Self → ℕ };
+
+    // what it made of itself, and told its watchers, by taking in what came of this log up to its new end
+    ghost goes_along: { Log → Self → Self → Type 0 };
+
+    // what it made of itself, and told its watchers, as it was built anew
+    ghost begins_anew: { Self → Self → Type 0 };
+
     /// The revision up to which it stands for the log.
     fn end(&self) -> u64
         ensures { result ≡ ends_at self.now };
@@ -45,6 +54,8 @@ pub trait Held<N: LogFacts> {
         ensures stands { StandsAt (stands_for self.new) N.base told.new (ends_at self.new) }
         ensures done { OnOk result (ends_at self.new ≡ polled.now.upto) }
         ensures partly { OnErr result ((polled.now.from ≤ ends_at self.new) × (ends_at self.new ≤ polled.now.upto)) }
+        ensures along { goes_along (log_of N.base told.old) self.old self.new }
+        ensures time { time self.new ≡ time self.old }
         ensures resource { resource self.new ≡ resource self.old }
         ensures window { window self.new ≡ window self.old }
         ensures base { base self.new ≡ base self.old }
@@ -58,6 +69,8 @@ pub trait Held<N: LogFacts> {
         ensures stands { StandsAt (stands_for self.new) N.base told.new (ends_at self.new) }
         ensures done { OnOk result (ends_at self.new ≡ history.upto) }
         ensures base { OnOk result (base self.new ≡ history.floor) }
+        ensures anew { OnOk result (begins_anew self.old self.new) }
+        ensures time { time self.new ≡ time self.old }
         ensures rebuilds { OnOk result (rebuilds self.new ≡ raised_once (rebuilds self.old)) }
         ensures kept { OnErr result (self.new ≡ self.old) }
         ensures resource { resource self.new ≡ resource self.old }

@@ -1,6 +1,7 @@
 use Rattle.std.proofs.Common.{◌-◌, ◌≡◌, ◌≤◌, ◌⊎◌}
 use Rattle.std.specs.Prelude.{IfSome}
 use Rattle.up_api.specs.Sections.{log_of, Learns, StaysOrSeesAll, Knows, StandsAt}
+use Rattle.reflect_core.specs.Along.{TakesInPolls}
 use Rattle.reflect_core.specs.Pumps.{LastPoll}
 use Rattle.reflect_core.proofs.following.poll_until.Given as goal
 
@@ -17,6 +18,8 @@ invariant-loop-feed g l = record {
   window : g.H.Held.window l.held ≡ g.H.Held.window l.fn.held;
   base : g.H.Held.base l.held ≡ g.H.Held.base l.fn.held;
   rebuilds : g.H.Held.rebuilds l.held ≡ g.H.Held.rebuilds l.fn.held;
+  time : g.H.Held.time l.held ≡ g.H.Held.time l.fn.held;
+  along : TakesInPolls g.H.Held.ends_at g.H.Held.goes_along (log_of g.N.LogFacts.base l.told) l.fn.held l.held;
   seen : StaysOrSeesAll l.fn.told l.told;
   polled : (l.feed.upto ≡ l.fn.feed.upto) ⊎ ((l.told.gen ≡ l.feed.gen_) × LastPoll (log_of g.N.LogFacts.base l.told) l.fn.feed.resource l.batch (g.H.Held.ends_at l.fn.held) l.until (g.H.Held.ends_at l.held));
   own : g.U.Upstream.own l.up ≡ g.U.Upstream.own l.fn.up;
