@@ -4,7 +4,8 @@ use Rattle.std.specs.List.{list_any}
 use Rattle.std.specs.Map.{lookup}
 use Rattle.std.specs.Ordering.{is_eq, nat_cmp}
 use Rattle.kube_meta.specs.declared.objects.Obj.{Obj}
-use Rattle.field_select.specs.Meaning.{wanted}
+use Rattle.kube_meta.specs.Keys.{is_in, name_of}
+use Rattle.field_select.specs.Meaning.{wanted, wanted_name}
 use Rattle.select_all.specs.declared.selection.Selection.{Selection}
 
 -- the place of the field among the listed fields, and each lane's number with its selection
@@ -21,25 +22,40 @@ pub record Sets (old new : IndexData) (id : ℕ) (s : Option Selection) : Type 0
   pub field : new.field ≡ old.field
   pub lanes : (other : ℕ) → lane_at new.lanes other ≡ (if id == other then s else lane_at old.lanes other)
 
+-- the first of three texts that is there
+abbrev pub first_of : Option (List ℕ) → Option (List ℕ) → Option (List ℕ) → Option (List ℕ)
+first_of (Some name) value ns = Some name
+first_of None (Some value) ns = Some value
+first_of None None ns = ns
+
+-- the place of a selection: the name that it asks for, or else its value of the field, or else its namespace
+abbrev pub place_of : ℕ → Selection → Option (List ℕ)
+place_of field s = first_of (wanted_name s.fields) (wanted s.fields field) s.ns
+
 -- the value that an object has in a listed field; that of an absent one is empty
 abbrev pub value_in : ℕ → Obj → List ℕ
 value_in field obj = unwrap_or (slice_get obj.fields field) []
 
--- whether there is an object that has this value
-abbrev pub has_value : ℕ → Option Obj → List ℕ → Bool
-has_value field None value = false
-has_value field (Some obj) value = bytes_eq value (value_in field obj)
+-- whether an object is at a place: by its name, its value or its namespace
+abbrev pub is_at : ℕ → Obj → List ℕ → Bool
+is_at field obj place = bytes_eq place (name_of obj.key) || (bytes_eq place (value_in field obj) || is_in place obj.key)
 
--- a value that is asked for is near a change where the object before it or the one after it has it; and each
--- change is near those who ask for none
+-- whether there are both an object and a place, and it is there
+abbrev pub is_found : ℕ → Option Obj → Option (List ℕ) → Bool
+is_found field None place = false
+is_found field (Some obj) None = false
+is_found field (Some obj) (Some place) = is_at field obj place
+
+-- a place is near a change where the object before it or the one after it is there; and each change is near those
+-- that have none
 abbrev pub is_near : ℕ → Option Obj → Option Obj → Option (List ℕ) → Bool
 is_near field old new None = true
-is_near field old new (Some value) = has_value field old value || has_value field new value
+is_near field old new (Some place) = is_found field old (Some place) || is_found field new (Some place)
 
--- whether the index has a lane whose selection asks, on the field, for none or for a value that is near
+-- whether the index has a lane, and the place of its selection is near
 abbrev pub is_touched : ℕ → Option Obj → Option Obj → Option Selection → Bool
 is_touched field old new None = false
-is_touched field old new (Some s) = is_near field old new (wanted s.fields field)
+is_touched field old new (Some s) = is_near field old new (place_of field s)
 
 -- whether a number is in a list
 abbrev pub is_listed : List ℕ → ℕ → Bool

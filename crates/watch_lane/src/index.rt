@@ -1,13 +1,13 @@
 //! Which lanes a change may concern.
 
-ghost use Rattle.std.specs.Prelude.{◌≡◌, ℕ, ◌||◌, [], Some, None, IfOk, OnOk, OnErr, IsTrue, option_copied, option_map};
+ghost use Rattle.std.specs.Prelude.{◌≡◌, ℕ, ◌||◌, [], Some, None, IfOk, OnOk, OnErr, IsTrue, option_copied};
 ghost use Rattle.std.specs.Ordering.{nat_cmp};
 ghost use Rattle.std.specs.BTreeSet.{contains};
 ghost use Rattle.std.specs.List.Sorted.{IsStrictlyIncreasing};
 ghost use Rattle.select_all.specs.Selecting.{holds};
 ghost use Rattle.select_all.specs.declared.selection.Selection.{Selection as Asked};
-ghost use Rattle.watch_lane.specs.Index.{lane_at, Sets, value_in, is_touched, is_listed};
-ghost use Rattle.watch_lane.specs.Places.{stands, has_id};
+ghost use Rattle.watch_lane.specs.Index.{lane_at, Sets, place_of, value_in, is_touched, is_listed};
+ghost use Rattle.watch_lane.specs.Places.{finds, stands};
 
 use crate::places::{Places, join, listed};
 use kube_meta::{Memory, Obj};
@@ -16,9 +16,12 @@ use std::alloc::Global;
 use std::collections::{BTreeMap, BTreeSet};
 use std::marker::Model;
 
-/// Which lanes a change of an object may concern. A lane stands under a value where the first term of
-/// its field selector with `=` or `==` on one listed field names it; the others are always answered.
-/// Contracts see the numbers of the lanes with their selections.
+/// Which lanes a change of an object may concern. A lane stands under the name that its selection asks
+/// for; else under the value that it asks for in one listed field; else under its namespace. It asks for
+/// a name or a value by the first term of its field selector on it with `=` or `==`. The lanes that ask
+/// for none of these are always answered. Contracts see the numbers of the lanes with their selections.
+// So a change looks under three texts, that it has at hand. A lane of the same name in another namespace is found
+// too, and looks at the object itself.
 #[derive(Drop)]
 pub struct LaneIndex {
     alloc: Global,
@@ -36,7 +39,7 @@ impl Model for LaneIndex {
 
     ghost view = { λ x. record { field = x.field; lanes = x.lanes.entries } };
 
-    ghost invariant = { λ x. (value : Option (List ℕ)) (id : ℕ) → stands x.places value id ≡ asks x.field value (lane_at x.lanes.entries id) };
+    ghost invariant = { λ x. (place : Option (List ℕ)) (id : ℕ) → stands x.places place id ≡ asks x.field place (lane_at x.lanes.entries id) };
 }
 
 impl LaneIndex {
@@ -62,12 +65,12 @@ impl LaneIndex {
     {
         self.drop_lane(id);
         let copy = selection.copy(self.alloc)?;
-        let value = selection.fields.wanted(self.field);
-        self.places.put(self.alloc, value, id)?;
+        let place = place_of(self.field, selection);
+        self.places.put(self.alloc, place, id)?;
         match self.lanes.insert(id, copy) {
             Ok(_) => Ok(()),
             Err(_) => {
-                self.places.leave(value, id);
+                self.places.leave(place, id);
                 Err(Memory)
             }
         }
@@ -78,7 +81,7 @@ impl LaneIndex {
         ensures { Sets self.old self.new id None }
     {
         if let Some(selection) = self.lanes.remove(&id) {
-            self.places.leave(selection.fields.wanted(self.field), id);
+            self.places.leave(place_of(self.field, &selection), id);
         }
     }
 
@@ -87,26 +90,56 @@ impl LaneIndex {
     pub fn touched(&self, old: Option<&Obj>, new: Option<&Obj>) -> Result<Vec<u64>, Memory>
         // Each once, in rising order.
         ensures rising { IfOk result (λ ids. IsStrictlyIncreasing ids.items) }
-        // Those that ask for no value of the field, or for one that the object has before or after.
+        // Those that stand where the object is before or after, and those that stand nowhere.
         ensures exact { IfOk result (λ ids. (id : ℕ) → is_listed ids.items id ≡ is_touched self.now.field (option_copied old.entry) (option_copied new.entry) (lane_at self.now.lanes id)) }
         // All lanes to which the change is an event.
         ensures events { IfOk result (λ ids. (id : ℕ) (s : Asked) → lane_at self.now.lanes id ≡ Some s → IsTrue (holds s (option_copied old.entry) || holds s (option_copied new.entry)) → IsTrue (is_listed ids.items id)) }
     {
         let mut ids = BTreeSet::new(self.alloc);
         join(&mut ids, &self.places.others)?;
-        self.places.join_under(&mut ids, value_in(self.field, old))?;
-        self.places.join_under(&mut ids, value_in(self.field, new))?;
+        self.join_found(&mut ids, old)?;
+        self.join_found(&mut ids, new)?;
         listed(self.alloc, &ids)
+    }
+
+    // Takes the lanes that stand where an object is into a set.
+    fn join_found(&self, ids: &mut BTreeSet<u64>, obj: Option<&Obj>) -> Result<(), Memory>
+        ensures { OnOk result ((i : ℕ) → contains nat_cmp ids.new i ≡ (contains nat_cmp ids.old i || finds self.now.field (option_copied obj.entry) (lane_at self.now.lanes i))) }
+    {
+        match obj {
+            Some(obj) => {
+                let value = value_in(self.field, obj);
+                self.places.join_under(ids, obj.key.name())?;
+                self.places.join_under(ids, value)?;
+                self.places.join_under(ids, obj.key.ns())
+            }
+            None => Ok(()),
+        }
+    }
+}
+
+// The place of a selection: the name that it asks for, or else its value of the field, or else its namespace.
+fn place_of(field: usize, selection: &Selection) -> Option<&str>
+    ensures { option_copied result ≡ place_of field selection.now }
+{
+    if let Some(name) = selection.fields.wanted_name() {
+        return Some(name);
+    }
+    if let Some(value) = selection.fields.wanted(field) {
+        return Some(value);
+    }
+    match &selection.ns {
+        Some(ns) => Some(ns.as_str()),
+        None => None,
     }
 }
 
 // The object's value of the listed field; that of an absent one is empty.
-fn value_in(field: usize, obj: Option<&Obj>) -> Option<&str>
-    ensures { option_copied result ≡ option_map (value_in field) (option_copied obj.entry) }
+fn value_in(field: usize, obj: &Obj) -> &str
+    ensures { result.now ≡ value_in field obj.now }
 {
-    let obj = obj?;
     match obj.fields.get(field) {
-        Some(value) => Some(value.as_str()),
-        None => Some(""),
+        Some(value) => value.as_str(),
+        None => "",
     }
 }

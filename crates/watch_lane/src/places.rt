@@ -1,4 +1,4 @@
-//! Where lanes stand: under a value of a field, or under none.
+//! Where lanes stand: under a text, or under none.
 
 ghost use Rattle.std.specs.Prelude.{◌≡◌, ◌==◌, ℕ, false, true, not, ◌&&◌, ◌||◌, List, Option, Some, None, bytes_eq, IfOk, OnOk, OnErr, option_copied};
 ghost use Rattle.std.specs.Ordering.{nat_cmp};
@@ -6,62 +6,59 @@ ghost use Rattle.std.specs.BTreeSet.{contains};
 ghost use Rattle.std.specs.HashMap.{get_by_text};
 ghost use Rattle.std.specs.List.Sorted.{IsStrictlyIncreasing};
 ghost use Rattle.watch_lane.specs.Index.{is_listed};
-ghost use Rattle.watch_lane.specs.Places.{has_id, same_value, stands, stands_under};
+ghost use Rattle.watch_lane.specs.Places.{has_id, same_text, stands};
 
 use indexmap::IndexMap;
 use kube_meta::Memory;
 use std::alloc::Global;
 use std::collections::BTreeSet;
 
-/// Where lanes stand: under a value, or under none.
+/// Where lanes stand: under a text, or under none.
 #[derive(Drop)]
 pub struct Places {
-    pub by_value: IndexMap<String, BTreeSet<u64>>,
+    pub by_text: IndexMap<String, BTreeSet<u64>>,
     pub others: BTreeSet<u64>,
 }
 
 impl Places {
     /// No lane stands anywhere.
     pub fn new(alloc: Global) -> Places
-        ensures { (value : Option (List ℕ)) (id : ℕ) → stands result value id ≡ false }
+        ensures { (text : Option (List ℕ)) (id : ℕ) → stands result text id ≡ false }
     {
         Places {
-            by_value: IndexMap::new(alloc),
+            by_text: IndexMap::new(alloc),
             others: BTreeSet::new(alloc),
         }
     }
 
-    /// Puts a lane under a value, or under none.
-    pub fn put(&mut self, alloc: Global, value: Option<&str>, id: u64) -> Result<(), Memory>
-        ensures ok { OnOk result ((v : Option (List ℕ)) (i : ℕ) → stands self.new v i ≡ (same_value (option_copied value.entry) v && (id == i) || stands self.old v i)) }
+    /// Puts a lane under a text, or under none.
+    pub fn put(&mut self, alloc: Global, text: Option<&str>, id: u64) -> Result<(), Memory>
+        ensures ok { OnOk result ((v : Option (List ℕ)) (i : ℕ) → stands self.new v i ≡ (same_text (option_copied text.entry) v && (id == i) || stands self.old v i)) }
         ensures err { OnErr result ((v : Option (List ℕ)) (i : ℕ) → stands self.new v i ≡ stands self.old v i) }
     {
-        match value {
-            Some(value) => put_under(&mut self.by_value, alloc, value, id),
+        match text {
+            Some(text) => put_under(&mut self.by_text, alloc, text, id),
             None => put_among(&mut self.others, id),
         }
     }
 
     /// Takes a lane from there.
-    pub fn leave(&mut self, value: Option<&str>, id: u64)
-        ensures { (v : Option (List ℕ)) (i : ℕ) → stands self.new v i ≡ (not (same_value (option_copied value.entry) v && (id == i)) && stands self.old v i) }
+    pub fn leave(&mut self, text: Option<&str>, id: u64)
+        ensures { (v : Option (List ℕ)) (i : ℕ) → stands self.new v i ≡ (not (same_text (option_copied text.entry) v && (id == i)) && stands self.old v i) }
     {
-        match value {
-            Some(value) => leave_under(&mut self.by_value, value, id),
+        match text {
+            Some(text) => leave_under(&mut self.by_text, text, id),
             None => {
                 self.others.remove(&id);
             }
         }
     }
 
-    /// Takes the lanes that stand under a value into a set.
-    pub fn join_under(&self, ids: &mut BTreeSet<u64>, value: Option<&str>) -> Result<(), Memory>
-        ensures { OnOk result ((i : ℕ) → contains nat_cmp ids.new i ≡ (contains nat_cmp ids.old i || stands_under self.now (option_copied value.entry) i)) }
+    /// Takes the lanes that stand under a text into a set.
+    pub fn join_under(&self, ids: &mut BTreeSet<u64>, text: &str) -> Result<(), Memory>
+        ensures { OnOk result ((i : ℕ) → contains nat_cmp ids.new i ≡ (contains nat_cmp ids.old i || stands self.now (Some text.now) i)) }
     {
-        let Some(value) = value else {
-            return Ok(());
-        };
-        match self.by_value.get(value) {
+        match self.by_text.get(text) {
             Some(group) => join(ids, group),
             None => Ok(()),
         }
@@ -79,32 +76,32 @@ fn put_among(ids: &mut BTreeSet<u64>, id: u64) -> Result<(), Memory>
 fn put_under(
     groups: &mut IndexMap<String, BTreeSet<u64>>,
     alloc: Global,
-    value: &str,
+    text: &str,
     id: u64,
 ) -> Result<(), Memory>
-    ensures ok { OnOk result ((v : List ℕ) (i : ℕ) → has_id (get_by_text groups.new v) i ≡ (bytes_eq value.now v && (id == i) || has_id (get_by_text groups.old v) i)) }
+    ensures ok { OnOk result ((v : List ℕ) (i : ℕ) → has_id (get_by_text groups.new v) i ≡ (bytes_eq text.now v && (id == i) || has_id (get_by_text groups.old v) i)) }
     ensures err { OnErr result ((v : List ℕ) (i : ℕ) → has_id (get_by_text groups.new v) i ≡ has_id (get_by_text groups.old v) i) }
 {
-    if let Some(ids) = groups.get_mut(value) {
+    if let Some(ids) = groups.get_mut(text) {
         return put_among(ids, id);
     }
-    let name = String::from_str(alloc, value)?;
+    let key = String::from_str(alloc, text)?;
     let mut ids = BTreeSet::new(alloc);
     put_among(&mut ids, id)?;
-    groups.insert(name, ids)?;
+    groups.insert(key, ids)?;
     Ok(())
 }
 
-// A value under which none is left is forgotten.
-fn leave_under(groups: &mut IndexMap<String, BTreeSet<u64>>, value: &str, id: u64)
-    ensures { (v : List ℕ) (i : ℕ) → has_id (get_by_text groups.new v) i ≡ (not (bytes_eq value.now v && (id == i)) && has_id (get_by_text groups.old v) i) }
+// A text under which none is left is forgotten.
+fn leave_under(groups: &mut IndexMap<String, BTreeSet<u64>>, text: &str, id: u64)
+    ensures { (v : List ℕ) (i : ℕ) → has_id (get_by_text groups.new v) i ≡ (not (bytes_eq text.now v && (id == i)) && has_id (get_by_text groups.old v) i) }
 {
-    let Some(ids) = groups.get_mut(value) else {
+    let Some(ids) = groups.get_mut(text) else {
         return;
     };
     ids.remove(&id);
     if ids.is_empty() {
-        groups.swap_remove(value);
+        groups.swap_remove(text);
     }
 }
 

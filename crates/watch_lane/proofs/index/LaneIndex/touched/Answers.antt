@@ -8,11 +8,11 @@ use Rattle.watch_lane.proofs.Numbers.{none_in_empty}
 use Rattle.watch_lane.proofs.index.LaneIndex.touched.Goals as goal
 
 -- what the set has in the end
-has : (c : goal.After-drop-ids-2) (id : ℕ) → contains nat_cmp c.join_under-2.new.ids id ≡ is_touched c.args.self.now.field (option_copied c.args.old) (option_copied c.args.new) (lane_at c.args.self.now.lanes id)
-has c id = looked c.args.self.now c.self.inside.field c.self.inside.lanes.entries c.self.inside.places (option_copied c.args.old) (option_copied c.args.new) (option_copied c.value_in.result) (option_copied c.value_in-2.result) id
-    (contains nat_cmp c.new-ids.result id) (contains nat_cmp c.join.new.ids id) (contains nat_cmp c.join_under.new.ids id) (contains nat_cmp c.join_under-2.new.ids id)
-    c.self.view_is (λ v. c.self.invariant v id) c.value_in.ensures c.value_in-2.ensures
-    (none_in_empty c.new-ids.result id c.new-ids.ensures.empty) (c.in_ok-join.ensures id) (c.in_ok-join_under.ensures id) (c.in_ok-join_under-2.ensures id)
+has : (c : goal.After-drop-ids-2) (id : ℕ) → contains nat_cmp c.join_found-2.new.ids id ≡ is_touched c.args.self.now.field (option_copied c.args.old) (option_copied c.args.new) (lane_at c.args.self.now.lanes id)
+has c id = looked c.args.self.now c.self.inside.field c.self.inside.lanes.entries c.self.inside.places (option_copied c.args.old) (option_copied c.args.new) id
+    (contains nat_cmp c.new-ids.result id) (contains nat_cmp c.join.new.ids id) (contains nat_cmp c.join_found.new.ids id) (contains nat_cmp c.join_found-2.new.ids id)
+    c.self.view_is (λ p. c.self.invariant p id)
+    (none_in_empty c.new-ids.result id c.new-ids.ensures.empty) (c.in_ok-join.ensures id) (c.in_ok-join_found.ensures id) (c.in_ok-join_found-2.ensures id)
 
 pub returns-clause-exact : goal.returns-clause-exact
 returns-clause-exact c = IfOk-weaker c.listed.result _ _ (λ ids all id. all id ∙ has c id) c.listed.ensures.all
