@@ -1,5 +1,5 @@
 -- The open lanes of a cache: what is kept of each, and what the calls of the cache make of them.
-use Rattle.std.specs.Prelude.{◌≡◌, ◌==◌, ℕ, Bool, false, List, [], ◌++◌, Option, Some, None, option_map, if◌then◌else◌}
+use Rattle.std.specs.Prelude.{◌≡◌, ◌==◌, ℕ, Bool, false, List, [], ◌++◌, map, count_by, Option, Some, None, option_map, if◌then◌else◌}
 use Rattle.std.specs.Map.{lookup}
 use Rattle.std.specs.Ordering.{is_eq, nat_cmp}
 use Rattle.kube_meta.specs.declared.resources.Resource.{Resource}
@@ -33,6 +33,10 @@ AreOf resource lanes = Each (λ o. o.lane.selection.resource ≡ resource) lanes
 -- those that aren't behind miss nothing up to the cache's end
 abbrev pub AreInStep : Log → ℕ → List (ℕ × OpenLaneData) → Type 0
 AreInStep log end lanes = Each (λ o. IsInStep log end o.lane) lanes
+
+-- how many are behind
+abbrev pub count_behind : List (ℕ × OpenLaneData) → ℕ
+count_behind lanes = count_by (λ o. o.lane.behind) (map (λ entry. entry.1) lanes)
 
 -- the lane at a place is open, for this selection, and isn't behind: its watch gets all that comes
 abbrev pub GetsAll : Selection → Option OpenLaneData → Type 0

@@ -1,6 +1,7 @@
 //! The cache with its lanes.
 
-ghost use Rattle.std.specs.Prelude.{◌≡◌, ◌≤◌, ◌<◌, ◌↔◌, ℕ, max, [], None, Some, Err, IfOk, IfErr, IfSome, IfNone, IsSome, IsTrue, OnOk, OnErr};
+ghost use Rattle.std.specs.Prelude.{◌≡◌, ◌≤◌, ◌<◌, ◌↔◌, ℕ, max, List, [], length, None, Some, Err, IfOk, IfErr, IfSome, IfNone, IsSome, IsTrue, OnOk, OnErr};
+ghost use Rattle.kube_meta.specs.Rows.{RowData};
 ghost use Rattle.rev_log.specs.Logs.{Log};
 ghost use Rattle.rev_log.specs.States.{IsStateAt};
 ghost use Rattle.up_api.specs.Feeds.{IsFed, IsHistory};
@@ -10,7 +11,7 @@ ghost use Rattle.cache_core.specs.Caches.{RefusesAt};
 ghost use Rattle.cache_core.specs.Feeding.{IsBuilt, IsRebuilt, Stays};
 ghost use Rattle.cache_hub.specs.Catching.{IsCaught, RefusesCatch};
 ghost use Rattle.cache_hub.specs.Hubs.{StandsFor, OnlyLanes, HasCaughtUp};
-ghost use Rattle.cache_hub.specs.OpenLanes.{AreTold, AreChanged, GetsAll, GoesAlong, SetsLane, newly_open, left_behind, open_at};
+ghost use Rattle.cache_hub.specs.OpenLanes.{AreTold, AreChanged, GetsAll, GoesAlong, SetsLane, count_behind, newly_open, left_behind, open_at};
 ghost use Rattle.cache_hub.specs.declared.catching.CatchNo.TheVariants.{Lost};
 
 use crate::catching::{CatchNo, Caught, first_lines};
@@ -18,6 +19,7 @@ use crate::lanes::Lanes;
 use bells::Bell;
 use cache_core::{AtNo, Cache};
 use kube_meta::{Memory, Resource};
+use metrics::CacheMetrics;
 use obj_tree::Snapshot;
 use select_all::Selection;
 use std::alloc::Global;
@@ -32,6 +34,8 @@ pub struct Hub<N: LogFacts> {
     alloc: Global,
     cache: Cache,
     rebuilds: u64,
+    // How many events polls gave it, up to 2^64 - 1. Only a monitor is told of it.
+    received: u64,
     lanes: Lanes<N>,
 }
 
@@ -66,6 +70,7 @@ impl<N: LogFacts> Hub<N> {
             alloc,
             cache,
             rebuilds: 0,
+            received: 0,
             lanes: Lanes::new(alloc, settings.lane),
         })
     }
@@ -82,6 +87,28 @@ impl<N: LogFacts> Hub<N> {
         ensures { result ≡ self.now.cache.end }
     {
         self.cache.end()
+    }
+
+    /// What a monitor is told of it. `cuts` is how often its feed was found cut, which it can't know itself.
+    pub fn metrics(&self, cuts: u64) -> CacheMetrics
+        ensures end { result.end ≡ self.now.cache.end }
+        ensures objects { (log : Log) → StandsFor log self.now →
+            (rows : List RowData) × IsStateAt log self.now.cache.resource self.now.cache.end rows × (result.objects ≡ length rows) }
+        ensures ring { (result.window ≡ self.now.cache.ring.capacity) × (result.floor ≡ self.now.cache.ring.floor) }
+        ensures lanes { (result.watchers ≡ length self.now.lanes.all) × (result.behind ≡ count_behind self.now.lanes.all) }
+        ensures counts { (result.rebuilds ≡ self.now.rebuilds) × (result.cuts ≡ cuts) }
+    {
+        CacheMetrics {
+            end: self.cache.end(),
+            objects: self.cache.len() as u64,
+            window: self.cache.window() as u64,
+            floor: self.cache.floor(),
+            received: self.received,
+            watchers: self.lanes.len() as u64,
+            behind: self.lanes.count_behind() as u64,
+            rebuilds: self.rebuilds,
+            cuts,
+        }
     }
 
     /// The objects at the cache's end. Later changes don't show in it.
@@ -224,6 +251,7 @@ impl<N: LogFacts> Hub<N> {
         let mut fresh = Vec::new(self.alloc);
         let fed = self.cache.apply(polled, &mut fresh);
         self.lanes.tell(&fresh, self.cache.end(), told);
+        self.received = self.received.saturating_add(fresh.len() as u64);
         fed
     }
 
@@ -249,6 +277,7 @@ impl<N: LogFacts> Hub<N> {
 
 impl<N: LogFacts> Held<N> for Hub<N> {
     ghost use Rattle.cache_hub.specs.Hubs.{StandsFor};
+    ghost use Rattle.cache_hub.specs.OpenLanes.{AreTold, AreChanged, left_behind};
 
     ghost resource = { λ h. h.cache.resource };
 
@@ -261,6 +290,12 @@ impl<N: LogFacts> Held<N> for Hub<N> {
     ghost stands_for = { λ h log. StandsFor log h };
 
     ghost ends_at = { λ h. h.cache.end };
+
+    ghost time = { λ h. h.cache.time };
+
+    ghost goes_along = { λ log old new. AreTold log new.cache.end old.lanes.all new.lanes.all };
+
+    ghost begins_anew = { λ old new. AreChanged left_behind old.lanes.all new.lanes.all };
 
     fn end(&self) -> u64 {
         self.cache.end()

@@ -1,10 +1,10 @@
 //! The lanes of a cache.
 
-ghost use Rattle.std.specs.Prelude.{◌≡◌, ◌≤◌, ◌↔◌, ℕ, Bool, true, [], ◌++◌, None, Some, option_map, unwrap_or, IfOk, IsTrue, OnOk, OnErr};
+ghost use Rattle.std.specs.Prelude.{◌≡◌, ◌≤◌, ◌↔◌, ℕ, Bool, true, [], ◌++◌, length, None, Some, option_map, unwrap_or, IfOk, IsTrue, OnOk, OnErr};
 ghost use Rattle.rev_front.specs.Passes.{end_from};
 ghost use Rattle.up_api.specs.Sections.{log_of};
 ghost use Rattle.cache_hub.specs.Due.{AddsEach, AddsTo, AllDue, AreReady, AreWaiting, IsWaiting, due_at, lines_at, missed};
-ghost use Rattle.cache_hub.specs.OpenLanes.{OpenLaneData, GetsAll, GoesAlong, LaneCaughtUp, SetsLane, AreChanged, AreTold, told_lane, caught_up, left_behind, newly_open, open_at};
+ghost use Rattle.cache_hub.specs.OpenLanes.{OpenLaneData, GetsAll, GoesAlong, LaneCaughtUp, SetsLane, AreChanged, AreTold, told_lane, caught_up, left_behind, count_behind, newly_open, open_at};
 
 use crate::calling::{hand_over_all, hang, strike};
 use crate::due::{Waiting, put_line};
@@ -21,8 +21,8 @@ use up_api::{LogFacts, Pass};
 use watch_lane::{LaneIndex, LaneOut, Line, lane};
 
 /// The lanes of a cache under their numbers, which are never used again, and the index that finds those which a
-/// change may concern. It is on the first listed field; of a resource that has none, all lanes are looked at. Beside
-/// them stand the numbers of the lanes whose watchers are called, each once.
+/// change may concern: by name, by the first listed field, or by namespace. Beside them stand the
+/// numbers of the lanes whose watchers are called, each once.
 #[derive(Drop)]
 pub(crate) struct Lanes<N: LogFacts> {
     alloc: Global,
@@ -167,6 +167,20 @@ impl<N: LogFacts> Lanes<N> {
         }
     }
 
+    /// How many lanes are open.
+    pub fn len(&self) -> usize
+        ensures { result ≡ length self.now.all }
+    {
+        self.lanes.len()
+    }
+
+    /// How many of these are behind.
+    pub fn count_behind(&self) -> usize
+        ensures { result ≡ count_behind self.now.all }
+    {
+        behind_among(&self.lanes)
+    }
+
     /// Leaves all lanes behind.
     pub fn lag(&mut self)
         ensures behind { AreChanged left_behind self.old.all self.new.all }
@@ -302,6 +316,12 @@ fn send_to<N: LogFacts>(
     if let Some(lane) = lanes.get_mut(&id) {
         lane.take(alloc, lines, end, told, called);
     }
+}
+
+fn behind_among<N: LogFacts>(lanes: &BTreeMap<u64, OpenLane<N>>) -> usize
+    ensures { result ≡ count_behind lanes.now.entries }
+{
+    lanes.values().filter(|lane| lane.is_behind()).count()
 }
 
 fn lag_all<N: LogFacts>(lanes: &mut BTreeMap<u64, OpenLane<N>>, called: &mut Vec<u64>)

@@ -225,6 +225,13 @@ impl<N: LogFacts> OpenLane<N> {
         self.fall_behind(called);
     }
 
+    /// Whether it is behind.
+    pub fn is_behind(&self) -> bool
+        ensures { result ≡ self.now.lane.behind }
+    {
+        self.behind
+    }
+
     /// Whether the lane is for this selection and isn't behind.
     pub fn gets_all(&self, selection: &Selection) -> bool
         ensures { IsTrue result ↔ GetsAll selection.now (Some self.now) }

@@ -1,5 +1,5 @@
 -- What the calls of a hub make of its lanes is what steps make of the watches in the world.
-use Rattle.std.proofs.Common.{◌≡◌, ◌≢◌, ◌⊎◌, ℕ, ◌-◌, ◌≤◌, max, Bool, true, false, List, [], ◌∷◌, ◌++◌, drop, length, Option, Some, None, option_map, option_to_list, inl, inr, nat_eq, cond, eqb-true, eq-eqb, take-append-drop, append_assoc, append-nil, length-append, length-take, refl, sym, ap, ◌∙◌, subst, arith}
+use Rattle.std.proofs.Common.{◌≡◌, ◌≢◌, ◌⊎◌, ℕ, ◌-◌, ◌<◌, ◌≤◌, max, Bool, true, false, List, [], ◌∷◌, ◌++◌, drop, length, Option, Some, None, option_map, option_to_list, inl, inr, nat_eq, cond, eqb-true, eq-eqb, take-append-drop, append_assoc, append-nil, length-append, length-take, refl, sym, ap, ◌∙◌, subst, arith}
 use Rattle.std.proofs.lemmas.Bool.{cases_Bool, cases_lt}
 use Rattle.kube_meta.specs.declared.resources.Resource.{Resource}
 use Rattle.rev_log.specs.Changes.{RevisionData}
@@ -10,8 +10,9 @@ use Rattle.select_all.specs.Streams.{TransitionData, transitions}
 use Rattle.select_all.specs.Floors.{IsFloorOk}
 use Rattle.select_all.proofs.FloorSteps.{floors_are_kept}
 use Rattle.select_all.proofs.StreamLaws.{transitions_are_kept, no_transitions}
+use Rattle.up_api.specs.Feeds.{HistoryData}
 use Rattle.cache_core.specs.Caches.{CacheData, log_at}
-use Rattle.cache_core.specs.Feeding.{Stays}
+use Rattle.cache_core.specs.Feeding.{Stays, IsRebuilt}
 use Rattle.cache_world.specs.Lanes.{LaneData, BatchData, Batches, MissesNothing, IsPlacePumped, ArePumped, unsent, lane_after, queue_after, pumped_lane, queued, rebuilt_lane, caught_lane}
 use Rattle.cache_world.specs.World.{WatchData, World}
 use Rattle.cache_world.specs.Steps.{MayPump, caught_watch, after}
@@ -23,7 +24,7 @@ use Rattle.cache_world.proofs.TieLemmas.{are_computed, pumps_are_steps, rebuilds
 use Rattle.cache_hub.specs.Catching.{CaughtData, EndsWith, IsCaught}
 use Rattle.cache_hub.specs.Hubs.{HubData, StandsFor, OnlyLanes, HasCaughtUp}
 use Rattle.cache_hub.specs.OpenLanes.{OpenLaneData, GoesAlong, AreTold, AreChanged, SetsLane, told_lane, caught_up, newly_open, left_behind, open_at}
-use Rattle.hub_world.specs.HubSteps.{sent_of, view_of, IsHubIn, HasReceived, HasWatch, PollsArePumps, HistoriesAreRebuilds, LanesOpen, LanesCatchUp, LanesGoAlong, LanesAreLost, LanesClose}
+use Rattle.hub_world.specs.HubSteps.{sent_of, view_of, IsHubIn, HasReceived, HasWatch, IsWatchAt, IsPump, IsRebuild, IsOpening, IsCatchUp, IsLoss, IsClosing}
 
 -- ---- logs
 
@@ -164,8 +165,10 @@ polls_in world number log more old new same stands within told = (
   subst (λ (l : Log). AreTold l new.cache.end old.lanes.all new.lanes.all) (sym same) (told_grown log more new.cache.end old.lanes.all new.lanes.all within told),
 )
 
-pub polls_are_pumps : PollsArePumps
-polls_are_pumps world number log more old new same is stands kept base onward within rises told =
+pub polls_are_pumps : (log : Log) (old new : HubData) → StandsFor (log_at log new.cache.end) new → Stays old.cache new.cache → new.cache.base ≡ old.cache.base →
+    old.cache.end ≤ new.cache.end → new.cache.end ≤ end_of log → old.cache.ring.floor ≤ new.cache.ring.floor → AreTold log new.cache.end old.lanes.all new.lanes.all →
+    IsPump log old new
+polls_are_pumps log old new stands kept base onward within rises told world number more same is =
     let here = polls_in world number log more old new same stands within told in
     let made = pumps_are_steps world old.cache.resource number (view_of old) (view_of new) (batches world number old new is kept base onward here.0 rises here.1 here.2) is.has
     (may world number old new is kept base onward here.0 rises here.1 here.2) base (pumped world number old new is kept base onward here.0 rises here.1 here.2) in (
@@ -189,9 +192,10 @@ all_behind old new changed n = ap lane_in (changed n) ∙ at_place (open_at old 
     at_place None = refl
     at_place (Some o) = refl
 
-pub histories_are_rebuilds : HistoriesAreRebuilds
-histories_are_rebuilds world number history old new is floor upto stands rebuilt changed =
-    let floor_ok = floor_of world.log world.log [] new (sym (cut_none world.log)) stands in
+pub histories_are_rebuilds : (log : Log) (history : HistoryData) (old new : HubData) → StandsFor (log_at log new.cache.end) new → IsRebuilt history old.cache new.cache →
+    AreChanged left_behind old.lanes.all new.lanes.all → IsRebuild log history old new
+histories_are_rebuilds log history old new stands rebuilt changed world number same is floor upto =
+    let floor_ok = floor_of world.log world.log [] new (sym (cut_none world.log)) (subst (λ (l : Log). StandsFor (log_at l new.cache.end) new) (sym same) stands) in
     let step = rebuilds_are_steps world old.cache.resource number (view_of old) (view_of new) is.has (rebuilt.end ∙ upto) (rebuilt.base ∙ floor)
     (floor_named world.log world.log new.cache.resource old.cache.resource new.cache.ring.window world.window new.cache.ring.window_max world.window_max new.cache.base new.cache.base new.cache.end new.cache.ring.floor
     refl rebuilt.stays.resource (rebuilt.stays.window ∙ sym is.window) (rebuilt.stays.window_max ∙ sym is.window_max) refl floor_ok)
@@ -210,11 +214,13 @@ histories_are_rebuilds world number history old new is floor upto stands rebuilt
 
 -- ---- lanes
 
-pub lanes_open : LanesOpen
-lanes_open world number next old new i s at is of none served renumbered free only sets =
+pub lanes_open : (old new : HubData) (id : ℕ) (s : Selection) (at : ℕ) → s.resource ≡ old.cache.resource → open_at old.lanes.all id ≡ None → OnlyLanes old new →
+    SetsLane old.lanes.all new.lanes.all id (Some (newly_open s at old.cache.end old.lanes.room)) → IsOpening id s at old new
+lanes_open old new id s at of free only sets world number next i is none served renumbered numbered =
     let step = opens_are_steps world number next (view_of old) (view_of new).lanes i s at
-    (subst (λ (r : Resource). HasHub world r number (view_of old)) (sym of) is.has) none served renumbered (ap lane_in free)
-    (set_changes old.lanes.all new.lanes.all (next i) (Some (newly_open s at old.cache.end old.lanes.room)) sets) in
+    (subst (λ (r : Resource). HasHub world r number (view_of old)) (sym of) is.has) none served renumbered (subst (λ (n : ℕ). lane_in (open_at old.lanes.all n) ≡ None) (sym numbered) (ap lane_in free))
+    (subst (λ (n : ℕ). AreChangedAt n (Some (newly_open s at old.cache.end old.lanes.room).lane) (view_of old).lanes (view_of new).lanes) (sym numbered)
+    (set_changes old.lanes.all new.lanes.all id (Some (newly_open s at old.cache.end old.lanes.room)) sets)) in
     record {
       allowed = step.allowed;
       is = lanes_alone (after world (Open i s at)) next old new only is.window is.window_max
@@ -281,35 +287,53 @@ caught_is_received world number old new i many watch caught is same of stands to
         ap (λ (l : Log). transitions l watch.lane.selection watch.position caught.upto) (sym (cut_log world.log old.cache.end))
         ∙ transitions_are_kept (selects watch.lane.selection) (log_at world.log old.cache.end) (drop (old.cache.end - world.log.first) world.log.revisions) watch.lane.selection.resource watch.position caught.upto (omega (arith, reach, ended))
 
-pub lanes_catch_up : LanesCatchUp
-lanes_catch_up world number old new i many watch caught is same of stands told served only set =
-    caught_is_received world number old new i many watch caught is same of stands told (inl served) only set
+-- what holds at the selection and the position of a watch
+at_watch : (world : World) (number : ℕ → ℕ) (i id : ℕ) (s : Selection) (at : ℕ) (watch : WatchData) (fact : Selection → ℕ → Type 0) → IsWatchAt world number i id s at watch → fact s at → fact watch.lane.selection watch.position
+at_watch world number i id s at watch fact there holds = subst (λ (z : Selection × ℕ). fact z.0 z.1) (λ k. (sym there.selects k, sym there.stands k)) holds
+
+pub lanes_catch_up : (old new : HubData) (id : ℕ) (s : Selection) (at many : ℕ) (caught : CaughtData) → ((log : Log) → StandsFor log old → IsCaught log s at old.cache.end many caught) →
+    old.cache.ring.floor ≤ at → OnlyLanes old new → HasCaughtUp (Some id) caught.upto old new → IsCatchUp id s at caught old new
+lanes_catch_up old new id s at many caught told served only set world number i watch is stands there of =
+    caught_is_received world number old new i many watch caught is there.watches (ap (λ (z : Selection). z.resource) there.selects ∙ of) stands
+    (at_watch world number i id s at watch (λ (z : Selection) (n : ℕ). IsCaught (log_at world.log old.cache.end) z n old.cache.end many caught) there (told (log_at world.log old.cache.end) stands))
+    (inl (at_watch world number i id s at watch (λ _ (n : ℕ). old.cache.ring.floor ≤ n) there served)) only
+    (subst (λ (n : ℕ). HasCaughtUp (Some n) caught.upto old new) (sym there.numbered) set)
 
 misses_nothing : (s : Selection) (at : ℕ) (place : Option OpenLaneData) (lane : LaneData) → lane_in place ≡ Some lane → GoesAlong s at place → MissesNothing lane at
 misses_nothing s at None lane there goes = absurd goes
 misses_nothing s at (Some o) lane there goes = let same : o.lane ≡ lane = cc in subst (λ (l : LaneData). MissesNothing l at) same goes.1
 
-pub lanes_go_along : LanesGoAlong
-lanes_go_along world number old new i many watch caught is same of stands told goes only set =
-    caught_is_received world number old new i many watch caught is same of stands told
-    (inr (misses_nothing watch.lane.selection watch.position (open_at old.lanes.all (number i)) watch.lane (lane_there world number old i watch is same of) goes)) only set
+pub lanes_go_along : (old new : HubData) (id : ℕ) (s : Selection) (at many : ℕ) (caught : CaughtData) → ((log : Log) → StandsFor log old → IsCaught log s at old.cache.end many caught) →
+    GoesAlong s at (open_at old.lanes.all id) → OnlyLanes old new → HasCaughtUp (Some id) caught.upto old new → IsCatchUp id s at caught old new
+lanes_go_along old new id s at many caught told goes only set world number i watch is stands there of =
+    let same = ap (λ (z : Selection). z.resource) there.selects ∙ of in
+    caught_is_received world number old new i many watch caught is there.watches same stands
+    (at_watch world number i id s at watch (λ (z : Selection) (n : ℕ). IsCaught (log_at world.log old.cache.end) z n old.cache.end many caught) there (told (log_at world.log old.cache.end) stands))
+    (inr (misses_nothing watch.lane.selection watch.position (open_at old.lanes.all (number i)) watch.lane (lane_there world number old i watch is there.watches same)
+    (at_watch world number i id s at watch (λ (z : Selection) (n : ℕ). GoesAlong z n (open_at old.lanes.all (number i))) there
+    (subst (λ (n : ℕ). GoesAlong s at (open_at old.lanes.all n)) (sym there.numbered) goes)))) only
+    (subst (λ (n : ℕ). HasCaughtUp (Some n) caught.upto old new) (sym there.numbered) set)
 
-pub lanes_are_lost : LanesAreLost
-lanes_are_lost world number old new i watch is same of below only sets =
-    let step = losses_are_steps world number (view_of old) (view_of new).lanes i watch (subst (λ (r : Resource). HasHub world r number (view_of old)) (sym of) is.has) same below
-    (set_changes old.lanes.all new.lanes.all (number i) None sets) in (
+pub lanes_are_lost : (old new : HubData) (id : ℕ) (s : Selection) (at : ℕ) → s.resource ≡ old.cache.resource → at < old.cache.ring.floor → OnlyLanes old new →
+    SetsLane old.lanes.all new.lanes.all id None → IsLoss id s at old new
+lanes_are_lost old new id s at of below only sets world number i watch is there =
+    let step = losses_are_steps world number (view_of old) (view_of new).lanes i watch
+    (at_watch world number i id s at watch (λ (z : Selection) _. HasHub world z.resource number (view_of old)) there (subst (λ (r : Resource). HasHub world r number (view_of old)) (sym of) is.has))
+    there.watches (at_watch world number i id s at watch (λ _ (n : ℕ). n < old.cache.ring.floor) there below)
+    (subst (λ (n : ℕ). AreChangedAt n None (view_of old).lanes (view_of new).lanes) (sym there.numbered) (set_changes old.lanes.all new.lanes.all id None sets)) in (
       record {
         allowed = step.0.allowed;
         is = lanes_alone (after world (Lose i)) number old new only is.window is.window_max
-            (subst (λ (r : Resource). HasHub (after world (Lose i)) r number (record (view_of old) { lanes = (view_of new).lanes })) of step.0.shows);
+            (subst (λ (r : Resource). HasHub (after world (Lose i)) r number (record (view_of old) { lanes = (view_of new).lanes })) (ap (λ (z : Selection). z.resource) there.selects ∙ of) step.0.shows);
       },
-      step.1,
+      subst (λ (z : Selection × ℕ). ((after world (Lose i)).clients i).losses ≡ (world.clients i).losses ++ record { resource = z.0.resource; at = z.1; floor = old.cache.ring.floor } ∷ [])
+          (λ k. (there.selects k, there.stands k)) step.1,
     )
 
-pub lanes_close : LanesClose
-lanes_close world number old new i watch is same of only sets =
+pub lanes_close : (old new : HubData) (id : ℕ) → OnlyLanes old new → SetsLane old.lanes.all new.lanes.all id None → IsClosing id old new
+lanes_close old new id only sets world number i watch is same numbered of =
     let step = closes_are_steps world number (view_of old) (view_of new).lanes i watch (subst (λ (r : Resource). HasHub world r number (view_of old)) (sym of) is.has) same
-    (set_changes old.lanes.all new.lanes.all (number i) None sets) in
+    (subst (λ (n : ℕ). AreChangedAt n None (view_of old).lanes (view_of new).lanes) (sym numbered) (set_changes old.lanes.all new.lanes.all id None sets)) in
     record {
       allowed = step.allowed;
       is = lanes_alone (after world (Close i)) number old new only is.window is.window_max
