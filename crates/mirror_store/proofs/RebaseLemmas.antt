@@ -105,18 +105,18 @@ module _ (old mid new : MirrorLogData) (rows : List RowData) (base : ℕ) (still
   pub rests_on : Rests mid new → Rests old new
   rests_on then = record { selection = then.selection ∙ still.selection; log = then.log ∙ still.log; kept = then.kept ∙ still.kept }
 
-  refused : (after : MirrorLogData) (why : RebaseNo) → Rests old after → IsStoreRefusal old why → Rebases old rows base (Err why) after
+  refused : (after : MirrorLogData) (why : RebaseNo) → Rests old after → IsStoreRefusal old why after → Rebases old rows base (Err why) after
   refused after (Behind to) stays why = absurd why
   refused after OtherLog stays why = absurd why
   refused after TooFar stays why = absurd why
   refused after (Passed at) stays why = (stays, why)
   refused after Memory stays why = stays
 
-  moved : (why : RebaseNo) → IsStoreRefusal mid why → IsStoreRefusal old why
+  moved : (why : RebaseNo) → IsStoreRefusal mid why new → IsStoreRefusal old why new
   moved (Behind to) is = is
   moved OtherLog is = is
   moved TooFar is = is
-  moved (Passed at) is = omega (arith, is, ap end_of still.log)
+  moved (Passed at) is = (omega (arith, is.0, ap end_of still.log), is.1)
   moved Memory is = is
 
   pub rebases : (state : List RowData) (revisions : List RevisionData) (answer : Result ℕ RebaseNo) → IsStateAt old.log Pods (end_of old.log) state → Bridges (end_of old.log) state base rows revisions

@@ -1,5 +1,5 @@
 -- What becomes of a mirror's log where it is to begin anew.
-use Rattle.std.specs.Prelude.{◌≡◌, ℕ, ◌+◌, ◌<◌, List, [], Result, Ok, Err}
+use Rattle.std.specs.Prelude.{◌≡◌, ℕ, ◌+◌, ◌<◌, ◌⊎◌, List, [], Result, Ok, Err}
 use Rattle.kube_meta.specs.Rows.{RowData}
 use Rattle.kube_meta.specs.declared.resources.Resource.TheVariants.{Pods}
 use Rattle.rev_log.specs.Changes.{RevisionData}
@@ -14,7 +14,7 @@ use Rattle.mirror_bridge.specs.declared.refusal.BridgeNo.TheVariants as between
 use Rattle.mirror_bridge.specs.Bridges.{MayBeOfOneLog}
 use Rattle.mirror_store.specs.declared.refusal.RebaseNo.{RebaseNo}
 use Rattle.mirror_store.specs.declared.refusal.RebaseNo.TheVariants.{Behind, OtherLog, TooFar, Passed, Memory}
-use Rattle.mirror_store.specs.MirrorLogs.{MirrorLogData, Rests}
+use Rattle.mirror_store.specs.MirrorLogs.{MirrorLogData, Rests, seen_to}
 
 -- It began anew from rows that stand at a later revision: the log, grown up to there, has them, what is below is no longer
 -- served, and nothing is kept.
@@ -33,24 +33,28 @@ pub record IsOfOtherLog (old : MirrorLogData) (rows : List RowData) (base : ℕ)
   pub is_state : IsStateAt old.log Pods (end_of old.log) state
   pub other : ¬ MayBeOfOneLog (end_of old.log) state base rows
 
+-- the store has passed the log's end: it has reached this revision, or its floor is there, as the pass knows now
+abbrev pub IsPassed : MirrorLogData → ℕ → MirrorLogData → Type 0
+IsPassed old at new = (end_of old.log < at) × ((at ≡ seen_to new) ⊎ (at ≡ new.told.floor))
+
 -- what is answered, and what becomes of the log: where it doesn't begin anew, it stays
 abbrev pub Rebases : MirrorLogData → List RowData → ℕ → Result ℕ RebaseNo → MirrorLogData → Type 0
 Rebases old rows base (Ok to) new = IsRebased old rows base new × (to ≡ base)
 Rebases old rows base (Err (Behind to)) new = Rests old new × (to ≡ end_of old.log) × (base < to)
 Rebases old rows base (Err OtherLog) new = Rests old new × IsOfOtherLog old rows base
 Rebases old rows base (Err TooFar) new = Rests old new × (end_of old.log + 4000000 < base)
-Rebases old rows base (Err (Passed at)) new = Rests old new × (end_of old.log < at)
+Rebases old rows base (Err (Passed at)) new = Rests old new × IsPassed old at new
 Rebases old rows base (Err Memory) new = Rests old new
 
 -- ---- its steps
 
 -- why the store refused one of them
-abbrev pub IsStoreRefusal : MirrorLogData → RebaseNo → Type 0
-IsStoreRefusal old (Behind to) = ⊥
-IsStoreRefusal old OtherLog = ⊥
-IsStoreRefusal old TooFar = ⊥
-IsStoreRefusal old (Passed at) = end_of old.log < at
-IsStoreRefusal old Memory = Unit {0}
+abbrev pub IsStoreRefusal : MirrorLogData → RebaseNo → MirrorLogData → Type 0
+IsStoreRefusal old (Behind to) new = ⊥
+IsStoreRefusal old OtherLog new = ⊥
+IsStoreRefusal old TooFar new = ⊥
+IsStoreRefusal old (Passed at) new = IsPassed old at new
+IsStoreRefusal old Memory new = Unit {0}
 
 -- revisions were added, up to a revision that is the floor now, and nothing is kept
 pub record HasAdded (old : MirrorLogData) (revisions : List RevisionData) (to : ℕ) (new : MirrorLogData) : Type 0 where
@@ -62,7 +66,7 @@ pub record HasAdded (old : MirrorLogData) (revisions : List RevisionData) (to : 
 
 abbrev pub CommitsAll : MirrorLogData → List RevisionData → Result ℕ RebaseNo → MirrorLogData → Type 0
 CommitsAll old revisions (Ok to) new = HasAdded old revisions to new
-CommitsAll old revisions (Err why) new = Rests old new × IsStoreRefusal old why
+CommitsAll old revisions (Err why) new = Rests old new × IsStoreRefusal old why new
 
 -- ---- refusals
 

@@ -45,7 +45,7 @@ impl<N: LogFacts, R: Wait + Copy> MirrorLog<N, R> {
         ensures learns { Learns self.old.told self.new.told }
         ensures rests { Rests self.old self.new }
         ensures rows { IfOk result (λ rows. IsStateAt self.old.log Pods (end_of self.old.log) rows.items) }
-        ensures refused { IfErr result (IsStoreRefusal self.old) }
+        ensures refused { IfErr result (λ why. IsStoreRefusal self.old why self.new) }
     {
         let to = self.intake.to();
         // What a pass is, the proof learns where it reads it.
