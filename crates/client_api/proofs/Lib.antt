@@ -1,3 +1,4 @@
 pub mod LawLemmas
 pub mod CallingLemmas
 pub mod PageLemmas
+pub mod MeteredLemmas

@@ -44,7 +44,7 @@ abbrev pub SoleRead : {A : Type 0} → Pass RevisionData → Result A ListNo →
 SoleRead p (Err list_no.Memory) q = q.seen ≡ p.seen
 SoleRead p answer q = IsSoleRead p q
 
--- a turn of a watch
+-- a turn of a watch, or metrics
 abbrev pub SoleTake : {A : Type 0} → Pass RevisionData → Result A AllocError → Pass RevisionData → Type 0
 SoleTake p (Ok took) q = IsSoleRead p q
 SoleTake p (Err memory) q = q.seen ≡ p.seen

@@ -7,6 +7,7 @@ pub mod Lists
 pub mod Gets
 pub mod Starts
 pub mod Turns
+pub mod Metered
 pub mod Alone
 pub mod Caches
 pub mod Laws

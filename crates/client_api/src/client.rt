@@ -1,6 +1,6 @@
 //! What a client of a log promises.
 
-ghost use Rattle.std.specs.Prelude.{◌≡◌, ◌≤◌, ℕ, max, Bool, List, Option, None, IsSome, OnOk, IfSome};
+ghost use Rattle.std.specs.Prelude.{◌≡◌, ◌≤◌, ℕ, max, Bool, true, false, List, Option, None, IsSome, OnOk, IfSome};
 ghost use Rattle.kube_meta.specs.Rows.{RowData};
 ghost use Rattle.kube_meta.specs.declared.resources.Resource.{Resource};
 ghost use Rattle.rev_front.specs.Passes.{Pass};
@@ -12,6 +12,7 @@ ghost use Rattle.client_api.specs.Caches.{ListsCache, GetsCache, BeginsCache, Ta
 ghost use Rattle.client_api.specs.Facts.{Facts, Cached, IsOnward, ticked};
 ghost use Rattle.client_api.specs.Gets.{IsGetAnswer};
 ghost use Rattle.client_api.specs.Lists.{IsListAnswer};
+ghost use Rattle.client_api.specs.Metered.{AreMetricsAnswered};
 ghost use Rattle.client_api.specs.Starts.{IsWatchAnswer, begun_watch};
 ghost use Rattle.client_api.specs.Told.{IsToldRead, IsToldWrite, IsToldTx, IsToldOperation};
 ghost use Rattle.client_api.specs.Turns.{IsTurnAnswer, watch_left};
@@ -19,6 +20,7 @@ ghost use Rattle.client_api.specs.Turns.{IsTurnAnswer, watch_left};
 use crate::answers::{Begun, Got, ListNo, Listed, Took};
 use kube_meta::Memory;
 use list_rules::{GetAsk, ListAsk};
+use metrics::Metrics;
 use up_store::{OpNo, Operate, Transaction, TxWriteNo, WriteAsk, WriteNo, Written};
 use watch_rules::WatchAsk;
 
@@ -134,6 +136,20 @@ pub trait Client {
         ensures times { times self.new ≡ times self.old }
         ensures sole { whole self.old → SoleOperate (pass self.old) ask result (pass self.new) }
         ensures kept { whole self.old → IsToldOperation result → whole self.new };
+
+    /// What a monitor is told of the log, its caches and what was served. No cache is brought further for it.
+    fn metrics(&mut self) -> Result<Metrics, Memory>
+        ensures onward { IsOnward (pass self.old) (pass self.new) }
+        ensures answer { AreMetricsAnswered base (pass self.old) result (pass self.new) }
+        ensures facts { facts self.new ≡ facts self.old }
+        ensures times { times self.new ≡ times self.old }
+        ensures sole { whole self.old → SoleTake (pass self.old) result (pass self.new) }
+        ensures kept { whole self.old → OnOk result (whole self.new) }
+        ensures cached { whole self.old → cached self.new ≡ cached self.old };
+
+    /// Whether the log is kept up to date. That of a mirror isn't while it has lost its peer; any other always is.
+    fn is_ready(&self) -> bool
+        ensures { mirror ≡ false → result ≡ true };
 
     /// Is told a time, by which the age of events is judged.
     fn tick(&mut self, ms: u64)

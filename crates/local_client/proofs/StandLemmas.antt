@@ -22,6 +22,9 @@ use Rattle.up_api.proofs.SectionLemmas.{log_upto-end}
 use Rattle.up_store.specs.Stores.{StoreData}
 use Rattle.cache_hub.specs.Catching.{CaughtData, IsCaught}
 use Rattle.cache_hub.specs.Hubs.{StandsFor}
+use Rattle.metrics.specs.declared.caches.CacheMetrics.{CacheMetrics}
+use Rattle.client_api.specs.Metered.{IsCacheMetrics}
+use Rattle.client_api.proofs.MeteredLemmas.{metered_at}
 use Rattle.local_client.specs.Caches.{AreFollowing, CachesData, FollowOn, IsFollowing, ResourceCacheData, cache_of, end_at, times_of}
 use Rattle.local_client.specs.CachedLogs.{CachedLogData, GoesOn, window_of}
 use Rattle.local_client.specs.Watching.{IsTold}
@@ -113,6 +116,15 @@ module _ (base : List RowData) (now : CachedLogData) (store : StoreData) (caches
       subst (λ (r : Resource). IsStateAt (log_upto base told cache.hub.cache.end) r at rows) is.cache_is (state (log_upto base told cache.hub.cache.end) is.stands.stands) in
       subst (λ (l : CachedLogData). IsStateAt (log_of base l.pass) resource at rows × (at ≤ end_from l.pass.first l.pass.seen)) view
       (state_seen base told resource at cache.hub.cache.end rows low is.stands.begun is.stands.within there, omega (arith, low, is.stands.within))) states
+
+  -- what a monitor is told of a cache
+  pub metered_as : (resource : Resource) (cache : ResourceCacheData) (metrics : CacheMetrics) → cache ≡ cache_of caches resource → metrics.end ≡ cache.hub.cache.end →
+      ((log : Log) → StandsFor log cache.hub → (rows : List RowData) × IsStateAt log cache.hub.cache.resource cache.hub.cache.end rows × (metrics.objects ≡ length rows)) →
+      IsCacheMetrics base resource now.pass metrics
+  metered_as resource cache metrics of same objects =
+      let is : IsFollowing base caches.pods.hub.cache.ring.window resource told cache = subst (λ (c : ResourceCacheData). IsFollowing base caches.pods.hub.cache.ring.window resource told c) (sym of) (following resource) in
+      subst (λ (l : CachedLogData). IsCacheMetrics base resource l.pass metrics) view
+      (metered_at (λ log. StandsFor log cache.hub) base told cache.hub.cache.resource resource cache.hub.cache.end metrics is.cache_is same is.stands objects)
 
   -- what a watch is told
   pub told_as : {E : Type 0} (s : Selection) (at many : ℕ) (answer : Result CaughtData E) → 1 ≤ many →

@@ -1,7 +1,9 @@
 //! A log that nobody else holds, with a cache of each resource.
 
 ghost use Rattle.std.specs.Prelude.{◌≡◌, ℕ, ◌≤◌, ◌<◌, max, [], false, IfOk, IfErr, OnOk};
-ghost use Rattle.rev_front.specs.Passes.{end_from, pass_from};
+ghost use Rattle.rev_front.specs.Passes.{Extends, IsPass, Pass as PassData, end_from, pass_from};
+ghost use Rattle.rev_log.specs.Changes.{RevisionData};
+ghost use Rattle.rev_log.specs.Logs.{Fits};
 ghost use Rattle.rev_log.specs.States.{IsStateAt};
 ghost use Rattle.select_all.specs.Floors.{IsEvicted};
 ghost use Rattle.up_api.specs.Sections.{HasSeenAll, log_of};
@@ -11,11 +13,12 @@ ghost use Rattle.up_store.specs.Stores.{KnowsAll};
 ghost use Rattle.up_store.specs.Transacting.{answers_in};
 ghost use Rattle.up_store.specs.declared.operations.Operate.TheVariants as operations;
 ghost use Rattle.cache_hub.specs.Catching.{RefusesCatch};
-ghost use Rattle.client_api.specs.Alone.{SoleWrite, SoleTransact, SoleOperate};
-ghost use Rattle.client_api.specs.Facts.{with_time};
+ghost use Rattle.client_api.specs.Alone.{IsSoleRead, SoleWrite, SoleTransact, SoleOperate};
+ghost use Rattle.client_api.specs.Facts.{HasLoaded, with_time};
+ghost use Rattle.client_api.specs.Metered.{AreMetrics, IsCacheMetrics};
 ghost use Rattle.local_client.specs.Caches.{AreBuiltAnew, AreFollowing, cache_of, end_at, times_of};
 ghost use Rattle.local_client.specs.CachedLogs.{IsNewLog, GoesOn, KnowsWhole, cached_in, window_of};
-ghost use Rattle.local_client.specs.Following.{HasFollowed, ReadsFor, StaysWholeIfTold};
+ghost use Rattle.local_client.specs.Following.{HasFollowed, ReadsFor, StaysWhole, StaysWholeIfTold};
 ghost use Rattle.local_client.specs.Reads.{IsReadBehind, IsStateAnswer};
 ghost use Rattle.local_client.specs.Watching.{IsTold};
 
@@ -25,6 +28,7 @@ use cache_core::AtNo;
 use cache_hub::{CatchNo, Caught};
 use client_api::ListNo;
 use kube_meta::{Memory, Resource};
+use metrics::{CacheMetrics, Metrics};
 use obj_tree::Snapshot;
 use rev_front::Blank;
 use rev_log::Revision;
@@ -177,6 +181,41 @@ impl<N: LogFacts> CachedLog<N> {
         Ok(loaded)
     }
 
+    /// What a monitor is told of the log and its caches.
+    pub fn metrics(&mut self) -> Metrics
+        ensures goes_on { GoesOn self.old self.new }
+        ensures answer { AreMetrics N.base self.old.pass result self.new.pass }
+        ensures sole { KnowsWhole self.old → StaysWhole self.old self.new }
+        ensures cached { cached_in self.new ≡ cached_in self.old }
+    {
+        let generation = see_all(&mut self.store, &mut self.told);
+        self.measure(generation)
+    }
+
+    // The same, once all of the log was seen and has this generation.
+    fn measure(&self, generation: u64) -> Metrics
+        requires generation { generation ≡ self.now.pass.gen }
+        ensures { (p : PassData RevisionData) → HasLoaded p self.now.pass → self.now.pass.last ≤ end_from self.now.pass.first self.now.pass.seen →
+            AreMetrics N.base p result self.now.pass }
+    {
+        Metrics {
+            revision: self.told.end(),
+            floor: self.told.floor(),
+            generation,
+            pods: Some(self.cache_metrics(Resource::Pods)),
+            config_maps: Some(self.cache_metrics(Resource::ConfigMaps)),
+            deployments: Some(self.cache_metrics(Resource::Deployments)),
+            served: None,
+        }
+    }
+
+    // What the cache of a resource tells a monitor.
+    fn cache_metrics(&self, resource: Resource) -> CacheMetrics
+        ensures { IsCacheMetrics N.base resource self.now.pass result }
+    {
+        self.caches.of(resource).metrics()
+    }
+
     /// The revision up to which the log is seen.
     pub fn seen(&self) -> u64
         ensures { result ≡ end_from self.now.pass.first self.now.pass.seen }
@@ -294,4 +333,24 @@ fn caches_of<N: LogFacts>(
     store.tell(&mut told);
     let _known = told.shown();
     both(caches, Ok(told))
+}
+
+// Loads the revision that the log has reached and its generation, and sees all of the log. Answers the generation: the
+// store knows no later one then.
+fn see_all<N: LogFacts>(store: &mut Store<N>, told: &mut Pass<N>) -> u64
+    ensures log { store.new ≡ store.old }
+    ensures extends { Extends told.old told.new }
+    ensures lawful { IsPass Fits told.new }
+    ensures loaded { HasLoaded told.old told.new }
+    ensures fresh { told.new.last ≤ end_from told.new.first told.new.seen }
+    ensures generation { result ≡ told.new.gen }
+    ensures tells { KnowsAll store.new.whole told.new }
+    ensures sole { KnowsAll store.old.whole told.old → IsSoleRead told.old told.new }
+{
+    let _loaded = told.look();
+    store.tell(told);
+    let generation = told.look_gen();
+    store.tell(told);
+    let _known = told.shown();
+    generation
 }

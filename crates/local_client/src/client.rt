@@ -17,6 +17,7 @@ use cache_answers::{found, listed, revision_alone};
 use client_api::{Begun, Client, Got, ListNo, Listed, Took, too_large};
 use kube_meta::Memory;
 use list_rules::{GetAsk, ListAsk};
+use metrics::Metrics;
 use rev_front::Blank;
 use rev_log::Revision;
 use std::alloc::Global;
@@ -136,6 +137,14 @@ impl<N: LogFacts> Client for LocalClient<N> {
 
     fn operate(&mut self, ask: Operate) -> Result<u64, OpNo> {
         self.log.operate(ask)
+    }
+
+    fn metrics(&mut self) -> Result<Metrics, Memory> {
+        Ok(self.log.metrics())
+    }
+
+    fn is_ready(&self) -> bool {
+        true
     }
 
     fn tick(&mut self, ms: u64) {

@@ -1,6 +1,7 @@
 //! The cache of one resource, with what keeps it up to date.
 
-ghost use Rattle.std.specs.Prelude.{◌≡◌, ◌≤◌, ℕ, max, IfOk, IfErr, OnOk};
+ghost use Rattle.std.specs.Prelude.{◌≡◌, ◌≤◌, ℕ, max, List, length, IfOk, IfErr, OnOk};
+ghost use Rattle.kube_meta.specs.Rows.{RowData};
 ghost use Rattle.kube_meta.specs.declared.resources.Resource.{Resource as ResourceData};
 ghost use Rattle.rev_front.specs.Passes.{Pass as PassData};
 ghost use Rattle.rev_log.specs.Changes.{RevisionData};
@@ -17,6 +18,7 @@ ghost use Rattle.local_client.specs.Caches.{IsFollowing, FollowsOn};
 use cache_core::AtNo;
 use cache_hub::{CatchNo, Caught, Hub};
 use kube_meta::{Memory, Resource};
+use metrics::CacheMetrics;
 use obj_tree::Snapshot;
 use reflect_core::Reflector;
 use select_all::Selection;
@@ -25,13 +27,14 @@ use std::marker::Model;
 use up_api::{Held, LogFacts, Pass, Settings, Upstream};
 use up_store::Store;
 
-/// The cache of one resource, the reflector that keeps it up to date, and the greatest time that it was told. What is
-/// promised of any cache that is fed doesn't say that its time stays, so it is told that time again then.
+/// The cache of one resource, the reflector that keeps it up to date, and the greatest time that it was told, which it
+/// is told again behind each pump. Contracts don't see how often its feed was found cut.
 #[derive(Drop)]
 pub struct ResourceCache<N: LogFacts> {
     hub: Hub<N>,
     reflector: Reflector,
     heard: u64,
+    cuts: u64,
 }
 
 impl<N: LogFacts> Model for ResourceCache<N> {
@@ -68,6 +71,7 @@ impl<N: LogFacts> ResourceCache<N> {
             hub,
             reflector,
             heard: 0,
+            cuts: 0,
         })
     }
 
@@ -92,7 +96,8 @@ impl<N: LogFacts> ResourceCache<N> {
     {
         let pumped = self.reflector.pump(&mut self.hub, store, told, until);
         self.hub.tick(self.heard);
-        pumped?;
+        let pumped = pumped?;
+        self.cuts = self.cuts.saturating_add(pumped.cuts);
         Ok(())
     }
 
@@ -131,6 +136,15 @@ impl<N: LogFacts> ResourceCache<N> {
         ensures { result ≡ self.now.hub.cache.ring.floor }
     {
         self.hub.floor()
+    }
+
+    /// What it tells a monitor.
+    pub fn metrics(&self) -> CacheMetrics
+        ensures end { result.end ≡ self.now.hub.cache.end }
+        ensures objects { (log : Log) → StandsFor log self.now.hub → (rows : List RowData) ×
+            IsStateAt log self.now.hub.cache.resource self.now.hub.cache.end rows × (result.objects ≡ length rows) }
+    {
+        self.hub.metrics(self.cuts)
     }
 
     /// The objects at its end.

@@ -12,6 +12,7 @@ use client_api::{Begun, Client, Got, ListNo, Listed, Took, too_large};
 use encode_once::Shown;
 use kube_meta::Memory;
 use list_rules::{GetAsk, ListAsk};
+use metrics::Metrics;
 use std::alloc::Global;
 use std::marker::Model;
 use up_store::{OpNo, Operate, Transaction, TxWriteNo, WriteAsk, WriteNo, Written};
@@ -145,6 +146,23 @@ impl Client for PlainClient {
             Operate::Compact { at } => self.log.compact(at),
             Operate::Restart => Ok(self.log.floor()),
         }
+    }
+
+    fn metrics(&mut self) -> Result<Metrics, Memory> {
+        let revision = self.log.look()?;
+        Ok(Metrics {
+            revision,
+            floor: self.log.floor(),
+            generation: self.log.generation(),
+            pods: None,
+            config_maps: None,
+            deployments: None,
+            served: None,
+        })
+    }
+
+    fn is_ready(&self) -> bool {
+        true
     }
 
     fn tick(&mut self, ms: u64) {

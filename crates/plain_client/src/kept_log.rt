@@ -72,6 +72,13 @@ impl KeptLog {
         self.floor
     }
 
+    /// The generation of feeds.
+    pub fn generation(&self) -> u64
+        ensures { result ≡ self.now.gen }
+    {
+        self.generation
+    }
+
     /// The revision of the empty log.
     pub fn first(&self) -> u64
         ensures first { result ≡ self.now.first }

@@ -2,3 +2,4 @@ pub mod KnowingLemmas
 pub mod CacheLemmas
 pub mod StandLemmas
 pub mod WatchLemmas
+pub mod MeasureLemmas

@@ -1,5 +1,5 @@
 -- What a cache that stands for the log up to its end tells whoever knows all that is known under its lock.
-use Rattle.std.proofs.Common.{◌≡◌, ℕ, ◌-◌, ◌≤◌, ◌<◌, max, inl, inr, List, drop, refl, ap, sym, ◌∙◌, subst, arith}
+use Rattle.std.proofs.Common.{◌≡◌, ℕ, ◌-◌, ◌≤◌, ◌<◌, max, inl, inr, List, length, drop, refl, ap, sym, ◌∙◌, subst, arith}
 use Rattle.std.specs.Prelude.{IfErr, IfOk, IfSome, Option, None, Some, Result, Ok, Err}
 use Rattle.std.proofs.lemmas.List.{take-append-drop}
 use Rattle.kube_meta.specs.Rows.{RowData}
@@ -21,6 +21,9 @@ use Rattle.cache_hub.specs.Catching.{CaughtData, IsCaught, RefusesCatch}
 use Rattle.cache_hub.specs.declared.catching.CatchNo.{CatchNo}
 use Rattle.cache_hub.specs.declared.catching.CatchNo.TheVariants.{Lost, Memory}
 use Rattle.cache_hub.specs.Hubs.{StandsFor}
+use Rattle.metrics.specs.declared.caches.CacheMetrics.{CacheMetrics}
+use Rattle.client_api.specs.Metered.{IsCacheMetrics}
+use Rattle.client_api.proofs.MeteredLemmas.{metered_at}
 use Rattle.shared_client.specs.Knowing.{KnowsAllOf}
 use Rattle.shared_client.specs.CacheStates.{CacheStateData, IsFollowing}
 use Rattle.shared_client.specs.Watching.{IsLostAt}
@@ -55,6 +58,11 @@ module _ (base : List RowData) (window : ℕ) (resource : Resource) (c : CacheSt
       let of_cache : IsStateAt there c.hub.cache.resource at rows = is there stands.stands in
       let grown_there : IsStateAt (grown there rest) c.hub.cache.resource at rows = IsStateAt-grown there rest c.hub.cache.resource at rows (omega (arith, low, end-there)) of_cache in
       subst (λ (z : Log × Resource). IsStateAt z.0 z.1 at rows) {x = (grown there rest, c.hub.cache.resource)} {y = (log_of base q, resource)} (λ i. (goes-on i, follows.cache_is i)) grown_there
+
+  -- what a monitor is told of it
+  pub metered_seen : (cache : CacheMetrics) → cache.end ≡ end → ((log : Log) → StandsFor log c.hub → (rows : List RowData) × IsStateAt log c.hub.cache.resource end rows × (cache.objects ≡ length rows)) →
+      IsCacheMetrics base resource q cache
+  metered_seen cache same objects = metered_at (λ log. StandsFor log c.hub) base q c.hub.cache.resource resource end cache follows.cache_is same stands objects
 
   -- a position below the floor of the ring
   pub lost_below : (s : Selection) (at : ℕ) → s.resource ≡ resource → at < c.hub.cache.ring.floor → IsLostAt base window s at q (Lost at c.hub.cache.ring.floor)

@@ -11,6 +11,8 @@ use Rattle.select_all.specs.declared.selection.Meaning.TheVariants.{MostRecent, 
 use Rattle.client_api.specs.declared.answers.ListNo.{ListNo}
 use Rattle.client_api.specs.declared.answers.ListNo.TheVariants.{Expired, TooLarge, Absent, Memory}
 use Rattle.client_api.specs.Facts.{HasLoaded}
+use Rattle.shared_client.specs.declared.reads.Found.{Found}
+use Rattle.shared_client.specs.declared.reads.Found.TheVariants.{State, Older}
 use Rattle.client_api.specs.Refusals.{revision_named, IsTooLarge, IsExpired}
 
 -- the revision that a meaning names, if it names one, was shown
@@ -52,6 +54,16 @@ pub record IsServed (base : List RowData) (resource : Resource) (meaning : Meani
   pub state : IsStateAt (log_of base q) resource at rows
   pub seen : at ≤ end_from q.first q.seen
   pub serves : Serves meaning shown at q
+
+-- What was found so: the objects, where the cache has them; or the one revision that will do, which was shown.
+abbrev pub IsFound : List RowData → Resource → Meaning → ℕ → Pass RevisionData → Found → Type 0
+IsFound base resource meaning shown q (State at rows) = IsServed base resource meaning shown q at rows
+IsFound base resource meaning shown q (Older at) = (meaning ≡ Exact at) × (at ≤ q.shown)
+
+-- the revision of what was found
+abbrev pub found_at : Found → ℕ
+found_at (State at rows) = at
+found_at (Older at) = at
 
 -- the only refusal: the one revision that will do is below the compaction floor
 abbrev pub IsUnserved : Meaning → Pass RevisionData → ListNo → Type 0

@@ -12,12 +12,13 @@ ghost use Rattle.cache_hub.specs.Catching.{IsCaught, RefusesCatch};
 ghost use Rattle.cache_hub.specs.declared.catching.CatchNo.TheVariants.{Lost};
 ghost use Rattle.cache_hub.specs.Hubs.{HasCaughtUp};
 ghost use Rattle.cache_hub.specs.OpenLanes.{AreChanged, GetsAll, GoesAlong, SetsLane, left_behind, newly_open, open_at};
+ghost use Rattle.client_api.specs.Metered.{IsCacheMetrics};
 ghost use Rattle.shared_client.specs.CacheStates.{GoesOn, IsBrokenOff, IsNewHub, IsPumped, IsSection, KeepsCache};
 ghost use Rattle.shared_client.specs.Knowing.{KnowsAllOf};
-ghost use Rattle.shared_client.specs.Serving.{IsServed, IsShown, IsUnserved, UnlessAlone};
+ghost use Rattle.shared_client.specs.Serving.{IsFound, IsServed, IsShown, IsUnserved, UnlessAlone, found_at};
 ghost use Rattle.shared_client.specs.Watching.{HasMore, IsLeftBehind, IsLostAt, IsTold};
 
-use crate::reads::kept_at;
+use crate::reads::Found;
 use crate::resources::OfResource;
 use bells::Bell;
 use cache_answers::{both, revision_alone};
@@ -25,6 +26,7 @@ use cache_core::AtNo;
 use cache_hub::{CatchNo, Caught, Hub};
 use client_api::ListNo;
 use kube_meta::{Memory, Resource};
+use metrics::CacheMetrics;
 use obj_tree::Snapshot;
 use reflect_core::{Pumped, Reflector};
 use select_all::{Meaning, Selection};
@@ -50,12 +52,14 @@ pub(crate) struct Turn {
 /// known.
 ///
 /// Each call meets the caller's pass first: the caller then knows all that is known under the lock, and makes no load.
+/// Contracts don't see how often the feed was found cut.
 #[derive(Drop)]
 pub struct CacheState<N: LogFacts, One: OfResource> {
     alloc: Global,
     hub: Hub<N>,
     reflector: Reflector,
     pass: Pass<N>,
+    cuts: u64,
     of: PhantomData<One>,
 }
 
@@ -91,6 +95,7 @@ impl<N: LogFacts, One: OfResource> CacheState<N, One> {
             hub,
             reflector,
             pass,
+            cuts: 0,
             of: PhantomData,
         })
     }
@@ -115,26 +120,30 @@ impl<N: LogFacts, One: OfResource> CacheState<N, One> {
     }
 
     /// The objects of the resource at a revision that will do for the meaning: the cache's end, once it was brought to
-    /// all that the caller was shown, or the one revision that the meaning asks for. Only that one can be refused,
-    /// where it is below the compaction floor, which is loaded then.
-    pub fn serve<R: Wait + Copy>(
+    /// all that the caller was shown, or the one revision that the meaning asks for. Where the cache doesn't go back to
+    /// that one it is only named: the caller reads it from upstream, and lets the cache's lock go before. Only that one
+    /// can be refused, where it is below the compaction floor, which is loaded then.
+    pub(crate) fn find<R: Wait + Copy>(
         &mut self,
         up: &mut StoreDoor<N, R>,
         told: &mut Pass<N>,
         meaning: Meaning,
-    ) -> Result<(u64, Snapshot), ListNo>
+    ) -> Result<Found, ListNo>
         requires shown { IsShown meaning told.old.shown }
         ensures section { IsSection self.old self.new told.old told.new }
-        ensures served { IfOk result (λ r. IsServed N.base One.resource meaning told.old.shown told.new r.0 r.1) }
-        ensures current { IfOk result (λ r. UnlessAlone meaning (r.0 ≡ self.new.hub.cache.end)) }
+        ensures found { IfOk result (IsFound N.base One.resource meaning told.old.shown told.new) }
+        ensures current { IfOk result (λ found. UnlessAlone meaning (found_at found ≡ self.new.hub.cache.end)) }
         ensures refused { IfErr result (IsUnserved meaning told.new) }
         ensures rebuilds { RisesFor (HasCause self.old.hub.cache.end told.old told.new) self.old.hub.rebuilds self.new.hub.rebuilds }
     {
         let shown = told.shown();
         self.pump(up, told, shown)?;
         match revision_alone(meaning) {
-            Some(at) => Ok((at, self.state_at(up, told, at)?)),
-            None => Ok(self.newest(told)?),
+            Some(at) => self.state_at(told, at),
+            None => {
+                let (at, state) = self.newest(told)?;
+                Ok(Found::State(at, state))
+            }
         }
     }
 
@@ -244,6 +253,23 @@ impl<N: LogFacts, One: OfResource> CacheState<N, One> {
         rebuilt
     }
 
+    /// What a monitor is told of the cache.
+    pub(crate) fn metrics(&mut self, told: &mut Pass<N>) -> CacheMetrics
+        ensures learns { Learns told.old told.new }
+        ensures metrics { IsCacheMetrics N.base One.resource told.new result }
+    {
+        self.share(told);
+        self.measure(told)
+    }
+
+    // The same, where the caller knows all that is known under the lock.
+    fn measure(&self, told: &Pass<N>) -> CacheMetrics
+        requires knows { KnowsAllOf self.now.pass told.now }
+        ensures { IsCacheMetrics N.base One.resource told.now result }
+    {
+        self.hub.metrics(self.cuts)
+    }
+
     /// Tells the cache the time, in milliseconds, by which the age of its events is judged. It never goes back.
     pub fn tick(&mut self, ms: u64)
         ensures { self.new ≡ record self.old { hub = record self.old.hub { cache = record self.old.hub.cache { time = max self.old.hub.cache.time ms } } } }
@@ -284,7 +310,9 @@ impl<N: LogFacts, One: OfResource> CacheState<N, One> {
         ensures served { IfOk result (λ r. IsServed N.base One.resource Any told.old.shown told.new r.0 r.1) }
         ensures refused { IfErr result (λ no. no ≡ ListNo.Memory) }
     {
-        let (at, state) = self.serve(up, told, Meaning::Any)?;
+        let shown = told.shown();
+        self.pump(up, told, shown)?;
+        let (at, state) = self.newest(told)?;
         let (state, lane) = both(Ok(state), self.lane(selection, at))?;
         self.ring_by(lane.0, bell);
         Ok((at, state, lane))
@@ -411,8 +439,11 @@ impl<N: LogFacts, One: OfResource> CacheState<N, One> {
         ensures pumped { IfOk result (IsPumped self.old self.new self.old.pass self.new.pass until) }
         ensures broken { OnErr result (IsBrokenOff self.old self.new self.old.pass self.new.pass) }
     {
-        self.reflector
-            .pump(&mut self.hub, up, &mut self.pass, until)
+        let pumped = self
+            .reflector
+            .pump(&mut self.hub, up, &mut self.pass, until);
+        self.cuts = self.cuts.saturating_add(cuts_in(&pumped));
+        pumped
     }
 
     // Builds the cache anew with what is known under the lock.
@@ -452,18 +483,12 @@ impl<N: LogFacts, One: OfResource> CacheState<N, One> {
         Ok((self.hub.end(), state))
     }
 
-    // The objects at one revision that the cache has reached: from the cache as far back as its ring goes, and from
-    // upstream below that.
-    fn state_at<R: Wait + Copy>(
-        &self,
-        up: &mut StoreDoor<N, R>,
-        told: &mut Pass<N>,
-        at: u64,
-    ) -> Result<Snapshot, ListNo>
+    // The objects at one revision that the cache has reached, where its ring goes back that far.
+    fn state_at(&self, told: &mut Pass<N>, at: u64) -> Result<Found, ListNo>
         requires knows { KnowsAllOf self.now.pass told.old }
         requires reached { at ≤ self.now.hub.cache.end }
         ensures learns { Learns told.old told.new }
-        ensures served { IfOk result (IsServed N.base One.resource (Exact at) 0 told.new at) }
+        ensures found { IfOk result (IsFound N.base One.resource (Exact at) 0 told.new) }
         ensures refused { IfErr result (IsUnserved (Exact at) told.new) }
     {
         let _known = told.shown();
@@ -472,8 +497,8 @@ impl<N: LogFacts, One: OfResource> CacheState<N, One> {
             return Err(ListNo::Expired { asked: at, floor });
         }
         match self.hub.at(at) {
-            Ok(state) => Ok(state),
-            Err(AtNo::Below { .. }) => kept_at(self.alloc, One::resource(), up, told, at),
+            Ok(state) => Ok(Found::State(at, state)),
+            Err(AtNo::Below { .. }) => Ok(Found::Older(at)),
             Err(AtNo::Memory) => Err(ListNo::Memory),
         }
     }
@@ -504,6 +529,14 @@ impl<N: LogFacts, One: OfResource> CacheState<N, One> {
         ensures kept { OnErr result (self.new.hub ≡ self.old.hub) }
     {
         self.hub.open_lane(selection, at)
+    }
+}
+
+// How many cuts a pump found, as far as it told.
+fn cuts_in(pumped: &Result<Pumped, Memory>) -> u64 {
+    match pumped {
+        Ok(pumped) => pumped.cuts,
+        Err(Memory) => 0,
     }
 }
 

@@ -13,6 +13,7 @@ ghost use Rattle.client_api.specs.Fresh.{IsFresh};
 ghost use Rattle.shared_client.specs.Serving.{IsRefused};
 
 use crate::cacher::Cacher;
+use crate::measuring::measure;
 use crate::reads::reach;
 use crate::watching::{Watch, begin, stand, turn};
 use bells::Bell;
@@ -20,6 +21,7 @@ use cache_answers::{both, found, listed};
 use client_api::{Begun, Client, Got, ListNo, Listed, Took};
 use kube_meta::{Memory, Resource};
 use list_rules::{GetAsk, ListAsk};
+use metrics::Metrics;
 use obj_tree::Snapshot;
 use select_all::Meaning;
 use std::sync::{Arc, Wait};
@@ -173,6 +175,14 @@ impl<N: LogFacts, R: Wait + Copy> Client for SharedClient<'_, N, R> {
             Operate::Compact { at } => compact(&self.door, &mut self.told, at),
             Operate::Restart => restart(self.cacher, &mut self.told),
         }
+    }
+
+    fn metrics(&mut self) -> Result<Metrics, Memory> {
+        measure(self.cacher, &mut self.door, &mut self.told)
+    }
+
+    fn is_ready(&self) -> bool {
+        true
     }
 
     fn tick(&mut self, ms: u64) {

@@ -1,10 +1,11 @@
 //! What reads load, and what they ask upstream.
 
-ghost use Rattle.std.specs.Prelude.{◌≡◌, ◌≤◌, IfOk, IfErr, IfSome, None};
+ghost use Rattle.std.specs.Prelude.{◌≡◌, ◌≤◌, ℕ, IfOk, IfErr, IfSome, None};
 ghost use Rattle.rev_front.specs.Passes.{Extends};
+ghost use Rattle.select_all.specs.declared.selection.Meaning.{Meaning as MeaningData};
 ghost use Rattle.select_all.specs.declared.selection.Meaning.TheVariants.{Exact};
 ghost use Rattle.up_api.specs.Sections.{Learns};
-ghost use Rattle.shared_client.specs.Serving.{IsReached, IsServed, IsUnreached, IsUnserved, needs_load};
+ghost use Rattle.shared_client.specs.Serving.{IsFound, IsReached, IsServed, IsUnreached, IsUnserved, found_at, needs_load};
 
 use cache_answers::snapshot_of;
 use client_api::{ListNo, too_large};
@@ -15,6 +16,15 @@ use std::alloc::Global;
 use std::sync::Wait;
 use up_api::{LogFacts, Pass, UpNo, Upstream};
 use up_store::StoreDoor;
+
+/// Where the objects at a revision are found.
+#[derive(Drop)]
+pub enum Found {
+    /// In the cache: the revision, and the objects there.
+    State(u64, Snapshot),
+    /// Upstream alone: at this revision, to which the cache doesn't go back.
+    Older(u64),
+}
 
 /// Loads the revision that the log has reached, where the meaning needs that: the most recent always does, and a
 /// revision that it names does where it wasn't shown yet. One that isn't reached then is refused.
@@ -41,8 +51,30 @@ fn needs_load(meaning: Meaning, shown: u64) -> bool
     }
 }
 
-/// The objects of a resource at one revision that the caller was shown, from upstream.
-pub fn kept_at<N: LogFacts, R: Wait + Copy>(
+/// The objects that were found, those of an older revision from upstream.
+pub fn fetched<N: LogFacts, R: Wait + Copy>(
+    alloc: Global,
+    resource: Resource,
+    up: &mut StoreDoor<N, R>,
+    told: &mut Pass<N>,
+    found: Found,
+) -> Result<(u64, Snapshot), ListNo>
+    requires found { (meaning : MeaningData) × (shown : ℕ) × IsFound N.base resource meaning shown told.old found }
+    ensures learns { Learns told.old told.new }
+    ensures served { (meaning : MeaningData) (shown : ℕ) → IsFound N.base resource meaning shown told.old found →
+        IfOk result (λ r. IsServed N.base resource meaning shown told.new r.0 r.1) }
+    ensures at { IfOk result (λ r. r.0 ≡ found_at found) }
+    ensures refused { (meaning : MeaningData) (shown : ℕ) → IsFound N.base resource meaning shown told.old found →
+        IfErr result (IsUnserved meaning told.new) }
+{
+    match found {
+        Found::State(at, state) => Ok((at, state)),
+        Found::Older(at) => Ok((at, kept_at(alloc, resource, up, told, at)?)),
+    }
+}
+
+// The objects of a resource at one revision that the caller was shown, from upstream.
+fn kept_at<N: LogFacts, R: Wait + Copy>(
     alloc: Global,
     resource: Resource,
     up: &mut StoreDoor<N, R>,

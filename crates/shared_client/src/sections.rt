@@ -3,15 +3,18 @@
 ghost use Rattle.std.specs.Prelude.{◌≡◌, ◌≤◌, IfOk, IfErr, IfSome};
 ghost use Rattle.select_all.specs.declared.selection.Meaning.TheVariants.{Any};
 ghost use Rattle.up_api.specs.Sections.{Learns};
-ghost use Rattle.shared_client.specs.Serving.{IsServed, IsShown, IsUnserved};
+ghost use Rattle.client_api.specs.Metered.{IsCacheMetrics};
+ghost use Rattle.shared_client.specs.Serving.{IsFound, IsServed, IsShown, IsUnserved};
 ghost use Rattle.shared_client.specs.Watching.{IsLostAt, IsTold};
 
 use crate::cache_state::Turn;
 use crate::cacher::Cacher;
+use crate::reads::{Found, fetched};
 use bells::Bell;
 use cache_hub::{CatchNo, Caught};
 use client_api::ListNo;
 use kube_meta::Resource;
+use metrics::CacheMetrics;
 use obj_tree::Snapshot;
 use select_all::{Meaning, Selection};
 use std::sync::{Arc, Wait};
@@ -33,10 +36,28 @@ impl<N: LogFacts, R: Wait + Copy> Cacher<N, R> {
         ensures served { IfOk result (λ r. IsServed N.base resource meaning told.old.shown told.new r.0 r.1) }
         ensures refused { IfErr result (IsUnserved meaning told.new) }
     {
+        let found = self.find(resource, door, told, meaning)?;
+        fetched(self.alloc, resource, door, told, found)
+    }
+
+    // The same under the cache's lock, as far back as the cache goes. The lock is let go then, so that nobody waits for
+    // an older state that is made of the log; no clause says that.
+    fn find(
+        &self,
+        resource: Resource,
+        door: &mut StoreDoor<N, R>,
+        told: &mut Pass<N>,
+        meaning: Meaning,
+    ) -> Result<Found, ListNo>
+        requires shown { IsShown meaning told.old.shown }
+        ensures learns { Learns told.old told.new }
+        ensures found { IfOk result (IsFound N.base resource meaning told.old.shown told.new) }
+        ensures refused { IfErr result (IsUnserved meaning told.new) }
+    {
         match resource {
-            Resource::Pods => self.pods.lock(&self.rt).serve(door, told, meaning),
-            Resource::ConfigMaps => self.config_maps.lock(&self.rt).serve(door, told, meaning),
-            Resource::Deployments => self.deployments.lock(&self.rt).serve(door, told, meaning),
+            Resource::Pods => self.pods.lock(&self.rt).find(door, told, meaning),
+            Resource::ConfigMaps => self.config_maps.lock(&self.rt).find(door, told, meaning),
+            Resource::Deployments => self.deployments.lock(&self.rt).find(door, told, meaning),
         }
     }
 
@@ -149,6 +170,18 @@ impl<N: LogFacts, R: Wait + Copy> Cacher<N, R> {
                 .deployments
                 .lock(&self.rt)
                 .turn_by_ring(door, told, selection, turn),
+        }
+    }
+
+    /// What a monitor is told of the cache of a resource.
+    pub(crate) fn cache_metrics(&self, resource: Resource, told: &mut Pass<N>) -> CacheMetrics
+        ensures learns { Learns told.old told.new }
+        ensures metrics { IsCacheMetrics N.base resource told.new result }
+    {
+        match resource {
+            Resource::Pods => self.pods.lock(&self.rt).metrics(told),
+            Resource::ConfigMaps => self.config_maps.lock(&self.rt).metrics(told),
+            Resource::Deployments => self.deployments.lock(&self.rt).metrics(told),
         }
     }
 

@@ -19,7 +19,7 @@ pub returns-clause-reads : goal.returns-clause-reads
 returns-clause-reads g c =
     let e = c.in_ok-pumped.ensures in
     subst (λ (r : ResourceCacheData). RisesFor (HasCause r.hub.cache.end c.args.told.now c.pump-pumped.new.told) c.args.store.now.reads c.pump-pumped.new.up.reads) c.self.view_is
-    (rises_done c.in_ok-pumped.field-0.rebuilds _ _ _ e.rebuilds.0 e.reads (λ one. cause_of c.self.inside.hub.cache.end c.in_ok-pumped.field-0.cuts c.args.told.now c.pump-pumped.new.told (e.cause one)))
+    (rises_done c.in_ok-pumped.pumped.rebuilds _ _ _ e.rebuilds.0 e.reads (λ one. cause_of c.self.inside.hub.cache.end c.in_ok-pumped.pumped.cuts c.args.told.now c.pump-pumped.new.told (e.cause one)))
 
 pub returns-clause-follows : goal.returns-clause-follows
 returns-clause-follows g c =

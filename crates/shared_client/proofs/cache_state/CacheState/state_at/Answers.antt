@@ -7,8 +7,8 @@ use Rattle.shared_client.proofs.KnowingLemmas.{knows_on}
 use Rattle.shared_client.proofs.StandLemmas.{end_seen, state_seen}
 use Rattle.shared_client.proofs.cache_state.CacheState.state_at.Goals as goal
 
-pub returns-in-Ok-clause-served : goal.returns-in-Ok-clause-served
-returns-in-Ok-clause-served g c =
+pub returns-in-Ok-clause-found : goal.returns-in-Ok-clause-found
+returns-in-Ok-clause-found g c =
     let q = c.look_floor-floor.new.self in
     let mine = subst (λ (x : CacheStateData). KnowsAllOf x.pass c.args.told.now) (sym c.self.view_is) c.requires.knows in
     let knows = knows_on c.self.inside.pass c.args.told.now q mine c.look_floor-floor.ensures.extends in
