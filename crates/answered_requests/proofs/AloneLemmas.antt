@@ -27,9 +27,9 @@ use Rattle.client_api.specs.Alone.{IsSoleRead, SoleWrite, SoleTransact, SoleOper
 use Rattle.client_api.specs.declared.answers.ListNo.{ListNo}
 use Rattle.client_api.specs.declared.answers.ListNo.TheVariants.{Expired, TooLarge, Absent, Memory}
 use Rattle.client_api.specs.Told.{IsToldWrite, IsToldTx, IsToldOperation}
-use Rattle.sess_reply.specs.Replies.{unrouted, wrote, transacted, got, listed, operated, described, unwatched, bad_upgrade}
+use Rattle.sess_reply.specs.Replies.{unrouted, wrote, transacted, got, listed, operated, described, metered, unready, unwatched, bad_upgrade}
 use Rattle.sess_turns.specs.Terms.{Terms}
-use Rattle.sess_serve.specs.Answers.{Answer, Stream, gone, begun, replied, streamed, IsAnswerTo, FailsUpgrade}
+use Rattle.sess_serve.specs.Answers.{Answer, Stream, gone, begun, replied, streamed, IsAnswerTo, readiness, FailsUpgrade}
 use Rattle.sess_serve.specs.Steps.{Exchange, Says, StreamSays, UnwatchedSays, IsAlone, IsAloneStream}
 use Rattle.answered_requests.specs.Due.{IsDue, IsKept, MayBeDone}
 use Rattle.answered_requests.specs.Hindered.{IsHindered, IsCutOff}
@@ -127,7 +127,9 @@ module _ (terms : Terms) (p q : Pass RevisionData) (req : Req) (lawful : IsPass 
         unless-hindered terms p (answered (replied (listed ask answer))) (routed.List ask) (list_outcome terms p q req ask answer says.0 says.1)
         (reach_clash p q ask.meaning lawful (floor-stays sole) in_reach))
     served_of (replied (operated ask answer)) to says sole = same-due (routed.Operate ask) _ to (done ask answer says.0 says.1 sole)
-    served_of (replied (described document)) to says sole = same-due (routed.Describe document) _ to (λ _. record { answer_is = refl; status_is = refl })
+    served_of (replied (described document)) to says sole = same-due (routed.Describe document) _ to (λ _. inl (record { answer_is = refl; status_is = refl }))
+    served_of (replied (metered told)) to says sole = same-due routed.Metrics _ to (λ _. (told, record { answer_is = refl; status_is = refl }, says))
+    served_of (replied unready) to says sole = same-due (routed.Describe readiness) _ to (λ _. inr (refl, says.0, record { answer_is = refl; status_is = refl }))
     served_of (replied (unwatched ask fault)) to says sole = same-due (routed.Watch ask) _ to.0 (λ d. absurd (refused-start ask fault says sole d.1))
     served_of (replied (bad_upgrade ask)) to says sole = same-due (routed.Watch ask) _ to.0 (λ d. absurd (upgrade-clash req.upgrade d.0 to.1))
     served_of (streamed ask stream) to says sole = same-due (routed.Watch ask) _ to.0 (λ d. begins ask stream says sole d.1)

@@ -29,9 +29,9 @@ use Rattle.client_api.specs.Lists.{IsListAnswer}
 use Rattle.client_api.specs.Told.{IsToldRead, IsToldWrite, IsToldTx, IsToldOperation}
 use Rattle.client_api.specs.declared.answers.ListNo.{ListNo}
 use Rattle.client_api.specs.declared.answers.ListNo.TheVariants.{Expired, TooLarge, Absent, Memory}
-use Rattle.sess_reply.specs.Replies.{unrouted, wrote, transacted, got, listed, operated, described, unwatched, bad_upgrade}
+use Rattle.sess_reply.specs.Replies.{unrouted, wrote, transacted, got, listed, operated, described, metered, unready, unwatched, bad_upgrade}
 use Rattle.sess_turns.specs.Terms.{Terms}
-use Rattle.sess_serve.specs.Answers.{Answer, Stream, gone, begun, replied, streamed, IsAnswerTo, IsUnrouted}
+use Rattle.sess_serve.specs.Answers.{Answer, Stream, gone, begun, replied, streamed, IsAnswerTo, readiness, IsUnrouted}
 use Rattle.sess_serve.specs.Steps.{Exchange, Says, StreamSays, UnwatchedSays}
 use Rattle.answered_requests.specs.Hindered.{IsHindered, IsCutOff}
 use Rattle.answered_requests.specs.Laws.{RequestsAreServed}
@@ -137,7 +137,9 @@ module _ (terms : Terms) (p q : Pass RevisionData) (req : Req) where
     outcome_of (replied (got ask answer)) to says = same-route _ _ to (get_outcome ask answer says.0 says.1)
     outcome_of (replied (listed ask answer)) to says = same-route _ _ to (list_outcome ask answer says.0 says.1)
     outcome_of (replied (operated ask answer)) to says = same-route _ _ to (operation_outcome ask answer says.0 says.1)
-    outcome_of (replied (described document)) to says = same-route _ _ to (inl (record { answer_is = refl; status_is = refl }))
+    outcome_of (replied (described document)) to says = same-route _ _ to (inl (inl (record { answer_is = refl; status_is = refl })))
+    outcome_of (replied (metered told)) to says = same-route routed.Metrics _ to (inl (told, record { answer_is = refl; status_is = refl }, says))
+    outcome_of (replied unready) to says = same-route (routed.Describe readiness) _ to (inl (inr (refl, says.0, record { answer_is = refl; status_is = refl })))
     outcome_of (replied (unwatched ask fault)) to says = same-route _ _ to.0 (unwatched_outcome ask fault says)
     outcome_of (replied (bad_upgrade ask)) to says = same-route _ _ to.0 (inr (inl to.1))
     outcome_of (streamed ask stream) to says = same-route _ _ to.0 (stream_outcome ask stream says)

@@ -1,9 +1,20 @@
 -- Where nobody else holds the log, two runs of the same requests have the same answers.
 use Rattle.std.specs.Prelude.{Result, Ok, Err, IsSome, IfSome}
-use Rattle.std.proofs.Common.{◌≡◌, ◌≢◌, ℕ, ◌≤◌, ◌⊎◌, inl, inr, true, false, List, [], ◌∷◌, map, Option, Some, None, refl, ap, sym, ◌∙◌, subst, length-append, arith}
+use Rattle.std.proofs.Common.{◌≡◌, ◌≢◌, ℕ, ◌≤◌, ◌⊎◌, inl, inr, Bool, true, false, List, [], ◌∷◌, length, map, Option, Some, None, refl, ap, sym, ◌∙◌, subst, length-append, arith}
+use Rattle.discovery.specs.declared.documents.Document.{Document}
+use Rattle.discovery.specs.declared.documents.Document.TheVariants as document
+use Rattle.discovery.specs.declared.documents.Probe.TheVariants as probe
+use Rattle.kube_meta.specs.Rows.{RowData}
+use Rattle.kube_meta.specs.declared.resources.Resource.{Resource}
+use Rattle.kube_meta.specs.declared.resources.Resource.TheVariants.{Pods, ConfigMaps, Deployments}
+use Rattle.metrics.specs.declared.caches.Metrics.{Metrics}
+use Rattle.metrics.specs.declared.caches.CacheMetrics.{CacheMetrics}
 use Rattle.rev_front.specs.Passes.{Pass, IsPass, Whole, revision}
 use Rattle.rev_log.specs.Changes.{RevisionData}
-use Rattle.rev_log.specs.Logs.{Fits}
+use Rattle.rev_log.specs.Logs.{Log, Fits}
+use Rattle.rev_log.specs.States.{IsStateAt}
+use Rattle.rev_log.proofs.StateLemmas.{are_unique}
+use Rattle.up_api.specs.Sections.{log_of}
 use Rattle.http_read.specs.declared.request.Req.{Req}
 use Rattle.watch_rules.specs.declared.ask.WatchAsk.{WatchAsk}
 use Rattle.up_store.specs.Replies.{IsOperationReply}
@@ -29,13 +40,14 @@ use Rattle.client_api.specs.Alone.{known, IsSoleRead, SoleWrite, SoleTransact, S
 use Rattle.client_api.specs.Answers.{GotData, ListedData}
 use Rattle.client_api.specs.Gets.{IsGetAnswer}
 use Rattle.client_api.specs.Lists.{IsListAnswer}
+use Rattle.client_api.specs.Metered.{IsCacheMetrics, AreMetrics}
 use Rattle.client_api.specs.Told.{IsToldRead, IsToldWrite, IsToldTx, IsToldOperation}
 use Rattle.client_api.specs.declared.answers.ListNo.{ListNo}
-use Rattle.sess_reply.specs.Replies.{unrouted, wrote, transacted, got, listed, operated, described, unwatched, bad_upgrade}
+use Rattle.sess_reply.specs.Replies.{unrouted, wrote, transacted, got, listed, operated, described, metered, unready, unwatched, bad_upgrade}
 use Rattle.sess_turns.specs.Terms.{Terms}
-use Rattle.sess_serve.specs.Answers.{Answer, replied, streamed, IsAnswerTo, IsUnrouted}
+use Rattle.sess_serve.specs.Answers.{Answer, replied, streamed, IsAnswerTo, IsUnrouted, readiness}
 use Rattle.sess_serve.specs.Steps.{Exchange, Says, IsAlone, Run, AreAlone}
-use Rattle.answered_requests.specs.Determined.{AskForNoWatch, AreOne, AreAnsweredAlike, IsSound, RepliesAreDetermined}
+use Rattle.answered_requests.specs.Determined.{AskForNoWatch, AreOne, AreAnsweredAlike, HoldAlike, TellAlike, IsSound, RepliesAreDetermined}
 use Rattle.answered_requests.proofs.AnswerLemmas.{refusal_of, routed_clash}
 use Rattle.answered_requests.proofs.ChangesLemmas.{as_answered, made_of, one_write, one_transaction, one_operation, write_refused, tx_refused}
 use Rattle.answered_requests.proofs.ReadsLemmas.{one_list, one_get}
@@ -71,6 +83,61 @@ low-operated (Compact at) w after (Err (op_no.Future asked current)) is low_w = 
 low-operated (Compact at) w after (Err op_no.Memory) is low_w = absurd is
 low-operated Restart w after a is low_w = subst low (sym is) low_w
 
+-- ---- what describes the server, and metrics
+
+abbrev IsDescribedBy : Bool → Document → Answer → Type 0
+IsDescribedBy mirror text a =
+    (a ≡ replied (described text)) ⊎ ((text ≡ readiness) × (mirror ≡ true) × (a ≡ replied unready))
+
+-- two answers, of which what is said is known
+moved-one : (mirror : Bool) (a b x y : Answer) → a ≡ x → b ≡ y → AreOne mirror x y → AreOne mirror a b
+moved-one mirror a b x y first second one =
+    subst (λ (z : Answer × Answer). AreOne mirror z.0 z.1) {x = (x, y)} {y = (a, b)} (λ i. (sym first i, sym second i)) one
+
+same-described : (mirror : Bool) (text : Document) → AreOne mirror (replied (described text)) (replied (described text))
+same-described mirror document.Version = refl
+same-described mirror document.CoreVersions = refl
+same-described mirror document.Groups = refl
+same-described mirror document.AppsGroup = refl
+same-described mirror document.CoreResources = refl
+same-described mirror document.AppsResources = refl
+same-described mirror (document.Namespace ns) = refl
+same-described mirror (document.Probe probe.Livez) = refl
+same-described mirror (document.Probe probe.Readyz) = inl refl
+same-described mirror (document.Probe probe.Healthz) = refl
+
+described-one : (mirror : Bool) (text : Document) (a b : Answer) → IsDescribedBy mirror text a → IsDescribedBy mirror text b → AreOne mirror a b
+described-one mirror text a b (inl is) (inl is') = moved-one mirror a b _ _ is is' (same-described mirror text)
+described-one mirror text a b (inl is) (inr is') =
+    moved-one mirror a b (replied (described readiness)) (replied unready) (is ∙ ap (λ (t : Document). replied (described t)) is'.0) is'.2 (inr (is'.1, refl))
+described-one mirror text a b (inr is) (inl is') =
+    moved-one mirror a b (replied unready) (replied (described readiness)) is.2 (is' ∙ ap (λ (t : Document). replied (described t)) is.0) (is.1, inr refl)
+described-one mirror text a b (inr is) (inr is') = moved-one mirror a b (replied unready) (replied unready) is.2 is'.2 (is.1, inl refl)
+
+-- the same log has the same state
+module _ (base : List RowData) (q r : Pass RevisionData) (same : known r ≡ known q) where
+  same-log : log_of base r ≡ log_of base q
+  same-log = ap (λ (w : Whole RevisionData). record { first = w.first; base = base; revisions = w.log }) same
+
+  hold-alike : (resource : Resource) (a b : Option CacheMetrics) → IfSome a (IsCacheMetrics base resource q) → IfSome b (IsCacheMetrics base resource r) → HoldAlike a b
+  hold-alike resource None None is is' = tt
+  hold-alike resource None (Some b) is is' = tt
+  hold-alike resource (Some a) None is is' = tt
+  hold-alike resource (Some a) (Some b) is is' = λ ends.
+      let state : IsStateAt (log_of base q) resource a.end is'.rows =
+      subst (λ (z : Log × ℕ). IsStateAt z.0 resource z.1 is'.rows) {x = (log_of base r, b.end)} {y = (log_of base q, a.end)} (λ i. (same-log i, ends i)) is'.state in
+      is'.objects ∙ ap length (are_unique (log_of base q) resource a.end is'.rows is.rows state is.state) ∙ sym is.objects
+
+  tell-alike : (p o : Pass RevisionData) (a b : Metrics) → AreMetrics base p a q → AreMetrics base o b r → TellAlike a b
+  tell-alike p o a b is is' = record {
+    revision = is'.revision ∙ ap (λ (w : Whole RevisionData). revision w) same ∙ sym is.revision;
+    floor = is'.floor ∙ ap (λ (w : Whole RevisionData). w.floor) same ∙ sym is.floor;
+    generation = is'.generation ∙ ap (λ (w : Whole RevisionData). w.gen) same ∙ sym is.generation;
+    pods = hold-alike Pods a.pods b.pods is.pods is'.pods;
+    config_maps = hold-alike ConfigMaps a.config_maps b.config_maps is.config_maps is'.config_maps;
+    deployments = hold-alike Deployments a.deployments b.deployments is.deployments is'.deployments;
+  }
+
 -- ---- what an answer says, by what its request asks for
 
 abbrev ByRoute : Terms → ℕ → Pass RevisionData → Answer → Pass RevisionData → Routed → Type 0
@@ -85,7 +152,9 @@ ByRoute terms history p a q (routed.Transact asks) =
     × IsTransactionAnswer terms.base terms.mirror history asks (known p) (known q) x
 ByRoute terms history p a q (routed.Operate ask) =
     (x : Result ℕ OpNo) × (a ≡ replied (operated ask x)) × IsToldOperation x × IsOperationReply p ask x q × SoleOperate p ask x q
-ByRoute terms history p a q (routed.Describe document) = (a ≡ replied (described document)) × IsSoleRead p q
+ByRoute terms history p a q (routed.Describe document) = IsDescribedBy terms.mirror document a × IsSoleRead p q
+ByRoute terms history p a q routed.Metrics =
+    (told : Metrics) × (a ≡ replied (metered told)) × AreMetrics terms.base p told q × IsSoleRead p q
 ByRoute terms history p a q (routed.Watch ask) = ⊥
 
 -- the request has a route, and its answer is by it; or it has none, and is told why
@@ -124,7 +193,9 @@ module _ (terms : Terms) (history : ℕ) (sole_is : terms.sole_history ≡ Some 
   routes p q req (replied (got ask x)) to says sole plain = inl (record { route = routed.Get ask; is = to; by = (x, refl, says.0, says.1, sole) })
   routes p q req (replied (listed ask x)) to says sole plain = inl (record { route = routed.List ask; is = to; by = (x, refl, says.0, says.1, sole) })
   routes p q req (replied (operated ask x)) to says sole plain = inl (record { route = routed.Operate ask; is = to; by = (x, refl, says.0, says.1, sole) })
-  routes p q req (replied (described document)) to says sole plain = inl (record { route = routed.Describe document; is = to; by = (refl, sole) })
+  routes p q req (replied (described text)) to says sole plain = inl (record { route = routed.Describe text; is = to; by = (inl refl, sole) })
+  routes p q req (replied (metered told)) to says sole plain = inl (record { route = routed.Metrics; is = to; by = (told, refl, says, sole) })
+  routes p q req (replied unready) to says sole plain = inl (record { route = routed.Describe readiness; is = to; by = (inr (refl, says.0, refl), sole) })
   routes p q req (replied (unwatched ask fault)) to says sole plain = absurd (plain ask to.0)
   routes p q req (replied (bad_upgrade ask)) to says sole plain = absurd (plain ask to.0)
   routes p q req (streamed ask stream) to says sole plain = absurd (plain ask to.0)
@@ -140,7 +211,8 @@ module _ (terms : Terms) (history : ℕ) (sole_is : terms.sole_history ≡ Some 
   low-after p q a (routed.Write ask) by is = low-written terms history ask (known p) (known q) by.0 by.2 by.3 is
   low-after p q a (routed.Transact asks) by is = low-transacted terms history asks (known p) (known q) by.0 by.2 by.3 is
   low-after p q a (routed.Operate ask) by is = low-operated ask (known p) (known q) by.0 (made_of p q ask by.0 by.2 by.4) is
-  low-after p q a (routed.Describe document) by is = low-read p q by.1 is
+  low-after p q a (routed.Describe text) by is = low-read p q by.1 is
+  low-after p q a routed.Metrics by is = low-read p q by.3 is
   low-after p q a (routed.Watch ask) by is = absurd by
 
   -- ---- two answers to one request
@@ -149,12 +221,12 @@ module _ (terms : Terms) (history : ℕ) (sole_is : terms.sole_history ≡ Some 
     reads-same : IsSoleRead p q → IsSoleRead o r → known r ≡ known q
     reads-same sole sole' = sole'.same ∙ same ∙ sym sole.same
 
-    are-one : (a b x y : Answer) → a ≡ x → b ≡ y → AreOne x y → AreOne a b
-    are-one a b x y first second one = subst (λ (z : Answer × Answer). AreOne z.0 z.1) {x = (x, y)} {y = (a, b)} (λ i. (sym first i, sym second i)) one
+    are-one : (a b x y : Answer) → a ≡ x → b ≡ y → AreOne terms.mirror x y → AreOne terms.mirror a b
+    are-one = moved-one terms.mirror
 
-    by-one : (a b : Answer) (route : Routed) → ByRoute terms history p a q route → ByRoute terms history o b r route → AreOne a b × (known r ≡ known q)
+    by-one : (a b : Answer) (route : Routed) → ByRoute terms history p a q route → ByRoute terms history o b r route → AreOne terms.mirror a b × (known r ≡ known q)
     by-one a b (routed.List ask) by by' =
-        (are-one a b _ _ by.1 by'.1 (one_list terms.base p q o r sound lawful by.4 sound' lawful' by'.4 same ask by.0 by'.0 by.2 by'.2 by.3 by'.3), reads-same by.4 by'.4)
+        (are-one a b _ _ by.1 by'.1 (one_list terms.base p q o r sound lawful by.4 sound' lawful' by'.4 same terms.mirror ask by.0 by'.0 by.2 by'.2 by.3 by'.3), reads-same by.4 by'.4)
     by-one a b (routed.Get ask) by by' =
         (are-one a b (replied (got ask by.0)) (replied (got ask by'.0)) by.1 by'.1 (one_get terms.base p q o r sound lawful by.4 sound' lawful' by'.4 same ask by.0 by'.0 by.2 by'.2 by.3 by'.3), reads-same by.4 by'.4)
     by-one a b (routed.Write ask) by by' =
@@ -168,14 +240,17 @@ module _ (terms : Terms) (history : ℕ) (sole_is : terms.sole_history ≡ Some 
     by-one a b (routed.Operate ask) by by' =
         let one = one_operation p q o r sound lawful lawful' same ask by.0 by'.0 by.2 by'.2 by.3 by'.3 by.4 by'.4 in
         (are-one a b (replied (operated ask by.0)) (replied (operated ask by'.0)) by.1 by'.1 (ap (λ (x : Result ℕ OpNo). replied (operated ask x)) one.0), one.1)
-    by-one a b (routed.Describe document) by by' = (are-one a b (replied (described document)) (replied (described document)) by.0 by'.0 refl, reads-same by.1 by'.1)
+    by-one a b (routed.Describe text) by by' = (described-one terms.mirror text a b by.0 by'.0, reads-same by.1 by'.1)
+    by-one a b routed.Metrics by by' =
+        let again : known r ≡ known q = reads-same by.3 by'.3 in
+        (are-one a b (replied (metered by.0)) (replied (metered by'.0)) by.1 by'.1 (by'.0, refl, tell-alike terms.base q r again p o by.0 by'.0 by.2 by'.2), again)
     by-one a b (routed.Watch ask) by by' = absurd by
 
     module _ (agree : AnswersAgree) (refusals : RefusalsAgree) (unrefused : RoutesAreNotRefused) (req : Req) (a b : Answer) where
       isn't-memory : (fault : RouteNo) → IsUnrouted req fault → fault ≢ route_no.Memory
       isn't-memory fault is same_fault = subst (IsUnrouted req) same_fault is
 
-      one-answer : Routes terms history p req a q ⊎ Untold p req a q → Routes terms history o req b r ⊎ Untold o req b r → AreOne a b × (known r ≡ known q)
+      one-answer : Routes terms history p req a q ⊎ Untold p req a q → Routes terms history o req b r ⊎ Untold o req b r → AreOne terms.mirror a b × (known r ≡ known q)
       one-answer first second = elim first [
         | inl x ↦ elim second [
           | inl y ↦ by-one a b x.route x.by (subst (ByRoute terms history o b r) (agree req y.route x.route y.is x.is) y.by)
@@ -200,7 +275,7 @@ module _ (terms : Terms) (history : ℕ) (sole_is : terms.sole_history ≡ Some 
   module _ (agree : AnswersAgree) (refusals : RefusalsAgree) (unrefused : RoutesAreNotRefused) where
     runs-agree : (p last o final : Pass RevisionData) (es fs : List Exchange) → IsSound p → IsSound o → known o ≡ known p →
         Run terms p es last → AreAlone terms p es → Run terms o fs final → AreAlone terms o fs →
-        map (λ (f : Exchange). f.request) fs ≡ map (λ (e : Exchange). e.request) es → AskForNoWatch es → AreAnsweredAlike es fs × (known final ≡ known last)
+        map (λ (f : Exchange). f.request) fs ≡ map (λ (e : Exchange). e.request) es → AskForNoWatch es → AreAnsweredAlike terms.mirror es fs × (known final ≡ known last)
     runs-agree p last o final [] [] sound sound' same run alone run' alone' requests plain = (tt, ap known (sym run') ∙ same ∙ ap known run)
     runs-agree p last o final [] (f ∷ fs) sound sound' same run alone run' alone' requests plain = absurd (let e : f.request ∷ map (λ (x : Exchange). x.request) fs ≡ [] = requests in cc)
     runs-agree p last o final (e ∷ es) [] sound sound' same run alone run' alone' requests plain = absurd (let h : [] ≡ e.request ∷ map (λ (x : Exchange). x.request) es = requests in cc)

@@ -1,5 +1,5 @@
 -- Of a log that nobody else holds, reads have one answer.
-use Rattle.std.specs.Prelude.{Result, Ok, Err}
+use Rattle.std.specs.Prelude.{Bool, Result, Ok, Err}
 use Rattle.std.proofs.Common.{◌≡◌, ℕ, ◌≤◌, List, Some, ap, sym, ◌∙◌, subst, arith}
 use Rattle.kube_meta.specs.Rows.{RowData, behind}
 use Rattle.rev_front.specs.Passes.{Pass, IsPass, Whole, end_from, revision}
@@ -144,34 +144,34 @@ module _ (p q o r : Pass RevisionData) (sound : IsSound p) (lawful : IsPass Fits
 -- the answer of the second is that of the first
 module _ (base : List RowData) (p q o r : Pass RevisionData) (sound : IsSound p) (lawful : IsPass Fits q) (sole : IsSoleRead p q)
     (sound' : IsSound o) (lawful' : IsPass Fits r) (sole' : IsSoleRead o r) (same : known o ≡ known p) where
-  pub one_list : (ask : ListAsk) (a b : Result ListedData ListNo) → IsToldRead a → IsToldRead b → IsListAnswer base p ask a q → IsListAnswer base o ask b r →
-      AreOne (replied (listed ask a)) (replied (listed ask b))
-  one_list ask (Ok page) (Ok later) told told' is is' =
+  pub one_list : (mirror : Bool) (ask : ListAsk) (a b : Result ListedData ListNo) → IsToldRead a → IsToldRead b → IsListAnswer base p ask a q → IsListAnswer base o ask b r →
+      AreOne mirror (replied (listed ask a)) (replied (listed ask b))
+  one_list mirror ask (Ok page) (Ok later) told told' is is' =
       ap (λ (x : ListedData). replied (listed ask (Ok x))) (one-page p q o r sound lawful sole sound' lawful' sole' same base ask page later is is')
-  one_list ask (Ok page) (Err (Expired asked floor)) told told' is is' =
+  one_list mirror ask (Ok page) (Err (Expired asked floor)) told told' is is' =
       absurd (fresh-or-expired p q o r sound lawful sole sound' lawful' sole' same ask.meaning page.rev asked floor is.fresh is')
-  one_list ask (Ok page) (Err (TooLarge asked current)) told told' is is' =
+  one_list mirror ask (Ok page) (Err (TooLarge asked current)) told told' is is' =
       absurd (fresh-or-large p q o r sound lawful sole sound' lawful' sole' same ask.meaning page.rev asked current is.fresh is')
-  one_list ask (Err (Expired asked floor)) (Ok later) told told' is is' =
+  one_list mirror ask (Err (Expired asked floor)) (Ok later) told told' is is' =
       absurd (fresh-or-expired o r p q sound' lawful' sole' sound lawful sole (sym same) ask.meaning later.rev asked floor is'.fresh is)
-  one_list ask (Err (Expired asked floor)) (Err (Expired other n)) told told' is is' =
+  one_list mirror ask (Err (Expired asked floor)) (Err (Expired other n)) told told' is is' =
       (n, ap (λ (x : ℕ). replied (listed ask (Err (Expired x n)))) (same-exact other asked (sym is'.exact ∙ is.exact)))
-  one_list ask (Err (Expired asked floor)) (Err (TooLarge other current)) told told' is is' =
+  one_list mirror ask (Err (Expired asked floor)) (Err (TooLarge other current)) told told' is is' =
       absurd (expired-or-large p q o r sound lawful sole sound' lawful' sole' same ask.meaning asked floor other current is is')
-  one_list ask (Err (TooLarge asked current)) (Ok later) told told' is is' =
+  one_list mirror ask (Err (TooLarge asked current)) (Ok later) told told' is is' =
       absurd (fresh-or-large o r p q sound' lawful' sole' sound lawful sole (sym same) ask.meaning later.rev asked current is'.fresh is)
-  one_list ask (Err (TooLarge asked current)) (Err (Expired other n)) told told' is is' =
+  one_list mirror ask (Err (TooLarge asked current)) (Err (Expired other n)) told told' is is' =
       absurd (expired-or-large o r p q sound' lawful' sole' sound lawful sole (sym same) ask.meaning other n asked current is' is)
-  one_list ask (Err (TooLarge asked current)) (Err (TooLarge other later)) told told' is is' =
+  one_list mirror ask (Err (TooLarge asked current)) (Err (TooLarge other later)) told told' is is' =
       ap (λ (no : ListNo). replied (listed ask (Err no))) (one-refusal p q o r sound lawful sole sound' lawful' sole' same ask.meaning asked current other later is is')
-  one_list ask (Err (Absent at)) b told told' is is' = absurd is
-  one_list ask (Err Memory) b told told' is is' = absurd told
-  one_list ask (Ok page) (Err (Absent at)) told told' is is' = absurd is'
-  one_list ask (Ok page) (Err Memory) told told' is is' = absurd told'
-  one_list ask (Err (Expired asked floor)) (Err (Absent at)) told told' is is' = absurd is'
-  one_list ask (Err (Expired asked floor)) (Err Memory) told told' is is' = absurd told'
-  one_list ask (Err (TooLarge asked current)) (Err (Absent at)) told told' is is' = absurd is'
-  one_list ask (Err (TooLarge asked current)) (Err Memory) told told' is is' = absurd told'
+  one_list mirror ask (Err (Absent at)) b told told' is is' = absurd is
+  one_list mirror ask (Err Memory) b told told' is is' = absurd told
+  one_list mirror ask (Ok page) (Err (Absent at)) told told' is is' = absurd is'
+  one_list mirror ask (Ok page) (Err Memory) told told' is is' = absurd told'
+  one_list mirror ask (Err (Expired asked floor)) (Err (Absent at)) told told' is is' = absurd is'
+  one_list mirror ask (Err (Expired asked floor)) (Err Memory) told told' is is' = absurd told'
+  one_list mirror ask (Err (TooLarge asked current)) (Err (Absent at)) told told' is is' = absurd is'
+  one_list mirror ask (Err (TooLarge asked current)) (Err Memory) told told' is is' = absurd told'
 
   -- ---- gets
 

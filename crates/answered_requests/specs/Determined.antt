@@ -1,5 +1,5 @@
 -- Where nobody else holds the log, replies and what becomes of the log are determined by the requests.
-use Rattle.std.specs.Prelude.{◌≡◌, ℕ, ◌≤◌, List, [], ◌∷◌, Err, IsSome, map}
+use Rattle.std.specs.Prelude.{◌≡◌, ◌⊎◌, ℕ, ◌≤◌, List, [], ◌∷◌, Bool, true, Option, Some, Err, IsSome, map}
 use Rattle.rev_front.specs.Passes.{Pass, IsPass, end_from}
 use Rattle.rev_log.specs.Changes.{RevisionData}
 use Rattle.rev_log.specs.Logs.{Fits}
@@ -7,10 +7,14 @@ use Rattle.watch_rules.specs.declared.ask.WatchAsk.{WatchAsk}
 use Rattle.route_req.specs.Asks.{IsRoute}
 use Rattle.route_req.specs.declared.routing.Routed.TheVariants as routed
 use Rattle.client_api.specs.Alone.{known}
+use Rattle.discovery.specs.declared.documents.Document.TheVariants as document
+use Rattle.discovery.specs.declared.documents.Probe.TheVariants as probe
+use Rattle.metrics.specs.declared.caches.Metrics.{Metrics}
+use Rattle.metrics.specs.declared.caches.CacheMetrics.{CacheMetrics}
 use Rattle.client_api.specs.declared.answers.ListNo.TheVariants as list_no
-use Rattle.sess_reply.specs.Replies.{listed}
+use Rattle.sess_reply.specs.Replies.{listed, described, metered, unready}
 use Rattle.sess_turns.specs.Terms.{Terms}
-use Rattle.sess_serve.specs.Answers.{Answer, replied}
+use Rattle.sess_serve.specs.Answers.{Answer, replied, readiness}
 use Rattle.sess_serve.specs.Steps.{Exchange, Run, AreAlone}
 
 -- none of the requests asks for a watch
@@ -18,17 +22,39 @@ abbrev pub AskForNoWatch : List Exchange → Type 0
 AskForNoWatch [] = Unit {0}
 AskForNoWatch (e ∷ es) = ((ask : WatchAsk) → ¬ (IsRoute e.request (routed.Watch ask))) × AskForNoWatch es
 
--- two answers are one; but two refusals of a list whose one revision isn't kept any more may tell different floors
-abbrev pub AreOne : Answer → Answer → Type 0
-AreOne (replied (listed ask (Err (list_no.Expired asked floor)))) other =
+-- caches of one resource that stand for the log up to the same revision hold as many objects
+abbrev pub HoldAlike : Option CacheMetrics → Option CacheMetrics → Type 0
+HoldAlike (Some a) (Some b) = b.end ≡ a.end → b.objects ≡ a.objects
+HoldAlike a b = Unit {0}
+
+-- Metrics tell one revision, floor and generation, and of caches that stand for the same how many objects they hold. How
+-- far each cache is, and what else is told, the requests alone don't determine.
+pub record TellAlike (a b : Metrics) : Type 0 where
+  pub revision : b.revision ≡ a.revision
+  pub floor : b.floor ≡ a.floor
+  pub generation : b.generation ≡ a.generation
+  pub pods : HoldAlike a.pods b.pods
+  pub config_maps : HoldAlike a.config_maps b.config_maps
+  pub deployments : HoldAlike a.deployments b.deployments
+
+-- Two answers are one; but two refusals of a list whose one revision isn't kept any more may tell different floors; metrics
+-- may differ in what requests don't determine; and a mirror may have become ready, or not be any more.
+abbrev pub AreOne : Bool → Answer → Answer → Type 0
+AreOne mirror (replied (listed ask (Err (list_no.Expired asked floor)))) other =
     (n : ℕ) × (other ≡ replied (listed ask (Err (list_no.Expired asked n))))
-AreOne answer other = other ≡ answer
+AreOne mirror (replied (metered told)) other = (again : Metrics) × (other ≡ replied (metered again)) × TellAlike told again
+AreOne mirror (replied (described (document.Probe probe.Readyz))) other =
+    (other ≡ replied (described readiness)) ⊎ ((mirror ≡ true) × (other ≡ replied unready))
+AreOne mirror (replied unready) other =
+    (mirror ≡ true) × ((other ≡ replied unready) ⊎ (other ≡ replied (described readiness)))
+AreOne mirror answer other = other ≡ answer
 
 -- the same requests are answered by the same answers
-abbrev pub AreAnsweredAlike : List Exchange → List Exchange → Type 0
-AreAnsweredAlike [] [] = Unit {0}
-AreAnsweredAlike (e ∷ es) (f ∷ fs) = (f.request ≡ e.request) × AreOne e.answer f.answer × AreAnsweredAlike es fs
-AreAnsweredAlike es fs = ⊥
+abbrev pub AreAnsweredAlike : Bool → List Exchange → List Exchange → Type 0
+AreAnsweredAlike mirror [] [] = Unit {0}
+AreAnsweredAlike mirror (e ∷ es) (f ∷ fs) =
+    (f.request ≡ e.request) × AreOne mirror e.answer f.answer × AreAnsweredAlike mirror es fs
+AreAnsweredAlike mirror es fs = ⊥
 
 -- what is known of a log is lawful, and its floor isn't above its end
 pub record IsSound (p : Pass RevisionData) : Type 0 where
@@ -43,4 +69,4 @@ RepliesAreDetermined =
     IsSound p → IsSound o → known o ≡ known p →
     Run terms p es last → AreAlone terms p es → Run terms o fs final → AreAlone terms o fs →
     map (λ (f : Exchange). f.request) fs ≡ map (λ (e : Exchange). e.request) es → AskForNoWatch es →
-    AreAnsweredAlike es fs × (known final ≡ known last)
+    AreAnsweredAlike terms.mirror es fs × (known final ≡ known last)

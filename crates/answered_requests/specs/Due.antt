@@ -47,6 +47,7 @@ MayBeDone p Restart = Unit {0}
 -- a request that asks for this is due what it asks for: nothing stands in its way
 abbrev pub IsDue : Terms → Pass RevisionData → Req → Routed → Type 0
 IsDue terms p req (routed.Describe document) = Unit {0}
+IsDue terms p req routed.Metrics = Unit {0}
 IsDue terms p req (routed.List ask) = IsInReach p ask.meaning
 IsDue terms p req (routed.Get ask) = IsInReach p ask.meaning
 IsDue terms p req (routed.Write ask) = Takes terms.mirror (log_of terms.base p) (ask ∷ [])

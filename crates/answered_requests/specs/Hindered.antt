@@ -51,10 +51,11 @@ IsBarred p Cut q = q.gen ≡ 2 ^ 62
 IsBarred p (Compact at) q = (p.shown < at) ⊎ (at < q.floor)
 IsBarred p Restart q = ⊥
 
--- What stands in the way of a request that asks for this: nothing, where it asks what describes the server; for a watch
--- also that it asks for a WebSocket, and not as it must.
+-- What stands in the way of a request that asks for this: nothing, where it asks what describes the server or for metrics;
+-- for a watch also that it asks for a WebSocket, and not as it must.
 abbrev pub IsHindered : Terms → Pass RevisionData → Exchange → Routed → Type 0
 IsHindered terms p e (routed.Describe document) = ⊥
+IsHindered terms p e routed.Metrics = ⊥
 IsHindered terms p e (routed.List ask) = IsOutOfReach p ask.meaning e.pass
 IsHindered terms p e (routed.Get ask) = IsOutOfReach p ask.meaning e.pass
 IsHindered terms p e (routed.Write ask) = IsTurnedDown terms p (ask ∷ []) e.pass

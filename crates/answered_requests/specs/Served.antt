@@ -1,5 +1,7 @@
 -- What a request gets that is served: its 200, its 201 or its stream; and a get its 404 where no object stands.
-use Rattle.std.specs.Prelude.{◌≡◌, ℕ, ◌⊎◌, List, Option, Some, Ok, Err, option_map}
+use Rattle.std.specs.Prelude.{◌≡◌, ℕ, ◌⊎◌, List, true, Option, Some, Ok, Err, option_map}
+use Rattle.discovery.specs.declared.documents.Document.{Document}
+use Rattle.metrics.specs.declared.caches.Metrics.{Metrics}
 use Rattle.rev_front.specs.Passes.{Pass}
 use Rattle.rev_log.specs.Changes.{RevisionData}
 use Rattle.up_store.specs.Replies.{IsAccepted, IsTxAccepted, IsOperationReply}
@@ -10,14 +12,15 @@ use Rattle.route_req.specs.declared.routing.Routed.TheVariants as routed
 use Rattle.client_api.specs.Answers.{GotData, ListedData}
 use Rattle.client_api.specs.Gets.{IsGot, IsAbsent}
 use Rattle.client_api.specs.Lists.{IsListed}
+use Rattle.client_api.specs.Metered.{AreMetrics}
 use Rattle.client_api.specs.Starts.{IsWatchStart}
 use Rattle.client_api.specs.declared.answers.ListNo.TheVariants as list_no
 use Rattle.meta_view.specs.declared.form.Form.{Form}
 use Rattle.sess_reply.specs.Contents.{Content, accepted_code}
-use Rattle.sess_reply.specs.Replies.{Reply, content_of, form_of, wrote, transacted, got, listed, operated, described}
+use Rattle.sess_reply.specs.Replies.{Reply, content_of, form_of, wrote, transacted, got, listed, operated, described, metered, unready}
 use Rattle.sess_turns.specs.Terms.{Terms}
 use Rattle.sess_turns.specs.Turns.{Turns, IsWatchTurns}
-use Rattle.sess_serve.specs.Answers.{begun, replied, streamed}
+use Rattle.sess_serve.specs.Answers.{begun, replied, streamed, readiness}
 use Rattle.sess_serve.specs.Steps.{Exchange}
 
 -- the HTTP status of a reply
@@ -37,12 +40,20 @@ pub record GetsStream (terms : Terms) (p : Pass RevisionData) (e : Exchange) (as
   pub starts : IsWatchStart terms.base p ask watch.begun opened
   pub turns : IsWatchTurns terms ask opened watch e.pass
 
--- What a request gets that asks for this. What describes the server: 200. A list: 200, with its page at a fresh
+-- the request is answered by what describes the server; but a mirror may answer that it isn't ready
+abbrev pub GetsDescribed : Terms → Exchange → Document → Type 0
+GetsDescribed terms e document =
+    Gets e (described document) 200 ⊎ ((document ≡ readiness) × (terms.mirror ≡ true) × Gets e unready 503)
+
+-- What a request gets that asks for this. What describes the server: 200, or 503 where a mirror isn't ready. Metrics: 200,
+-- with those of the log and its caches. A list: 200, with its page at a fresh
 -- revision. A get: 200 with the object that stands at a fresh revision, or 404 where none stands there. A write: 201
 -- where it creates and 200 where it replaces or removes, and its change is in the log. A transaction: 200, and its
 -- revision is in the log. An operation: 200, and it is done. A watch: its stream.
 abbrev pub IsServed : Terms → Pass RevisionData → Exchange → Routed → Type 0
-IsServed terms p e (routed.Describe document) = Gets e (described document) 200
+IsServed terms p e (routed.Describe document) = GetsDescribed terms e document
+IsServed terms p e routed.Metrics =
+    (told : Metrics) × Gets e (metered told) 200 × AreMetrics terms.base p told e.pass
 IsServed terms p e (routed.List ask) =
     (page : ListedData) × Gets e (listed ask (Ok page)) 200 × IsListed terms.base p ask page e.pass
 IsServed terms p e (routed.Get ask) =

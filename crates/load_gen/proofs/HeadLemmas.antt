@@ -10,7 +10,7 @@ use Rattle.httparse.specs.Grammar.{AllPass, is_token_byte, is_value_byte, is_ows
 use Rattle.httparse.proofs.TrimLemmas.{skip_ows_no, AllPass-reverse, trim_ows_space}
 use Rattle.http_send.specs.Replies.{text_where, content_type_line}
 use Rattle.http_send.specs.declared.replies.ContentType.{ContentType}
-use Rattle.http_send.specs.declared.replies.ContentType.TheVariants.{Json, PlainText}
+use Rattle.http_send.specs.declared.replies.ContentType.TheVariants.{Json, PlainText, MetricsText}
 use Rattle.load_gen.specs.Heads.{field, further, type_of, head_with}
 
 -- ---- digits
@@ -67,6 +67,7 @@ front text = codes "HTTP/1.1 " ++ text
 abbrev middle : ContentType → List ℕ → List ℕ
 middle Json text = codes "Content-Type: application/json\r\nContent-Length: " ++ text
 middle PlainText text = codes "Content-Type: text/plain; charset=utf-8\r\nContent-Length: " ++ text
+middle MetricsText text = codes "Content-Type: text/plain; version=0.0.4; charset=utf-8\r\nContent-Length: " ++ text
 
 seam : (code reason text : List ℕ) → ((code ++ (32 ∷ reason)) ++ ending) ++ text ≡ code ++ (32 ∷ (reason ++ (13 ∷ 10 ∷ text)))
 seam code reason text = append_assoc (code ++ (32 ∷ reason)) ending text ∙ append_assoc code (32 ∷ reason) (ending ++ text)
@@ -91,6 +92,10 @@ printed PlainText code reason size true true = joined PlainText code reason size
 printed PlainText code reason size true false = joined PlainText code reason size (flat_map print_field (further true false))
 printed PlainText code reason size false true = joined PlainText code reason size (flat_map print_field (further false true))
 printed PlainText code reason size false false = joined PlainText code reason size (flat_map print_field (further false false))
+printed MetricsText code reason size true true = joined MetricsText code reason size (flat_map print_field (further true true))
+printed MetricsText code reason size true false = joined MetricsText code reason size (flat_map print_field (further true false))
+printed MetricsText code reason size false true = joined MetricsText code reason size (flat_map print_field (further false true))
+printed MetricsText code reason size false false = joined MetricsText code reason size (flat_map print_field (further false false))
 
 token : (name : List ℕ) → list_all is_token_byte name ≡ true → AllPass is_token_byte name
 token name pass = AllPass-from_list_all is_token_byte name pass
@@ -104,6 +109,8 @@ type_field Json =
     record { name = (search arith, token (codes "Content-Type") refl); raw = value_of (codes " application/json") refl }
 type_field PlainText =
     record { name = (search arith, token (codes "Content-Type") refl); raw = value_of (codes " text/plain; charset=utf-8") refl }
+type_field MetricsText =
+    record { name = (search arith, token (codes "Content-Type") refl); raw = value_of (codes " text/plain; version=0.0.4; charset=utf-8") refl }
 
 retry_field : IsField (field (codes "Retry-After") (codes "1"))
 unfolding is_token_byte

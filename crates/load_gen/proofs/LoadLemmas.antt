@@ -1,5 +1,5 @@
 -- From a session of any client to the figures of a load.
-use Rattle.std.proofs.Common.{◌≡◌, ℕ, ◌≤◌, List, [], ◌∷◌, ◌++◌, Bool, false, Option, None, Some, Ok, Err, refl, sym, ap, subst, ◌∙◌, inl, inr, arith, codes}
+use Rattle.std.proofs.Common.{◌≡◌, ℕ, ◌≤◌, List, [], ◌∷◌, ◌++◌, Bool, true, false, Option, None, Some, Ok, Err, refl, sym, ap, subst, ◌∙◌, inl, inr, arith, codes}
 use Rattle.std.specs.Prelude.{Result, IfOk}
 use Rattle.std.specs.List.{All}
 use Rattle.std.specs.declared.alloc.AllocError.{AllocError}
@@ -32,9 +32,9 @@ use Rattle.client_api.specs.Fresh.{Meets}
 use Rattle.client_api.specs.Lists.{IsListed}
 use Rattle.local_client.specs.CachedLogs.{CachedLogData, IsNewLog, KnowsWhole, window_of}
 use Rattle.http_send.specs.declared.replies.ContentType.{ContentType}
-use Rattle.http_send.specs.declared.replies.ContentType.TheVariants.{Json}
+use Rattle.http_send.specs.declared.replies.ContentType.TheVariants.{Json, PlainText, MetricsText}
 use Rattle.sess_reply.specs.Contents.{Content, refusal, refused, content_type_of}
-use Rattle.sess_reply.specs.Replies.{Reply, unrouted, wrote, transacted, got, listed, operated, described, unwatched, bad_upgrade, content_of, form_of, text_of}
+use Rattle.sess_reply.specs.Replies.{Reply, unrouted, wrote, transacted, got, listed, operated, described, metered, unready, unwatched, bad_upgrade, content_of, form_of, text_of}
 use Rattle.sess_serve.specs.Answers.{Answer, replied, streamed, is_stream}
 use Rattle.sess_serve.specs.Ends.{Ended}
 use Rattle.sess_serve.specs.Steps.{Exchange}
@@ -72,7 +72,12 @@ of_told : (told : Option Failure) (c : Content) → refusal told ≡ Some c → 
 of_told None c e = absurd (cc)
 of_told (Some told) c e =
     let same : refused told ≡ c = cc in
-    inr (inr (told.reason, sym (ap (λ (x : Content). x.code) same)))
+    inr (inr (inr (told.reason, sym (ap (λ (x : Content). x.code) same))))
+
+of_content : (content c : Content) → IsCode content.code → Some content ≡ Some c → IsCode c.code
+of_content content c known e =
+    let same : content ≡ c = cc in
+    subst IsCode (ap (λ (x : Content). x.code) same) known
 
 of_said : (code : ℕ) (kind : ContentType) (text : List ℕ) (c : Content) → IsCode code → Some (record { code = code; retry = false; kind = kind; text = text }) ≡ Some c → IsCode c.code
 of_said code kind text c known e =
@@ -98,6 +103,8 @@ known_code form (listed ask (Err fault)) c e = of_told _ c e
 known_code form (operated ask (Ok value)) c e = of_said 200 Json _ c is_accepted e
 known_code form (operated ask (Err fault)) c e = of_told _ c e
 known_code form (described document) c e = of_said 200 (content_type_of document) _ c is_accepted e
+known_code form (metered told) c e = of_said 200 MetricsText _ c is_accepted e
+known_code form unready c e = of_content (record { code = 503; retry = true; kind = PlainText; text = _ }) c (inr (inr (inl refl))) e
 known_code form (unwatched ask fault) c e = of_told _ c e
 known_code form (bad_upgrade ask) c e = of_told (Some errors.bad_upgrade) c e
 

@@ -57,7 +57,10 @@ code_facts code known =
       | inl e ↦ subst CodeFacts (sym e) (facts_at 200 (omega arith) (omega arith) refl)
       | inr others ↦ elim others as (λ _. CodeFacts code) [
         | inl e ↦ subst CodeFacts (sym e) (facts_at 201 (omega arith) (omega arith) refl)
-        | inr failed ↦ subst CodeFacts (sym failed.1) (of_reason failed.0)
+        | inr more ↦ elim more as (λ _. CodeFacts code) [
+          | inl e ↦ subst CodeFacts (sym e) (facts_at 503 (omega arith) (omega arith) refl)
+          | inr failed ↦ subst CodeFacts (sym failed.1) (of_reason failed.0)
+        ]
       ]
     ]
 

@@ -2,7 +2,7 @@
 use Rattle.std.specs.Prelude.{ℕ, List, [], ◌∷◌, length, Bool, true, false, Some, codes, decimal}
 use Rattle.http_send.specs.Replies.{phrase}
 use Rattle.http_send.specs.declared.replies.ContentType.{ContentType}
-use Rattle.http_send.specs.declared.replies.ContentType.TheVariants.{Json, PlainText}
+use Rattle.http_send.specs.declared.replies.ContentType.TheVariants.{Json, PlainText, MetricsText}
 use Rattle.httparse.specs.Grammar.{crlf, Field, ResponseHead}
 
 -- a field with a blank before its value
@@ -20,6 +20,7 @@ further false false = []
 abbrev pub type_of : ContentType → List ℕ
 type_of Json = codes "application/json"
 type_of PlainText = codes "text/plain; charset=utf-8"
+type_of MetricsText = codes "text/plain; version=0.0.4; charset=utf-8"
 
 -- a head with what its body is, these digits of its code, this reason, and these digits of its body's length
 abbrev pub head_with : ContentType → List ℕ → List ℕ → List ℕ → Bool → Bool → ResponseHead

@@ -39,9 +39,10 @@ pub record AreCounted (replies : List ℕ) (ok refused : ℕ) : Type 0 where
 
 -- ---- replies in the bytes that were written
 
--- the codes that replies have: that of an accepted request, of an accepted create, and those of failures
+-- the codes that replies have: that of an accepted request, of an accepted create, of a server that isn't ready, and those
+-- of failures
 abbrev pub IsCode : ℕ → Type 0
-IsCode code = (code ≡ 200) ⊎ ((code ≡ 201) ⊎ ((reason : Reason) × (code ≡ reason_code reason)))
+IsCode code = (code ≡ 200) ⊎ ((code ≡ 201) ⊎ ((code ≡ 503) ⊎ ((reason : Reason) × (code ≡ reason_code reason))))
 
 -- a whole reply with this code
 pub record IsReply (code : ℕ) (text : List ℕ) : Type 0 where

@@ -31,7 +31,7 @@ use Rattle.route_req.specs.Texts.{AsksItem, AskAll, IsList, AsksTransaction, ope
 use Rattle.route_req.specs.Asks.{is_watch, AsksList, AsksWatch, AsksCreate, AsksReplace, Asks}
 use Rattle.route_req.specs.Outcomes.{AnswersAgree}
 use Rattle.route_req.specs.declared.places.Action.{Action}
-use Rattle.route_req.specs.declared.places.Action.TheVariants.{Describe, Read, Create, Get, Replace, Remove, Cut, Compact, Restart, Transact}
+use Rattle.route_req.specs.declared.places.Action.TheVariants.{Describe, Measure, Read, Create, Get, Replace, Remove, Cut, Compact, Restart, Transact}
 use Rattle.route_req.specs.declared.transactions.Operation.{Operation}
 use Rattle.route_req.specs.declared.transactions.Operation.TheVariants as operation
 use Rattle.route_req.specs.declared.routing.Routed.{Routed}
@@ -125,6 +125,7 @@ create_form r ns body (routed.List ask) is = absurd is
 create_form r ns body (routed.Operate ask) is = absurd is
 create_form r ns body (routed.Transact ask) is = absurd is
 create_form r ns body (routed.Describe text) is = absurd is
+create_form r ns body routed.Metrics is = absurd is
 
 -- a replacement's
 abbrev pub ReplaceForm : Resource → List ℕ → List ℕ → Routed → Type 0
@@ -142,6 +143,7 @@ replace_form r ns name body (routed.List ask) is = absurd is
 replace_form r ns name body (routed.Operate ask) is = absurd is
 replace_form r ns name body (routed.Transact ask) is = absurd is
 replace_form r ns name body (routed.Describe text) is = absurd is
+replace_form r ns name body routed.Metrics is = absurd is
 
 -- ---- items
 
@@ -221,6 +223,7 @@ either_once false s params a b ha hb =
 
 acts_once : (action : Action) (req : Req) (a b : Routed) → Asks action req a → Asks action req b → a ≡ b
 acts_once (Describe text) req a b ha hb = ha ∙ sym hb
+acts_once Measure req a b ha hb = ha ∙ sym hb
 acts_once (Read r ns) req a b ha hb =
     let same : hb.0 ≡ ha.0 = same_Ok hb.0 ha.0 (sym hb.1 ∙ ha.1) in
     either_once (is_watch req.params) ha.0 req.params a b ha.2 (subst (λ s. MatchBool (is_watch req.params) (AsksWatch s req.params b) (AsksList s req.params b)) same hb.2)

@@ -28,9 +28,9 @@ use Rattle.route_req.specs.Texts.{AsksTransaction, RefusesText}
 use Rattle.route_req.specs.Asks.{is_watch, IsSelection, compacts_at, RefusesBody, AsksList, AsksWatch, AsksRead, AsksCreate, AsksReplace, AsksGet, AsksCompact, AsksTransact, Asks, RefusesList, RefusesWatch, RefusesRead, RefusesObject, RefusesGet, RefusesCompact, RefusesTransact, Refuses, AsksAtPath, RefusesAtPath, IsRefusal}
 use Rattle.route_req.specs.Outcomes.{RoutesAreNotRefused, RefusalsAgree}
 use Rattle.route_req.specs.declared.places.Place.{Place}
-use Rattle.route_req.specs.declared.places.Place.TheVariants.{Described, Everywhere, Namespaced, Named, OfCut, OfCompact, OfRestart, OfTransaction}
+use Rattle.route_req.specs.declared.places.Place.TheVariants.{Described, Everywhere, Namespaced, Named, OfMetrics, OfCut, OfCompact, OfRestart, OfTransaction}
 use Rattle.route_req.specs.declared.places.Action.{Action}
-use Rattle.route_req.specs.declared.places.Action.TheVariants.{Describe, Read, Create, Get, Replace, Remove, Cut, Compact, Restart, Transact}
+use Rattle.route_req.specs.declared.places.Action.TheVariants.{Describe, Measure, Read, Create, Get, Replace, Remove, Cut, Compact, Restart, Transact}
 use Rattle.route_req.specs.declared.transactions.TxTextNo.{TxTextNo}
 use Rattle.route_req.specs.declared.transactions.TxTextNo.TheVariants as text_no
 use Rattle.route_req.specs.declared.routing.Routed.{Routed}
@@ -250,6 +250,7 @@ list_asks s params (routed.Watch ask) is = absurd is
 list_asks s params (routed.Operate ask) is = absurd is
 list_asks s params (routed.Transact ask) is = absurd is
 list_asks s params (routed.Describe text) is = absurd is
+list_asks s params routed.Metrics is = absurd is
 
 pub watch_asks : (s : Selection) (params : Pairs) (answer : Routed) → AsksWatch s params answer → (ask : WatchAsk) × (answer ≡ routed.Watch ask) × MeansWatch s params ask
 watch_asks s params (routed.Watch ask) is = (ask, refl, is)
@@ -259,6 +260,7 @@ watch_asks s params (routed.Get ask) is = absurd is
 watch_asks s params (routed.Operate ask) is = absurd is
 watch_asks s params (routed.Transact ask) is = absurd is
 watch_asks s params (routed.Describe text) is = absurd is
+watch_asks s params routed.Metrics is = absurd is
 
 pub get_asks : (r : Resource) (ns name : List ℕ) (params : Pairs) (answer : Routed) → AsksGet r ns name params answer
     → (ask : GetAsk) × (answer ≡ routed.Get ask) × (ask.resource ≡ r) × (ask.key ≡ joined ns name) × (of_get (number_of (given (codes "resourceVersion") params)) ≡ Ok ask.meaning)
@@ -269,6 +271,7 @@ get_asks r ns name params (routed.Write ask) is = absurd is
 get_asks r ns name params (routed.Operate ask) is = absurd is
 get_asks r ns name params (routed.Transact ask) is = absurd is
 get_asks r ns name params (routed.Describe text) is = absurd is
+get_asks r ns name params routed.Metrics is = absurd is
 
 -- a body that is stored: one text, that isn't refused
 abbrev pub IsStored : Resource → List ℕ → Option (List ℕ) → List ℕ → Type 0
@@ -284,6 +287,7 @@ create_asks r ns body (routed.List ask) is = absurd is
 create_asks r ns body (routed.Operate ask) is = absurd is
 create_asks r ns body (routed.Transact ask) is = absurd is
 create_asks r ns body (routed.Describe text) is = absurd is
+create_asks r ns body routed.Metrics is = absurd is
 
 replace_asks : (r : Resource) (ns name body : List ℕ) (answer : Routed) → AsksReplace r ns name body answer → IsStored r ns (Some name) body
 replace_asks r ns name body (routed.Write (write.Replace resource obj given_rev)) is = (is.1, is.2, is.3)
@@ -295,6 +299,7 @@ replace_asks r ns name body (routed.List ask) is = absurd is
 replace_asks r ns name body (routed.Operate ask) is = absurd is
 replace_asks r ns name body (routed.Transact ask) is = absurd is
 replace_asks r ns name body (routed.Describe text) is = absurd is
+replace_asks r ns name body routed.Metrics is = absurd is
 
 pub compact_asks : (params : Pairs) (answer : Routed) → AsksCompact params answer → (at : ℕ) × (answer ≡ routed.Operate (operate.Compact at)) × (compacts_at params ≡ Some (Ok at))
 compact_asks params (routed.Operate (operate.Compact at)) is = (at, refl, is)
@@ -306,11 +311,13 @@ compact_asks params (routed.Watch ask) is = absurd is
 compact_asks params (routed.List ask) is = absurd is
 compact_asks params (routed.Transact ask) is = absurd is
 compact_asks params (routed.Describe text) is = absurd is
+compact_asks params routed.Metrics is = absurd is
 
 pub text_asks : (body : List ℕ) (answer : Routed) → AsksTransact body answer → (asks : List WriteAsk) × (answer ≡ routed.Transact asks) × AsksTransaction body asks
 text_asks body (routed.Transact asks) is = (asks, refl, is)
 text_asks body (routed.Operate ask) is = absurd is
 text_asks body (routed.Describe text) is = absurd is
+text_asks body routed.Metrics is = absurd is
 text_asks body (routed.Write ask) is = absurd is
 text_asks body (routed.Get ask) is = absurd is
 text_asks body (routed.Watch ask) is = absurd is
@@ -338,6 +345,7 @@ read_placed r ns params fault (inr x) = kind_placed (is_watch params) x.0 params
 
 acts_placed : (action : Action) (req : Req) (fault : RouteNo) → Refuses action req fault → Placed fault
 acts_placed (Describe text) req fault is = absurd is
+acts_placed Measure req fault is = absurd is
 acts_placed (Read r ns) req fault is = read_placed r ns req.params fault (read_tells r ns req.params fault is)
 acts_placed (Create r ns) req fault is = tells_placed fault (λ why. route_no.Object why) _ (λ why. tt) (body_tells r ns None req.body fault is)
 acts_placed (Get r ns name) req fault is = tells_placed fault (λ why. route_no.List why) _ (λ why. tt) (get_tells req.params fault is)
@@ -356,6 +364,7 @@ same_refuses req own action b e refused =
 
 memory_taken : (req : Req) (place : Place) (action : Action) → action_at place req.method ≡ Some action → Refuses action req route_no.Memory → takes_memory place ≡ true
 memory_taken req (Described text) action e refused = absurd (same_refuses req (Describe text) action (bytes_eq req.method (codes "GET")) e refused)
+memory_taken req OfMetrics action e refused = absurd (same_refuses req Measure action (bytes_eq req.method (codes "GET")) e refused)
 memory_taken req (Everywhere r) action e refused = refl
 memory_taken req (Namespaced r ns) action e refused = refl
 memory_taken req (Named r ns name) action e refused = refl
@@ -421,6 +430,7 @@ text_excludes body answer fault asked refused =
 
 acts_exclude : (action : Action) (req : Req) (answer : Routed) (fault : RouteNo) → Asks action req answer → Refuses action req fault → fault ≡ route_no.Memory
 acts_exclude (Describe text) req answer fault asked refused = absurd refused
+acts_exclude Measure req answer fault asked refused = absurd refused
 acts_exclude (Read r ns) req answer fault asked refused = read_excludes r ns req.params answer fault asked (read_tells r ns req.params fault refused)
 acts_exclude (Create r ns) req answer fault asked refused = body_excludes r ns None req.body fault (create_asks r ns req.body answer asked) refused
 acts_exclude (Get r ns name) req answer fault asked refused = get_excludes r ns name req.params answer fault asked refused
@@ -458,6 +468,7 @@ body_agrees r ns name body a b ha hb na nb =
 
 acts_agree : (action : Action) (req : Req) (a b : RouteNo) → Refuses action req a → Refuses action req b → a ≢ route_no.Memory → b ≢ route_no.Memory → a ≡ b
 acts_agree (Describe text) req a b ha hb na nb = absurd ha
+acts_agree Measure req a b ha hb na nb = absurd ha
 acts_agree (Read r ns) req a b ha hb na nb = read_agrees r ns req.params a b (read_tells r ns req.params a ha) (read_tells r ns req.params b hb) na nb
 acts_agree (Create r ns) req a b ha hb na nb = body_agrees r ns None req.body a b ha hb na nb
 acts_agree (Get r ns name) req a b ha hb na nb =

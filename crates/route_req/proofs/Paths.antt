@@ -8,11 +8,11 @@ use Rattle.kube_meta.specs.Resources.{plural_of, group_of, version_of, of_group}
 use Rattle.kube_meta.proofs.ResourceLemmas.{groups}
 use Rattle.kube_meta.specs.declared.resources.Resource.{Resource}
 use Rattle.route_req.specs.Places.{base_by, base_of, path_of, document_path, Names, NamesMaybe, PathsNameOnePlace, takes_memory, MayLackMemory}
-use Rattle.route_req.specs.Lookup.{behind, namespaced, named, own_word, own_place, place_behind, core_place, group_place, api_place, before_slash, document_at, place_found}
+use Rattle.route_req.specs.Lookup.{behind, namespaced, named, own_word, own_place, metrics_place, place_behind, core_place, group_place, api_place, before_slash, document_at, place_found}
 use Rattle.discovery.specs.declared.documents.Document.{Document}
 use Rattle.route_req.proofs.DocumentPaths.{if_found, first_found, same_text, text_found, slashed, text_at_path, text_at_slash, no_text_everywhere, no_text_namespaced, no_text_named}
 use Rattle.route_req.specs.declared.places.Place.{Place}
-use Rattle.route_req.specs.declared.places.Place.TheVariants.{Described, Everywhere, Namespaced, Named, OfCut, OfCompact, OfRestart, OfTransaction}
+use Rattle.route_req.specs.declared.places.Place.TheVariants.{Described, Everywhere, Namespaced, Named, OfMetrics, OfCut, OfCompact, OfRestart, OfTransaction}
 
 -- ---- what a look-up that found something looked at
 
@@ -67,6 +67,15 @@ own_found : (rest : List (List ℕ)) (place : Place) → own_place rest ≡ Some
 own_found [] place e = absurd (none-some place e)
 own_found (word ∷ []) place e = own_word_found word place e
 own_found (word ∷ more ∷ rest) place e = absurd (none-some place e)
+
+-- ---- the path of metrics
+
+metrics_found : (rest : List (List ℕ)) (place : Place) → metrics_place rest ≡ Some place → Names (codes "metrics" ∷ rest) place
+metrics_found [] place e = subst (Names (codes "metrics" ∷ [])) (same_Some OfMetrics place e) (inl refl, tt)
+metrics_found ([] ∷ []) place e = subst (Names (codes "metrics" ∷ [] ∷ [])) (same_Some OfMetrics place e) (inr refl, tt)
+metrics_found ((first ∷ more) ∷ []) place e =
+    absurd (none-some place (sym (cond-false (length (first ∷ more) == 0) (Some OfMetrics) None (ne_eqb (length (first ∷ more)) 0 (omega arith))) ∙ e))
+metrics_found (last ∷ more ∷ rest) place e = absurd (none-some place e)
 
 -- ---- the paths of resources
 
@@ -138,13 +147,16 @@ group_found ((first ∷ more) ∷ version ∷ rest) place e = found_behind (firs
 
 api_named_by : (path : List (List ℕ)) (place : Place) → api_place path ≡ Some place → Names path place
 api_named_by path place e =
-    elim (either_found own_place (behind (codes "watchcache") path) _ place e) [
-      | inl p ↦ subst (λ q. Names q place) (sym (behind_found (codes "watchcache") path p.0 p.1)) (own_found p.0 place p.2)
-      | inr e1 ↦ elim (either_found core_place (behind (codes "api") path) _ place e1) [
-        | inl p ↦ subst (λ q. Names q place) (sym (behind_found (codes "api") path p.0 p.1)) (core_found p.0 place p.2)
-        | inr e2 ↦
-            let p = next_found group_place (behind (codes "apis") path) place e2 in
-            subst (λ q. Names q place) (sym (behind_found (codes "apis") path p.0 p.1)) (group_found p.0 place p.2)
+    elim (either_found metrics_place (behind (codes "metrics") path) _ place e) [
+      | inl p ↦ subst (λ q. Names q place) (sym (behind_found (codes "metrics") path p.0 p.1)) (metrics_found p.0 place p.2)
+      | inr e0 ↦ elim (either_found own_place (behind (codes "watchcache") path) _ place e0) [
+        | inl p ↦ subst (λ q. Names q place) (sym (behind_found (codes "watchcache") path p.0 p.1)) (own_found p.0 place p.2)
+        | inr e1 ↦ elim (either_found core_place (behind (codes "api") path) _ place e1) [
+          | inl p ↦ subst (λ q. Names q place) (sym (behind_found (codes "api") path p.0 p.1)) (core_found p.0 place p.2)
+          | inr e2 ↦
+              let p = next_found group_place (behind (codes "apis") path) place e2 in
+              subst (λ q. Names q place) (sym (behind_found (codes "apis") path p.0 p.1)) (group_found p.0 place p.2)
+        ]
       ]
     ]
 
@@ -196,6 +208,8 @@ found_for path (Named r ns name) (e, h) =
     (behind_base (group_of r) (version_of r) (codes "namespaces" ∷ ns ∷ plural_of r ∷ name ∷ [])
     ∙ ap (λ found. named (codes "namespaces") ns found name) (of_names r)
     ∙ cond-true (is_namespace ns && is_object_name name) (Some (Named r ns name)) None (and_from (is_namespace ns) (is_object_name name) h.0 h.1))
+found_for path OfMetrics (inl e, h) = ap place_found e
+found_for path OfMetrics (inr e, h) = ap place_found e
 found_for path OfCut (e, h) = ap place_found e
 found_for path OfCompact (e, h) = ap place_found e
 found_for path OfRestart (e, h) = ap place_found e

@@ -35,7 +35,7 @@ use Rattle.json_obj.specs.declared.refusals.ObjNo.TheVariants as object_no
 use Rattle.route_req.specs.Texts as texts
 use Rattle.route_req.specs.Asks.{is_watch, of_selector, of_list, of_object, of_text, wraps_memory, RefusesList, RefusesWatch, RefusesRead, RefusesObject, RefusesGet, RefusesCompact, RefusesTransact, Refuses, IsRefusal}
 use Rattle.route_req.specs.declared.places.Action.{Action}
-use Rattle.route_req.specs.declared.places.Action.TheVariants.{Describe, Read, Create, Get, Replace, Remove, Cut, Compact, Restart, Transact}
+use Rattle.route_req.specs.declared.places.Action.TheVariants.{Describe, Measure, Read, Create, Get, Replace, Remove, Cut, Compact, Restart, Transact}
 use Rattle.route_req.specs.declared.transactions.TxTextNo.TheVariants as text_no
 use Rattle.route_req.specs.declared.routing.RouteNo.{RouteNo}
 use Rattle.route_req.specs.declared.routing.RouteNo.TheVariants as route_no
@@ -256,6 +256,7 @@ compact_plain params route_no.Memory is = refl
 
 pub act_plain : (action : Action) (req : Req) (fault : RouteNo) → Refuses action req fault → wraps_memory fault ≡ false
 act_plain (Describe text) req fault is = absurd is
+act_plain Measure req fault is = absurd is
 act_plain (Read r ns) req fault is = read_plain r ns req.params fault is
 act_plain (Create r ns) req fault is = body_plain r ns None req.body fault is
 act_plain (Get r ns name) req fault is = get_plain req.params fault is

@@ -30,7 +30,7 @@ use Rattle.route_req.specs.Places.{Names, action_at, MayLackMemory}
 use Rattle.route_req.specs.Texts.{AsksTransaction, RefusesText}
 use Rattle.route_req.specs.declared.places.Place.{Place}
 use Rattle.route_req.specs.declared.places.Action.{Action}
-use Rattle.route_req.specs.declared.places.Action.TheVariants.{Describe, Read, Create, Get, Replace, Remove, Cut, Compact, Restart, Transact}
+use Rattle.route_req.specs.declared.places.Action.TheVariants.{Describe, Measure, Read, Create, Get, Replace, Remove, Cut, Compact, Restart, Transact}
 use Rattle.route_req.specs.declared.transactions.TxTextNo.{TxTextNo}
 use Rattle.route_req.specs.declared.transactions.TxTextNo.TheVariants as text_no
 use Rattle.route_req.specs.declared.routing.Routed.{Routed}
@@ -109,6 +109,7 @@ AsksRemove r ns name answer = answer ≡ routed.Write (write.Remove r (joined ns
 -- what a request is for, of which its path and its method have said the action already
 abbrev pub Asks : Action → Req → Routed → Type 0
 Asks (Describe text) req answer = answer ≡ routed.Describe text
+Asks Measure req answer = answer ≡ routed.Metrics
 Asks (Read r ns) req answer = AsksRead r ns req.params answer
 Asks (Create r ns) req answer = AsksCreate r ns req.body answer
 Asks (Get r ns name) req answer = AsksGet r ns name req.params answer
@@ -187,10 +188,11 @@ RefusesTransact body (route_no.Transaction fault) = RefusesText body fault
 RefusesTransact body route_no.Memory = Unit {0}
 RefusesTransact body fault = ⊥
 
--- why a request is refused although its path and its method say an action; what describes the server, a cut and a restart
--- never are
+-- why a request is refused although its path and its method say an action; what describes the server, metrics, a cut and a
+-- restart never are
 abbrev pub Refuses : Action → Req → RouteNo → Type 0
 Refuses (Describe text) req fault = ⊥
+Refuses Measure req fault = ⊥
 Refuses (Read r ns) req fault = RefusesRead r ns req.params fault
 Refuses (Create r ns) req fault = RefusesObject r ns None req.body fault
 Refuses (Get r ns name) req fault = RefusesGet req.params fault

@@ -8,7 +8,7 @@ use Rattle.discovery.specs.declared.documents.Document.{Document}
 use Rattle.discovery.specs.declared.documents.Document.TheVariants as document
 use Rattle.discovery.specs.declared.documents.Probe.TheVariants as probe
 use Rattle.route_req.specs.declared.places.Place.{Place}
-use Rattle.route_req.specs.declared.places.Place.TheVariants.{Described, Everywhere, Namespaced, Named, OfCut, OfCompact, OfRestart, OfTransaction}
+use Rattle.route_req.specs.declared.places.Place.TheVariants.{Described, Everywhere, Namespaced, Named, OfMetrics, OfCut, OfCompact, OfRestart, OfTransaction}
 
 -- what stands behind a first segment
 abbrev pub behind : List ℕ → List (List ℕ) → Option (List (List ℕ))
@@ -56,12 +56,19 @@ own_place [] = None
 own_place (word ∷ []) = own_word word
 own_place (word ∷ more ∷ rest) = None
 
+-- the place of the segments behind `metrics`
+abbrev pub metrics_place : List (List ℕ) → Option Place
+metrics_place [] = Some OfMetrics
+metrics_place (last ∷ []) = if length last == 0 then Some OfMetrics else None
+metrics_place (last ∷ more ∷ rest) = None
+
 -- of the server's own paths first, then of the core group, then of the others
 abbrev pub api_place : List (List ℕ) → Option Place
 api_place path =
-    option_map_or own_place (behind (codes "watchcache") path)
+    option_map_or metrics_place (behind (codes "metrics") path)
+    (option_map_or own_place (behind (codes "watchcache") path)
     (option_map_or core_place (behind (codes "api") path)
-    (option_and_then group_place (behind (codes "apis") path)))
+    (option_and_then group_place (behind (codes "apis") path))))
 
 -- ---- what describes the server
 

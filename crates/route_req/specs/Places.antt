@@ -1,5 +1,5 @@
 -- Which paths and methods are served: those of the Kubernetes API for the resources ("Resource URIs" of the API concepts)
--- and for what describes the server ("Discovery", "API health endpoints"), and four of the server's own.
+-- and for what describes the server ("Discovery", "API health endpoints"), that of metrics, and four of the server's own.
 use Rattle.std.specs.Prelude.{◌≡◌, ◌⊎◌, ℕ, Bool, true, false, IsTrue, List, [], ◌∷◌, ◌++◌, codes, Option, Some, None, if◌then◌else◌}
 use Rattle.std.specs.Str.{bytes_eq}
 use Rattle.kube_meta.specs.Names.{IsNamespace, IsObjectName}
@@ -9,9 +9,9 @@ use Rattle.discovery.specs.declared.documents.Document.{Document}
 use Rattle.discovery.specs.declared.documents.Document.TheVariants as document
 use Rattle.discovery.specs.declared.documents.Probe.TheVariants as probe
 use Rattle.route_req.specs.declared.places.Place.{Place}
-use Rattle.route_req.specs.declared.places.Place.TheVariants.{Described, Everywhere, Namespaced, Named, OfCut, OfCompact, OfRestart, OfTransaction}
+use Rattle.route_req.specs.declared.places.Place.TheVariants.{Described, Everywhere, Namespaced, Named, OfMetrics, OfCut, OfCompact, OfRestart, OfTransaction}
 use Rattle.route_req.specs.declared.places.Action.{Action}
-use Rattle.route_req.specs.declared.places.Action.TheVariants.{Describe, Read, Create, Get, Replace, Remove, Cut, Compact, Restart, Transact}
+use Rattle.route_req.specs.declared.places.Action.TheVariants.{Describe, Measure, Read, Create, Get, Replace, Remove, Cut, Compact, Restart, Transact}
 
 -- ---- the table of paths
 
@@ -38,6 +38,10 @@ document_path (document.Probe probe.Livez) = codes "livez" ∷ []
 document_path (document.Probe probe.Readyz) = codes "readyz" ∷ []
 document_path (document.Probe probe.Healthz) = codes "healthz" ∷ []
 
+-- the path of metrics, in segments
+abbrev pub metrics_path : List (List ℕ)
+metrics_path = codes "metrics" ∷ []
+
 -- the path of each place, in segments: behind the base path /{resource}, /namespaces/{ns}/{resource} and
 -- /namespaces/{ns}/{resource}/{name}; and /watchcache/cut, /compact, /restart and /transaction
 abbrev pub path_of : Place → List (List ℕ)
@@ -45,15 +49,17 @@ path_of (Described text) = document_path text
 path_of (Everywhere r) = base_of r ++ plural_of r ∷ []
 path_of (Namespaced r ns) = base_of r ++ codes "namespaces" ∷ ns ∷ plural_of r ∷ []
 path_of (Named r ns name) = base_of r ++ codes "namespaces" ∷ ns ∷ plural_of r ∷ name ∷ []
+path_of OfMetrics = metrics_path
 path_of OfCut = codes "watchcache" ∷ codes "cut" ∷ []
 path_of OfCompact = codes "watchcache" ∷ codes "compact" ∷ []
 path_of OfRestart = codes "watchcache" ∷ codes "restart" ∷ []
 path_of OfTransaction = codes "watchcache" ∷ codes "transaction" ∷ []
 
--- the path is that of the place; a text that describes the server has it with a slash behind it too, which is an empty
--- last segment
+-- the path is that of the place; a text that describes the server, and metrics, have it with a slash behind it too, which
+-- is an empty last segment
 abbrev pub IsPathOf : List (List ℕ) → Place → Type 0
 IsPathOf path (Described text) = (path ≡ document_path text) ⊎ (path ≡ document_path text ++ [] ∷ [])
+IsPathOf path OfMetrics = (path ≡ metrics_path) ⊎ (path ≡ metrics_path ++ [] ∷ [])
 IsPathOf path place = path ≡ path_of place
 
 -- the namespace that is described, if it is one, is in the grammar of such names
@@ -67,6 +73,7 @@ IsPlace (Described text) = IsDocument text
 IsPlace (Everywhere r) = Unit {0}
 IsPlace (Namespaced r ns) = IsNamespace ns
 IsPlace (Named r ns name) = IsNamespace ns × IsObjectName name
+IsPlace OfMetrics = Unit {0}
 IsPlace OfCut = Unit {0}
 IsPlace OfCompact = Unit {0}
 IsPlace OfRestart = Unit {0}
@@ -102,6 +109,7 @@ action_at (Named r ns name) method =
     if bytes_eq method (codes "GET") then Some (Get r ns name) else
     (if bytes_eq method (codes "PUT") then Some (Replace r ns name) else
     (if bytes_eq method (codes "DELETE") then Some (Remove r ns name) else None))
+action_at OfMetrics method = if bytes_eq method (codes "GET") then Some Measure else None
 action_at OfCut method = posted Cut method
 action_at OfCompact method = posted Compact method
 action_at OfRestart method = posted Restart method
@@ -110,6 +118,7 @@ action_at OfTransaction method = posted Transact method
 -- the namespace and the name of what is asked for are in the grammars
 abbrev pub IsAction : Action → Type 0
 IsAction (Describe text) = IsDocument text
+IsAction Measure = Unit {0}
 IsAction (Read r ns) = Unit {0}
 IsAction (Create r ns) = IsNamespace ns
 IsAction (Get r ns name) = IsNamespace ns × IsObjectName name
@@ -133,6 +142,7 @@ takes_memory (Described text) = keeps_name text
 takes_memory (Everywhere r) = true
 takes_memory (Namespaced r ns) = true
 takes_memory (Named r ns name) = true
+takes_memory OfMetrics = false
 takes_memory OfCut = false
 takes_memory OfCompact = false
 takes_memory OfRestart = false

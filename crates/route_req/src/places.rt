@@ -20,6 +20,8 @@ pub(crate) enum Place {
     Namespaced(Resource, Text),
     /// The object of a resource with this namespace and name.
     Named(Resource, Text, Text),
+    /// `/metrics`.
+    OfMetrics,
     /// `/watchcache/cut`.
     OfCut,
     /// `/watchcache/compact`.
@@ -34,6 +36,7 @@ pub(crate) enum Place {
 #[derive(Debug, Drop)]
 pub(crate) enum Action {
     Describe(Document),
+    Measure,
     /// A list or a watch, in one namespace or in all.
     Read(Resource, Option<Text>),
     Create(Resource, Text),
@@ -184,11 +187,25 @@ fn look_up(path: &[Text]) -> Result<Option<Place>, Memory>
     }
 }
 
+// The place of the segments behind `metrics`: none, or the slash.
+fn metrics_place(path: &[Text]) -> Option<Place>
+    ensures { result ≡ lookup.metrics_place path.now }
+{
+    match path {
+        [] => Some(Place::OfMetrics),
+        [last] if last.as_str().is_empty() => Some(Place::OfMetrics),
+        _ => None,
+    }
+}
+
 // The place of a path that doesn't describe the server, of the own ones first.
 fn api_place(path: &[Text]) -> Result<Option<Place>, Memory>
     ensures found { IfOk result (λ place. place ≡ lookup.api_place path.now) }
     ensures memory { OnErr result (option_map places.takes_memory (lookup.api_place path.now) ≡ Some true) }
 {
+    if let Some(rest) = behind(path, "metrics") {
+        return Ok(metrics_place(rest));
+    }
     if let Some(rest) = behind(path, "watchcache") {
         return Ok(own_place(rest));
     }
@@ -212,6 +229,7 @@ pub(crate) fn action_at(place: Place, method: &str) -> Option<Action>
         Place::Everywhere(resource) => at_all(resource, method),
         Place::Namespaced(resource, ns) => at_namespace(resource, ns, method),
         Place::Named(resource, ns, name) => at_object(resource, ns, name, method),
+        Place::OfMetrics => measured(method),
         Place::OfCut => posted(Action::Cut, method),
         Place::OfCompact => posted(Action::Compact, method),
         Place::OfRestart => posted(Action::Restart, method),
@@ -226,6 +244,16 @@ fn described(document: Document, method: &str) -> Option<Action>
 {
     match method {
         "GET" => Some(Action::Describe(document)),
+        _ => None,
+    }
+}
+
+fn measured(method: &str) -> Option<Action>
+    ensures value { result ≡ places.action_at Place.OfMetrics method.now }
+    ensures form { IfSome result places.IsAction }
+{
+    match method {
+        "GET" => Some(Action::Measure),
         _ => None,
     }
 }

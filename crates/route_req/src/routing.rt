@@ -35,6 +35,8 @@ pub enum Routed {
     Transact(Transaction),
     /// What the server tells of itself.
     Describe(Document),
+    /// What the log, its caches and their clients come to, as a monitor asks for it.
+    Metrics,
 }
 
 /// Why a request has no route; the first of these that holds.
@@ -262,6 +264,7 @@ fn act(alloc: Global, action: Action, req: &Req) -> Result<Routed, RouteNo>
 {
     match action {
         Action::Describe(document) => Ok(Routed::Describe(document)),
+        Action::Measure => Ok(Routed::Metrics),
         Action::Read(resource, ns) => read(alloc, resource, ns, &req.params),
         Action::Create(resource, ns) => create(alloc, resource, ns, req.body.as_slice()),
         Action::Get(resource, ns, name) => get(resource, ns, name, &req.params),
@@ -297,7 +300,7 @@ fn route_at_path(alloc: Global, req: &Req) -> Result<Routed, RouteNo>
 ///
 /// The paths and methods are those of the Kubernetes API for pods, config maps and deployments
 /// ("Resource URIs" of the API concepts), GET of what describes the server (its version, its API
-/// groups and resources, each namespace, and the probes), and POST of `/watchcache/cut`,
+/// groups and resources, each namespace, and the probes) and of `/metrics`, and POST of `/watchcache/cut`,
 /// `/watchcache/compact`, `/watchcache/restart` and `/watchcache/transaction`. A GET of a collection
 /// is a watch exactly where the parameter `watch` is true.
 pub fn route(alloc: Global, req: &Req) -> Result<Routed, RouteNo>

@@ -1,13 +1,14 @@
--- What each answer says: a status, whether it is to be asked again in a second, and a text, which is JSON but for probes.
+-- What each answer says: a status, whether it is to be asked again in a second, and a text, which is JSON but for probes
+-- and metrics.
 -- Nothing is said of want of memory.
-use Rattle.std.specs.Prelude.{ℕ, List, [], ◌∷◌, Bool, false, Option, None, Some, Result, Ok, Err, map, option_map, option_and_then, slice_get, if◌then◌else◌}
+use Rattle.std.specs.Prelude.{ℕ, List, [], ◌∷◌, codes, Bool, true, false, Option, None, Some, Result, Ok, Err, map, option_map, option_and_then, slice_get, if◌then◌else◌}
 use Rattle.kube_meta.specs.Keys.{name_of}
 use Rattle.kube_meta.specs.Rows.{RowData}
 use Rattle.kube_meta.specs.declared.resources.Resource.{Resource}
 use Rattle.discovery.specs.Documents.{document_text, is_probe_of}
 use Rattle.discovery.specs.declared.documents.Document.{Document}
 use Rattle.http_send.specs.declared.replies.ContentType.{ContentType}
-use Rattle.http_send.specs.declared.replies.ContentType.TheVariants.{Json, PlainText}
+use Rattle.http_send.specs.declared.replies.ContentType.TheVariants.{Json, PlainText, MetricsText}
 use Rattle.json_obj.specs.Replies.{list_text, status_text, value_text}
 use Rattle.list_rules.specs.declared.ask.ListAsk.{ListAsk}
 use Rattle.list_rules.specs.declared.get.GetAsk.{GetAsk}
@@ -29,6 +30,8 @@ use Rattle.meta_view.specs.declared.form.Form.TheVariants.{Whole}
 use Rattle.client_api.specs.declared.answers.ListNo.{ListNo}
 use Rattle.client_api.specs.declared.answers.ListNo.TheVariants.{Expired, TooLarge, Absent, Memory}
 use Rattle.client_api.specs.Answers.{GotData, ListedData}
+use Rattle.metrics.specs.declared.caches.Metrics.{Metrics}
+use Rattle.metrics_text.specs.Text.{metrics_text}
 
 -- the HTTP status, whether the client may ask again in a second, what the text is, and the text
 pub record Content : Type 0 where
@@ -138,3 +141,14 @@ content_type_of document = if is_probe_of document then PlainText else Json
 -- what describes the server is said as it is
 abbrev pub described_content : Document → Option Content
 described_content document = Some (record { code = 200; retry = false; kind = content_type_of document; text = document_text document })
+
+-- ---- monitors
+
+-- what a monitor is told is said in its own format
+abbrev pub metered_content : Metrics → Option Content
+metered_content told = Some (record { code = 200; retry = false; kind = MetricsText; text = metrics_text told })
+
+-- a mirror that has lost its peer isn't ready (503, Service Unavailable)
+abbrev pub unready_content : Option Content
+unready_content =
+    Some (record { code = 503; retry = true; kind = PlainText; text = codes "[-]following its peer failed\nreadyz check failed" })

@@ -22,11 +22,12 @@ use Rattle.meta_view.specs.declared.form.Form.{Form}
 use Rattle.meta_view.specs.declared.form.Form.TheVariants.{Whole, Metadata}
 use Rattle.client_api.specs.declared.answers.ListNo.{ListNo}
 use Rattle.client_api.specs.Answers.{GotData, ListedData}
-use Rattle.sess_reply.specs.Contents.{Content, refused, refusal, written_content, transacted_content, got_content, listed_content, operated_content, described_content, read_told}
+use Rattle.metrics.specs.declared.caches.Metrics.{Metrics}
+use Rattle.sess_reply.specs.Contents.{Content, refused, refusal, written_content, transacted_content, got_content, listed_content, operated_content, described_content, metered_content, unready_content, read_told}
 
 -- an answer that is a reply, with what was asked: the request has no route; what its write, transaction, get, list or
--- operation came to; what describes the server; its watch is refused before it began; its watch asks to go on as a
--- WebSocket, and that isn't one
+-- operation came to; what describes the server; what a monitor is told; the server isn't ready; its watch is refused before
+-- it began; its watch asks to go on as a WebSocket, and that isn't one
 pub data Reply : Type 0 where
   unrouted : RouteNo → Reply
   wrote : WriteAsk → Result Written WriteNo → Reply
@@ -35,6 +36,8 @@ pub data Reply : Type 0 where
   listed : ListAsk → Result ListedData ListNo → Reply
   operated : Operate → Result ℕ OpNo → Reply
   described : Document → Reply
+  metered : Metrics → Reply
+  unready : Reply
   unwatched : WatchAsk → ListNo → Reply
   bad_upgrade : WatchAsk → Reply
 
@@ -47,6 +50,8 @@ content_of form (got ask answer) = got_content form ask answer
 content_of form (listed ask answer) = listed_content form ask answer
 content_of form (operated ask answer) = operated_content answer
 content_of form (described document) = described_content document
+content_of form (metered told) = metered_content told
+content_of form unready = unready_content
 content_of form (unwatched ask fault) = refusal (read_told fault)
 content_of form (bad_upgrade ask) = Some (refused errors.bad_upgrade)
 

@@ -1,6 +1,6 @@
 -- How one request comes to an exchange, or to want of memory.
 use Rattle.std.proofs.Common.{◌≡◌, ◌≢◌, ◌∙◌, ◌⊎◌, ℕ, List, [], Option, Some, None, Result, Ok, Err, refl, sym, ap, subst, inl, inr}
-use Rattle.std.specs.Prelude.{⊤, OnOk, OnErr, IfSome, Bool}
+use Rattle.std.specs.Prelude.{⊤, OnOk, OnErr, IfSome, Bool, true, false}
 use Rattle.std.proofs.lemmas.List.{append-nil}
 use Rattle.std.proofs.lemmas.List.Elements.{All-nil}
 use mathlib.Core.List.{IsPrefix}
@@ -100,6 +100,11 @@ module _ (base : List RowData) (mirror : Bool) (facts : Facts) (s : Settings) (p
 
   pub lacks-operate : (ask : Operate) (answer : Result ℕ OpNo) → answer ≡ Err op_no.Memory → SoleOperate p ask answer q → IsBegun
   lacks-operate ask answer is sole = inl (subst (λ a. SoleOperate p ask a q) is sole)
+
+-- a server that isn't ready is a mirror's
+pub mirror-unready : (mirror ready : Bool) → (mirror ≡ false → ready ≡ true) → ready ≡ false → mirror ≡ true
+mirror-unready true ready always lost = refl
+mirror-unready false ready always lost = let is = always refl in absurd (cc)
 
 -- a transaction that was told
 pub told-in : (answer : Result (Vec Written) TxWriteNo) → IsToldTx answer → IsToldTx (answers_in answer)

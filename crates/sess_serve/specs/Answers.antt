@@ -1,5 +1,8 @@
 -- The answers to requests, as plain data: each has what was asked, and what the client answered.
 use Rattle.std.specs.Prelude.{◌≡◌, ℕ, List, [], Bool, true, false, Option, Some, None, IfSome}
+use Rattle.discovery.specs.declared.documents.Document.{Document}
+use Rattle.discovery.specs.declared.documents.Document.TheVariants as document
+use Rattle.discovery.specs.declared.documents.Probe.TheVariants as probe
 use Rattle.edge_io.specs.declared.clock.Reading.{Reading}
 use Rattle.rev_front.specs.Passes.{Pass}
 use Rattle.rev_log.specs.Changes.{RevisionData}
@@ -11,7 +14,7 @@ use Rattle.route_req.specs.declared.routing.Routed.TheVariants as routed
 use Rattle.route_req.specs.declared.routing.RouteNo.{RouteNo}
 use Rattle.route_req.specs.declared.routing.RouteNo.TheVariants as route_no
 use Rattle.ws_watch.specs.Handshake.{IsUpgrade}
-use Rattle.sess_reply.specs.Replies.{Reply, unrouted, wrote, transacted, got, listed, operated, described, unwatched, bad_upgrade}
+use Rattle.sess_reply.specs.Replies.{Reply, unrouted, wrote, transacted, got, listed, operated, described, metered, unready, unwatched, bad_upgrade}
 use Rattle.sess_turns.specs.Turns.{Turns, readings_of}
 
 -- a watch that is answered by a stream: it is told at once that its start is gone, or it begins, and has turns; the
@@ -41,6 +44,10 @@ abbrev pub FailsUpgrade : Option Upgrade → Type 0
 FailsUpgrade None = ⊥
 FailsUpgrade (Some u) = ¬ (IsUpgrade u.key u.version)
 
+-- whether the server is ready
+abbrev pub readiness : Document
+readiness = document.Probe probe.Readyz
+
 -- the reply is to what the request asks for: it tells why that has no route, or what came of the route that it has
 abbrev pub IsReplyTo : Req → Reply → Type 0
 IsReplyTo req (unrouted fault) = IsUnrouted req fault
@@ -50,6 +57,8 @@ IsReplyTo req (got ask answer) = IsRoute req (routed.Get ask)
 IsReplyTo req (listed ask answer) = IsRoute req (routed.List ask)
 IsReplyTo req (operated ask answer) = IsRoute req (routed.Operate ask)
 IsReplyTo req (described document) = IsRoute req (routed.Describe document)
+IsReplyTo req (metered told) = IsRoute req routed.Metrics
+IsReplyTo req unready = IsRoute req (routed.Describe readiness)
 IsReplyTo req (unwatched ask fault) = IsRoute req (routed.Watch ask) × IsPlainOrUpgrade req
 IsReplyTo req (bad_upgrade ask) = IsRoute req (routed.Watch ask) × FailsUpgrade req.upgrade
 

@@ -1,5 +1,5 @@
 -- Each answer stands between what was known before and what is known afterwards.
-use Rattle.std.specs.Prelude.{◌≡◌, List, [], ◌∷◌, Ok, Err, IfSome}
+use Rattle.std.specs.Prelude.{◌≡◌, List, [], ◌∷◌, true, Ok, Err, IfSome}
 use Rattle.rev_front.specs.Passes.{Pass}
 use Rattle.rev_log.specs.Changes.{RevisionData}
 use Rattle.http_read.specs.declared.request.Req.{Req}
@@ -11,9 +11,10 @@ use Rattle.client_api.specs.Alone.{IsSoleRead, SoleWrite, SoleTransact, SoleOper
 use Rattle.client_api.specs.Facts.{IsOnward}
 use Rattle.client_api.specs.Gets.{IsGetAnswer}
 use Rattle.client_api.specs.Lists.{IsListAnswer}
+use Rattle.client_api.specs.Metered.{AreMetrics}
 use Rattle.client_api.specs.Starts.{IsWatchAnswer}
 use Rattle.client_api.specs.Told.{IsToldRead, IsToldWrite, IsToldTx, IsToldOperation}
-use Rattle.sess_reply.specs.Replies.{Reply, unrouted, wrote, transacted, got, listed, operated, described, unwatched, bad_upgrade}
+use Rattle.sess_reply.specs.Replies.{Reply, unrouted, wrote, transacted, got, listed, operated, described, metered, unready, unwatched, bad_upgrade}
 use Rattle.sess_turns.specs.Terms.{Terms}
 use Rattle.sess_turns.specs.Turns.{IsWatchTurns, AloneFinish}
 use Rattle.sess_serve.specs.Answers.{Stream, gone, begun, Answer, replied, streamed, IsAnswerTo}
@@ -27,7 +28,8 @@ UnwatchedSays terms p ask (Expired asked floor) q = ⊥
 UnwatchedSays terms p ask (Absent at) q = ⊥
 UnwatchedSays terms p ask Memory q = ⊥
 
--- a reply tells what the client answered, which wasn't want of memory; where it wasn't asked nothing has changed
+-- a reply tells what the client answered, which wasn't want of memory; where it wasn't asked nothing has changed; none but
+-- a mirror isn't ready
 abbrev pub ReplySays : Terms → Pass RevisionData → Reply → Pass RevisionData → Type 0
 ReplySays terms p (unrouted fault) q = p ≡ q
 ReplySays terms p (wrote ask answer) q = IsToldWrite answer × IsWriteReply terms.base terms.mirror p ask answer q
@@ -36,6 +38,8 @@ ReplySays terms p (got ask answer) q = IsToldRead answer × IsGetAnswer terms.ba
 ReplySays terms p (listed ask answer) q = IsToldRead answer × IsListAnswer terms.base p ask answer q
 ReplySays terms p (operated ask answer) q = IsToldOperation answer × IsOperationReply p ask answer q
 ReplySays terms p (described document) q = p ≡ q
+ReplySays terms p (metered told) q = AreMetrics terms.base p told q
+ReplySays terms p unready q = (terms.mirror ≡ true) × (p ≡ q)
 ReplySays terms p (unwatched ask fault) q = UnwatchedSays terms p ask fault q
 ReplySays terms p (bad_upgrade ask) q = p ≡ q
 
@@ -80,6 +84,8 @@ IsAloneReply terms p (unrouted fault) q = IsSoleRead p q
 IsAloneReply terms p (got ask answer) q = IsSoleRead p q
 IsAloneReply terms p (listed ask answer) q = IsSoleRead p q
 IsAloneReply terms p (described document) q = IsSoleRead p q
+IsAloneReply terms p (metered told) q = IsSoleRead p q
+IsAloneReply terms p unready q = IsSoleRead p q
 IsAloneReply terms p (unwatched ask fault) q = IsSoleRead p q
 IsAloneReply terms p (bad_upgrade ask) q = IsSoleRead p q
 

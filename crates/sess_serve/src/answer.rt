@@ -7,7 +7,9 @@ ghost use Rattle.sess_reply.specs.Sending.{Counts};
 ghost use Rattle.sess_turns.specs.Terms.{terms_of};
 ghost use Rattle.sess_serve.specs.Serving.{Answered, UnlessMemory};
 
-use crate::steps::{step_describe, step_get, step_list, step_operate, step_transact, step_write};
+use crate::steps::{
+    step_describe, step_get, step_list, step_metrics, step_operate, step_transact, step_write,
+};
 use crate::watching::{by_reply, step_watch};
 use client_api::Client;
 use edge_io::{Clock, Sink};
@@ -105,5 +107,6 @@ fn act<C: Client, K: Sink, T: Clock>(
         Routed::Operate(ask) => by_reply(step_operate(alloc, client, sink, req, *ask)),
         Routed::Transact(ask) => by_reply(step_transact(alloc, client, sink, req, ask)),
         Routed::Describe(document) => by_reply(step_describe(client, sink, req, document)),
+        Routed::Metrics => by_reply(step_metrics(alloc, client, sink, req)),
     }
 }

@@ -8,16 +8,17 @@ ghost use Rattle.route_req.specs.declared.routing.Routed.TheVariants as routed;
 ghost use Rattle.sess_reply.specs.Sending.{Counts};
 ghost use Rattle.sess_turns.specs.Terms.{terms_of};
 ghost use Rattle.up_api.specs.declared.settings.Settings.{Settings};
+ghost use Rattle.sess_serve.specs.Answers.{readiness};
 ghost use Rattle.sess_serve.specs.Serving.{Replied, UnlessMemory};
 
 use client_api::{Client, Got, ListNo, Listed};
-use discovery::Document;
+use discovery::{Document, Probe};
 use edge_io::Sink;
 use http_read::Req;
 use list_rules::{GetAsk, ListAsk};
 use sess_reply::{
-    Broken, form_of, send_described, send_got, send_listed, send_operated, send_transacted,
-    send_written,
+    Broken, form_of, send_described, send_got, send_listed, send_metered, send_operated,
+    send_transacted, send_unready, send_written,
 };
 use std::alloc::Global;
 use up_store::{OpNo, Operate, Transaction, TxWriteNo, WriteAsk, WriteNo, Written};
@@ -179,7 +180,29 @@ pub fn step_operate<C: Client, K: Sink>(
     }
 }
 
-/// What describes the server: the client isn't asked.
+/// What a monitor is told.
+pub fn step_metrics<C: Client, K: Sink>(
+    alloc: Global,
+    client: &mut C,
+    sink: &mut K,
+    req: &Req,
+) -> Result<(), Broken>
+    requires { IsRoute req.now routed.Metrics }
+    ensures replied { (s : Settings) → Replied (terms_of C.base C.mirror (C.facts client.old) s) (C.whole client.old)
+        (C.pass client.old) req.now (K.written sink.old) (K.written sink.new) (C.pass client.new) result }
+    ensures facts { C.facts client.new ≡ C.facts client.old }
+    ensures kept { C.whole client.old → UnlessMemory result (C.whole client.new) }
+    ensures settled { OnOk result (K.settled sink.new) }
+    ensures counts { Counts result (K.faults sink.old) (K.faults sink.new) }
+    ensures never_falls { K.faults sink.old ≤ K.faults sink.new }
+{
+    match client.metrics() {
+        Ok(told) => send_metered(alloc, sink, req.close, &told),
+        Err(_) => Err(Broken::Memory),
+    }
+}
+
+/// What describes the server: the client is asked for no more than whether it is ready.
 pub fn step_describe<C: Client, K: Sink>(
     client: &C,
     sink: &mut K,
@@ -193,6 +216,24 @@ pub fn step_describe<C: Client, K: Sink>(
     ensures counts { Counts result (K.faults sink.old) (K.faults sink.new) }
     ensures never_falls { K.faults sink.old ≤ K.faults sink.new }
 {
-    let _ = client;
-    send_described(sink, req.close, document)
+    match document {
+        Document::Probe(Probe::Readyz) => step_readiness(client, sink, req),
+        _ => send_described(sink, req.close, document),
+    }
+}
+
+// Whether the server is ready.
+fn step_readiness<C: Client, K: Sink>(client: &C, sink: &mut K, req: &Req) -> Result<(), Broken>
+    requires { IsRoute req.now (routed.Describe readiness) }
+    ensures replied { (s : Settings) → Replied (terms_of C.base C.mirror (C.facts client.now) s) (C.whole client.now)
+        (C.pass client.now) req.now (K.written sink.old) (K.written sink.new) (C.pass client.now) result }
+    ensures settled { OnOk result (K.settled sink.new) }
+    ensures counts { Counts result (K.faults sink.old) (K.faults sink.new) }
+    ensures never_falls { K.faults sink.old ≤ K.faults sink.new }
+{
+    if client.is_ready() {
+        send_described(sink, req.close, &Document::Probe(Probe::Readyz))
+    } else {
+        send_unready(sink, req.close)
+    }
 }

@@ -91,3 +91,18 @@ returns-in-Describe-clause-settled g c = reply-settled c.step_describe.result c.
 
 pub returns-in-Describe-clause-counts : goal.returns-in-Describe-clause-counts
 returns-in-Describe-clause-counts g c = reply-counts c.step_describe.result c.by_reply-in-Describe.result _ _ c.by_reply-in-Describe.ensures c.step_describe.ensures.counts
+
+pub returns-in-Metrics-clause-answered : goal.returns-in-Metrics-clause-answered
+returns-in-Metrics-clause-answered g c = answers-by-reply _ _ _ _ _ _ _ c.step_metrics.result c.by_reply-in-Metrics.result refl c.by_reply-in-Metrics.ensures (c.step_metrics.ensures.replied c.args.settings.now)
+
+pub returns-in-Metrics-clause-facts : goal.returns-in-Metrics-clause-facts
+returns-in-Metrics-clause-facts g c = facts-still _ _ c.step_metrics.ensures.facts
+
+pub returns-in-Metrics-clause-kept : goal.returns-in-Metrics-clause-kept
+returns-in-Metrics-clause-kept g c = λ whole. reply-kept c.step_metrics.result c.by_reply-in-Metrics.result _ c.by_reply-in-Metrics.ensures (c.step_metrics.ensures.kept whole)
+
+pub returns-in-Metrics-clause-settled : goal.returns-in-Metrics-clause-settled
+returns-in-Metrics-clause-settled g c = reply-settled c.step_metrics.result c.by_reply-in-Metrics.result _ c.by_reply-in-Metrics.ensures c.step_metrics.ensures.settled
+
+pub returns-in-Metrics-clause-counts : goal.returns-in-Metrics-clause-counts
+returns-in-Metrics-clause-counts g c = reply-counts c.step_metrics.result c.by_reply-in-Metrics.result _ _ c.by_reply-in-Metrics.ensures c.step_metrics.ensures.counts
