@@ -19,7 +19,8 @@ const MOST_WAIT_MS: u64 = 5_000;
 
 /// Hears the lines of the peer at `port`, at first from `source` and then over connections by `redial`, until the
 /// sessions have ended, or sooner: where a line can't be heard, or the peer has another log. Where the peer can't tell
-/// what comes next, the mirror begins anew. It says what becomes of that.
+/// what comes next, the mirror begins anew. It says what becomes of that, and takes down whether the peer is followed:
+/// it isn't from an attempt in vain on.
 pub fn follow<N: LogFacts, R: Wait + Copy, S: Source, D: Redial>(
     front: &Front<'_, N, R>,
     mirror: &mut Mirror<N, R>,
@@ -32,7 +33,11 @@ pub fn follow<N: LogFacts, R: Wait + Copy, S: Source, D: Redial>(
     }
     let from = mirror.to();
     redial.say(News::Follows { port, from });
-    let mut pace = Pace { ms: FIRST_WAIT_MS };
+    let mut pace = Pace {
+        ms: FIRST_WAIT_MS,
+        at_once: false,
+    };
+    let mut before = Ask::Opening;
     let mut stop = hear_lines(front, mirror, source, &mut pace);
     for _ in front.rt.forever() {
         let ask = match stop {
@@ -46,11 +51,15 @@ pub fn follow<N: LogFacts, R: Wait + Copy, S: Source, D: Redial>(
                 Ask::Opening
             }
             Stop::Lost(why) => {
+                front.lost_peer();
                 redial.say(News::Ends { why });
                 return;
             }
         };
+        // A peer that was asked for what comes next, and can't tell it, is there.
+        pace.at_once = before == Ask::Stream && ask == Ask::Opening;
         stop = follow_again(front, mirror, redial, port, ask, &mut pace);
+        before = ask;
     }
 }
 
@@ -81,11 +90,12 @@ fn follow_again<N: LogFacts, R: Wait + Copy, D: Redial>(
             Ok((mut source, _sink)) => {
                 // Watches that rest below a new base hear so that they are lost.
                 front.doorbell.ring();
+                front.found_peer();
                 let from = mirror.to();
                 redial.say(News::FollowsAgain { from });
                 return hear_lines(front, mirror, &mut source, pace);
             }
-            Err(Stop::Over(_)) => {}
+            Err(Stop::Over(_)) => front.lost_peer(),
             Err(stop) => return stop,
         }
     }
@@ -217,11 +227,17 @@ fn hear_lines<N: LogFacts, R: Wait + Copy, S: Source>(
 #[derive(Drop)]
 struct Pace {
     ms: u64,
+    // Whether it isn't left alone once.
+    at_once: bool,
 }
 
 impl Pace {
     // Rests, and for twice as long the next time.
     fn rest<W: Wait>(&mut self, rt: &W, end: &End) {
+        if self.at_once {
+            self.at_once = false;
+            return;
+        }
         end.rest(rt, self.ms);
         self.ms = self.ms.saturating_mul(2).min(MOST_WAIT_MS);
     }

@@ -1,6 +1,6 @@
 //! The server of a mirror.
 
-ghost use Rattle.std.specs.Prelude.{◌≡◌, ◌↔◌, ◌<◌, ◌≤◌, ◌^◌, IsTrue, IfOk, IfSome};
+ghost use Rattle.std.specs.Prelude.{◌≡◌, ◌↔◌, ◌<◌, ◌≤◌, ◌^◌, true, IsTrue, IfOk, IfSome};
 ghost use Rattle.net_front.specs.Ends.{MayEnd, limit_of};
 ghost use Rattle.up_api.specs.Settings.{AreInRange};
 
@@ -13,6 +13,7 @@ use bells::Rung;
 use edge_io::{Clock, Listener, Source};
 use kube_meta::Memory;
 use mirror_link::Mirror;
+use request_counts::{Counts, Peer};
 use shared_client::Cacher;
 use std::alloc::Global;
 use std::sync::Wait;
@@ -23,7 +24,7 @@ use up_api::{LogFacts, Settings};
 /// that: what comes from `source` is heard, and where the stream is over it is asked for again, over connections by
 /// `redial` to `port`. Where the peer can't tell what comes next, the mirror begins anew from what the peer has then,
 /// and forgets what was before. It is said there what becomes of that. The following ends where a line can't be heard,
-/// or the peer has another log; the server goes on with what it has then.
+/// or the peer has another log; the server goes on with what it has then. While it doesn't follow, it isn't ready.
 ///
 /// Whoever follows waits for the peer's bytes, so this may return only once the next line has come.
 pub fn serve_mirror<L, N, S, D, T, R>(
@@ -53,6 +54,7 @@ where
     requires connections { connections ≤ 2 ^ 62 }
     requires fresh { (L.given listener ≡ 0) × (L.faults listener ≡ 0) }
     requires settings { AreInRange settings.now }
+    requires mirror { N.mirror ≡ true }
     ensures accepted { IfOk result (λ served. served.accepted ≡ L.given served.listener) }
     ensures within { IfOk result (λ served. served.accepted ≤ limit_of connections) }
     ensures faulted { IfOk result (λ served. IsTrue served.faulted ↔ (0 < L.faults served.listener)) }
@@ -60,7 +62,8 @@ where
         (λ served. MayEnd (L.over served.listener) (L.faults served.listener) served.accepted (limit_of connections)) }
     ensures sessions { IfOk result (λ served. IfSome served.sessions (λ sessions. sessions ≡ served.accepted)) }
 {
-    let front = Front::new(rt, alloc, cacher, *settings);
+    let counts = Counts::new(alloc)?;
+    let front = Front::new(rt, alloc, cacher, Some(Peer::new()), counts, *settings);
     let following = ||
         requires { AreInRange front.settings }
     { follow(&front, mirror, source, redial, port) };

@@ -12,6 +12,7 @@ use crate::tally::Tally;
 use bells::Rung;
 use edge_io::{Clock, Listener};
 use kube_meta::Memory;
+use request_counts::Counts;
 use shared_client::Cacher;
 use std::alloc::Global;
 use std::marker::Brand;
@@ -103,7 +104,8 @@ where
         (λ served. MayEnd (L.over served.listener) (L.faults served.listener) served.accepted (limit_of connections)) }
     ensures sessions { IfOk result (λ served. IfSome served.sessions (λ sessions. sessions ≡ served.accepted)) }
 {
-    let front = Front::new(rt, alloc, cacher, *settings);
+    let counts = Counts::new(alloc)?;
+    let front = Front::new(rt, alloc, cacher, None, counts, *settings);
     serve_front(&front, listener, clock, workers, open, connections)
 }
 

@@ -89,6 +89,8 @@ impl<B: Limit> Tally<B> {
                     client.heard_by(rung),
                     heard,
                     &front.doorbell,
+                    &front.counts,
+                    front.peer.as_ref(),
                     &front.settings,
                     &mut self.sessions,
                 );
@@ -122,6 +124,8 @@ impl<B: Limit> Tally<B> {
                     client.heard_by(rung),
                     heard,
                     &front.doorbell,
+                    &front.counts,
+                    front.peer.as_ref(),
                     &front.settings,
                     &mut self.sessions,
                 );

@@ -1,6 +1,6 @@
 //! An accepted connection. Nothing else is here, so that nothing else has its ends.
 
-ghost use Rattle.std.specs.Prelude.{◌≡◌, ℕ, ◌+◌, ◌<◌, ◌≤◌, ◌^◌, None, IfOk, IfNone};
+ghost use Rattle.std.specs.Prelude.{◌≡◌, ℕ, ◌+◌, ◌<◌, ◌≤◌, ◌^◌, true, None, IsSome, IfOk, IfNone};
 ghost use Rattle.edge_io.specs.Net.{handed_out, failures};
 ghost use Rattle.net_front.specs.Visits.{IsVisit};
 ghost use Rattle.sess_turns.specs.Terms.{terms_of};
@@ -13,6 +13,7 @@ use crate::schedule::Schedule;
 use bells::{Bell, Rung};
 use client_api::Client;
 use edge_io::{Failed, Listener};
+use request_counts::{Counts, Peer};
 use sess_serve::{SessionEnd, serve_session};
 use std::alloc::{AllocError, Global};
 use std::sync::{Arc, Wait};
@@ -72,7 +73,7 @@ where
     }
 
     /// Serves it by a session over this client, counts that, and lets it go. `bell` is what is rung for the client's
-    /// watch.
+    /// watch. What it is answered is added to `counts`, and only a mirror's log has a `peer`.
     pub fn serve<C: Client + Drop, R: Wait>(
         self,
         rt: &R,
@@ -80,10 +81,13 @@ where
         client: C,
         bell: Option<Arc<Bell, Global>>,
         doorbell: &Doorbell,
+        counts: &Counts,
+        peer: Option<&Peer>,
         settings: &Settings,
         sessions: &mut u64,
     ) -> SessionEnd
         requires idle { (C.facts client).watching ≡ None }
+        requires mirrored { IsSome peer → C.mirror ≡ true }
         requires settings { AreInRange settings.now }
         requires room { sessions.old < 2 ^ 63 }
         ensures session { IsVisit (terms_of C.base C.mirror (C.facts client) settings.now) (C.whole client) (C.pass client)
@@ -96,16 +100,19 @@ where
             clock,
         } = self;
         *sessions += 1;
+        counts.opened();
         let schedule = Schedule::new();
-        let mut client = RingingClient::new(client, doorbell, &schedule, settings);
+        let mut client = RingingClient::new(client, doorbell, counts, peer, &schedule, settings);
         let mut clock = RungClock::new(clock, rt, bell, doorbell, &schedule);
-        serve_session(
+        let end = serve_session(
             alloc,
             &mut client,
             &mut source,
             &mut sink,
             &mut clock,
             settings,
-        )
+        );
+        counts.closed();
+        end
     }
 }

@@ -321,6 +321,7 @@ where
     N: Net,
     <N::L as Listener>::T: Rung,
     D: Redial + Send,
+    requires mirror { L.mirror ≡ true }
     requires range { AreServed options }
     requires few_faults { N.faults net.old < 2 ^ 62 }
     ensures { RunsServer options (use_of N.faults N.served N.ended N.peer net.old net.new)
