@@ -1,14 +1,16 @@
 //! A cache and its lanes beside plain collections of std, at 100,000 objects, and lists of a store, at 1,000 and at
 //! 100,000.
 
-ghost use Rattle.std.specs.Prelude.{◌≡◌, [], false};
+ghost use Rattle.std.specs.Prelude.{◌≡◌, ◌≤◌, [], false};
 
 mod beside;
+mod fan_out;
 mod plain;
 mod scene;
 mod things;
 
 use crate::hub::beside::{Bench, report, report_lists};
+use crate::hub::fan_out::report_kinds;
 use crate::hub::scene::Scene;
 use rev_front::{Blank, blank};
 use rev_log::Revision;
@@ -18,11 +20,12 @@ use std::marker::Brand;
 use std::rt::Runtime;
 use up_api::LogFacts;
 
-/// What is printed of a cache: counts, times of lists, or times of all steps.
+/// What is printed of a cache: counts, times of lists, times of lanes of several kinds, or times of all steps.
 #[derive(Clone, Copy)]
 enum Task {
     Counts,
     Lists,
+    Kinds,
     Steps,
 }
 
@@ -30,14 +33,25 @@ impl Task {
     fn is_timed(self) -> bool {
         match self {
             Task::Counts => false,
-            Task::Lists | Task::Steps => true,
+            Task::Lists | Task::Kinds | Task::Steps => true,
         }
     }
 
     fn objects(self) -> usize {
         match self {
-            Task::Counts | Task::Lists => 1_000,
+            Task::Counts | Task::Lists | Task::Kinds => 1_000,
             Task::Steps => 100_000,
+        }
+    }
+
+    /// For how many batches each lane has room.
+    fn room(self) -> usize
+        ensures some { 1 ≤ result }
+        ensures bounded { result ≤ 1024 }
+    {
+        match self {
+            Task::Kinds => 16,
+            Task::Counts | Task::Lists | Task::Steps => 256,
         }
     }
 }
@@ -45,7 +59,7 @@ impl Task {
 /// Runs a small cache and a plain one beside each other, and counts what they have and how often their objects are
 /// held; or times them.
 pub fn run<R: Runtime>(rt: &R, alloc: Global, timed: bool) -> io::Result<()> {
-    for task in [Task::Counts, Task::Lists, Task::Steps] {
+    for task in [Task::Counts, Task::Lists, Task::Kinds, Task::Steps] {
         if task.is_timed() == timed {
             let made = blank(alloc, 1)?;
             run_on::<Brand, R>(rt, alloc, made, task)?;
@@ -65,11 +79,12 @@ fn run_on<N: LogFacts, R: Runtime>(
     requires base { N.base ≡ [] }
     requires own { N.mirror ≡ false }
 {
-    let scene: Scene<N> = Scene::new(alloc, made, task.objects())?;
+    let scene: Scene<N> = Scene::new(alloc, made, task.objects(), task.room())?;
     let mut bench = Bench::new(alloc, scene)?;
     match task {
         Task::Counts => check(rt, &mut bench),
         Task::Lists => report_lists(rt, &mut bench),
+        Task::Kinds => report_kinds(rt, &mut bench),
         Task::Steps => report(rt, &mut bench),
     }
 }

@@ -74,7 +74,7 @@ fn ask<C: Client>(client: &mut C, routed: &Routed) -> u64
             Err(_) => 0,
         },
         Routed::Watch(ask) => watch(client, ask),
-        Routed::Operate(_) | Routed::Transact(_) | Routed::Describe(_) => 0,
+        Routed::Operate(_) | Routed::Transact(_) | Routed::Describe(_) | Routed::Metrics => 0,
     }
 }
 

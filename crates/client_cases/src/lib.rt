@@ -4,6 +4,7 @@
 #![tactic(auto)]
 
 mod asks;
+mod metered;
 mod pods;
 mod seat;
 mod start;

@@ -1,6 +1,7 @@
 //! What a client answers to a step.
 
 use crate::asks::{get_ask, list_ask, meaning, of_fields, start, watch_ask};
+use crate::metered::tell_metrics;
 use crate::pods::{creation, removal, replacement};
 use crate::seat::Seat;
 use crate::texts::{tell_lines, tell_rows};
@@ -33,6 +34,7 @@ pub fn answer<C: Client>(
         "cut" => operate(seat, Operate::Cut, told),
         "compact" => operate(seat, Operate::Compact { at: number(first) }, told),
         "restart" => operate(seat, Operate::Restart, told),
+        "metrics" => tell_metrics(&seat.metrics()?, first, told),
         _ => watching(alloc, seat, (verb, first, second), told)?,
     }
     Ok(())

@@ -68,7 +68,7 @@ struct Least {
 }
 
 impl<N: LogFacts> Held<N> for Least {
-    ghost use Rattle.std.specs.Prelude.{◌≡◌};
+    ghost use Rattle.std.specs.Prelude.{◌≡◌, ◌≤◌};
     ghost use Rattle.rev_log.specs.Logs.{end_of};
 
     ghost resource = { λ l. l.resource };
@@ -82,6 +82,12 @@ impl<N: LogFacts> Held<N> for Least {
     ghost stands_for = { λ l log. l.end ≡ end_of log };
 
     ghost ends_at = { λ l. l.end };
+
+    ghost time = { λ l. 0 };
+
+    ghost goes_along = { λ log old new. (old.end ≤ new.end) × (new.end ≤ end_of log) };
+
+    ghost begins_anew = { λ old new. new.base ≤ new.end };
 
     fn end(&self) -> u64 {
         self.end

@@ -1,135 +1,52 @@
 //! The ends of connections in memory, each of which others may see: a source may wait until another connection was
 //! written some text, and a clock shows a late time once its own was.
 
-ghost use Rattle.std.specs.Prelude.{◌≡◌, ◌≤◌, None, ⊤};
+ghost use Rattle.std.specs.Prelude.{◌≡◌, ◌≤◌, length, None, ⊤};
 
+use crate::board::{Board, Sign};
 use bells::{Bell, NO_PEER, Rung};
 use edge_io::{Clock, Failed, Listener, Reading, Sink, Source};
 use std::alloc::{AllocError, Global};
 use std::collections::VecDeque;
-use std::sync::{Arc, Mutex, Wait};
+use std::sync::{Arc, Wait};
 use std::thread;
 use std::time::Duration;
-
-/// How often a source looks whether it may go on. A millisecond lies between two looks.
-const LOOKS: u64 = 10_000;
 
 /// How often a clock looks whether it is late.
 const TURNS: u64 = 1_000;
 
+/// The time at which a first bookmark is due, in milliseconds.
+const MINUTE_MS: u64 = 60_000;
+
 /// The time that a late clock shows, in milliseconds: longer than any watch.
 const LATE_MS: u64 = 1_000_000_000;
 
-/// What the connections were written, by their numbers from 0.
-#[derive(Drop)]
-pub struct Board<R> {
-    rt: R,
-    texts: Vec<Mutex<Vec<u8>>>,
-}
-
-impl<R: Wait + Drop> Board<R> {
-    /// A board of so many connections.
-    pub fn new(rt: R, alloc: Global, connections: usize) -> Result<Board<R>, AllocError> {
-        let mut texts = Vec::new(alloc);
-        for _ in 0..connections {
-            texts.push(Mutex::new(Vec::new(alloc)))?;
-        }
-        Ok(Board { rt, texts })
-    }
-
-    /// What a connection was written.
-    pub fn text(&self, alloc: Global, number: usize) -> Result<Vec<u8>, AllocError> {
-        match self.texts.get(number) {
-            Some(text) => Vec::from_slice(alloc, text.lock(&self.rt).as_slice()),
-            None => Ok(Vec::new(alloc)),
-        }
-    }
-
-    // Whether a connection was written this.
-    fn has(&self, number: usize, part: &[u8]) -> bool {
-        match self.texts.get(number) {
-            Some(text) => contains(text.lock(&self.rt).as_slice(), part),
-            None => false,
-        }
-    }
-
-    // Writes to a connection, if there is memory.
-    fn write(&self, number: usize, bytes: &[u8]) -> Result<(), Failed> {
-        match self.texts.get(number) {
-            Some(text) => text
-                .lock(&self.rt)
-                .extend_from_slice(bytes)
-                .map_err(|_| Failed),
-            None => Err(Failed),
-        }
-    }
-}
-
-impl<R: Wait + Drop + std::time::Clock> Board<R> {
-    // Waits for all signs, and answers whether they came in time.
-    fn all_come(&self, signs: &[Sign]) -> bool {
-        signs.iter().all(|sign| self.comes(sign))
-    }
-
-    // Waits for one.
-    fn comes(&self, sign: &Sign) -> bool {
-        for _ in 0..LOOKS {
-            if self.has(sign.number, sign.text.as_slice()) {
-                return true;
-            }
-            thread::sleep(&self.rt, Duration::from_millis(1));
-        }
-        false
-    }
-}
-
-// Whether a text contains another one.
-fn contains(text: &[u8], part: &[u8]) -> bool {
-    for at in 0..text.len() {
-        if text[at..].starts_with(part) {
-            return true;
-        }
-    }
-    false
-}
-
-/// A text that a connection is to be written.
-#[derive(Drop)]
-pub struct Sign {
-    pub number: usize,
-    pub text: Vec<u8>,
-}
-
-impl Sign {
-    /// The same sign once more.
-    pub fn copy(&self, alloc: Global) -> Result<Sign, AllocError> {
-        Ok(Sign {
-            number: self.number,
-            text: Vec::from_slice(alloc, self.text.as_slice())?,
-        })
-    }
-}
-
-/// Copies of these signs.
-pub fn copies(alloc: Global, signs: &[Sign]) -> Result<Vec<Sign>, AllocError> {
-    let mut all = Vec::new(alloc);
-    for sign in signs {
-        all.push(sign.copy(alloc)?)?;
-    }
-    Ok(all)
-}
-
 /// Bytes that come once all signs of `waits` are there, and end once those of `lasts` are. Where one of the first
-/// doesn't come in time no byte does. After so many bytes it fails, if there are more.
+/// doesn't come in time no byte does. After so many bytes it fails, if there are more. Where there is a wire, the bytes
+/// are those that it is written.
 #[derive(Drop)]
 pub struct CaseSource<R: Wait + Copy + Drop> {
     pub board: Arc<Board<R>>,
+    pub wire: Option<usize>,
     pub waits: Vec<Sign>,
     pub lasts: Vec<Sign>,
     pub bytes: Vec<u8>,
     pub at: usize,
     pub breaks: u64,
     pub faults: u64,
+}
+
+impl<R: Wait + Copy + Drop + std::time::Clock> CaseSource<R> {
+    // Reads what a wire is written, once there is more.
+    fn read_wire(&mut self, wire: usize, buf: &mut [u8]) -> usize
+        ensures within { result ≤ length buf.new }
+        ensures quiet { self.new.faults ≡ self.old.faults }
+    {
+        self.board.await_more(wire, self.at);
+        let n = self.board.read(wire, self.at, buf);
+        self.at = self.at.saturating_add(n);
+        n
+    }
 }
 
 impl<R: Wait + Copy + Drop + std::time::Clock> Source for CaseSource<R> {
@@ -140,6 +57,10 @@ impl<R: Wait + Copy + Drop + std::time::Clock> Source for CaseSource<R> {
     fn read(&mut self, buf: &mut [u8]) -> Result<usize, Failed> {
         if self.at == 0 && !self.board.all_come(self.waits.as_slice()) {
             self.at = self.bytes.len();
+            self.wire = None;
+        }
+        if let Some(wire) = self.wire {
+            return Ok(self.read_wire(wire, buf));
         }
         if self.at as u64 >= self.breaks {
             self.faults = self.faults.saturating_add(1);
@@ -205,6 +126,7 @@ impl<R: Wait + Drop + std::time::Clock> Sink for CaseSink<R> {
         let n = self.taken_of(bytes.len());
         let written = self.board.write(self.number, &bytes[..n]);
         if n < bytes.len().min(1) || written.is_err() {
+            self.board.cut(self.number);
             self.faults = self.faults.saturating_add(1);
             return Err(Failed);
         }
@@ -217,33 +139,50 @@ impl<R: Wait + Drop + std::time::Clock> Sink for CaseSink<R> {
     }
 }
 
-/// A clock that stands at 0 until its connection was written a text, or was looked at too often; then it is late. Once
-/// another text was written it asks to stop. Where it has a bell, it rests until that is rung.
+/// By which texts a clock goes on; an empty one never comes.
+#[derive(Drop)]
+pub struct Times {
+    pub minute: Vec<u8>,
+    pub late: Vec<u8>,
+    pub stop: Vec<u8>,
+}
+
+impl Times {
+    /// The same once more.
+    pub fn copy(&self, alloc: Global) -> Result<Times, AllocError> {
+        Ok(Times {
+            minute: Vec::from_slice(alloc, self.minute.as_slice())?,
+            late: Vec::from_slice(alloc, self.late.as_slice())?,
+            stop: Vec::from_slice(alloc, self.stop.as_slice())?,
+        })
+    }
+}
+
+/// A clock that stands at 0 until its connection was written a text, when it shows a minute, and another one, or was
+/// looked at too often; then it is late. Once a third text was written it asks to stop. Where it has a bell, it rests
+/// until that is rung.
 #[derive(Drop)]
 pub struct CaseClock<R: Wait + Drop> {
     board: Arc<Board<R>>,
     number: usize,
-    late: Vec<u8>,
-    stop: Vec<u8>,
+    times: Times,
     bell: Option<Arc<Bell, Global>>,
     turns: u64,
     last: u64,
 }
 
 impl<R: Wait + Drop> CaseClock<R> {
-    /// The clock of a connection, which is late by one text and asks to stop by another; an empty one never comes.
+    /// The clock of a connection.
     pub fn new(
         board: Arc<Board<R>>,
         number: usize,
-        late: Vec<u8>,
-        stop: Vec<u8>,
+        times: Times,
         bell: Option<Arc<Bell, Global>>,
     ) -> CaseClock<R> {
         CaseClock {
             board,
             number,
-            late,
-            stop,
+            times,
             bell,
             turns: 0,
             last: 0,
@@ -262,12 +201,15 @@ impl<R: Wait + Drop + std::time::Clock> Clock for CaseClock<R> {
 
     fn now(&mut self) -> Reading {
         self.turns = self.turns.saturating_add(1);
-        if self.turns > TURNS || self.has(&self.late) {
+        if self.has(&self.times.minute) {
+            self.last = self.last.max(MINUTE_MS);
+        }
+        if self.turns > TURNS || self.has(&self.times.late) {
             self.last = self.last.max(LATE_MS);
         }
         Reading {
             ms: self.last,
-            stop: self.has(&self.stop),
+            stop: self.has(&self.times.stop),
         }
     }
 

@@ -5,11 +5,13 @@
 //! `data/README.txt`.
 #![tactic(auto)]
 
+mod board;
 mod case;
 mod ends;
+mod mirroring;
 mod serving;
 
-use case::{Case, Plan};
+use case::Case;
 use case_rows::{Tally, says_nothing};
 use serving::{Host, Outcome, serve_case};
 use std::alloc::{AllocError, Global};
@@ -82,34 +84,42 @@ fn compare<R: Runtime + Host>(
     case: &Case,
     outcome: &Outcome,
 ) -> io::Result<bool> {
-    let mut met = outcome.end.as_str() == case.end.as_str();
-    if !met {
-        println!(rt; "{}: wanted: {}", case.name.as_str(), case.end.as_str())?;
-        println!(rt; "    is: {}", outcome.end.as_str())?;
-    }
-    for (plan, text) in case.plans.iter().zip(outcome.texts.iter()) {
-        if !comes_back(rt, alloc, case, plan, text.as_slice())? {
-            met = false;
+    let news = outcome.news.as_slice();
+    let mut met = comes(rt, alloc, case, case.news.as_slice(), news)?;
+    let mut texts = outcome.texts.iter();
+    let mut ends = outcome.ends.iter();
+    for server in case.servers.iter() {
+        for plan in server.plans.iter() {
+            let text = texts.next().map_or(&[][..], |text| text.as_slice());
+            met &= comes(rt, alloc, case, plan.wanted.as_slice(), text)?;
         }
+        let end = ends.next().map_or("", |end| end.as_str());
+        met &= comes(
+            rt,
+            alloc,
+            case,
+            server.end.as_str().as_bytes(),
+            end.as_bytes(),
+        )?;
     }
     Ok(met)
 }
 
-/// Whether a connection got back what is wanted; if not, both are printed.
-fn comes_back<R: Runtime + Host>(
+/// Whether this came out as it is wanted; if not, both are printed.
+fn comes<R: Runtime + Host>(
     rt: R,
     alloc: Global,
     case: &Case,
-    plan: &Plan,
+    wanted: &[u8],
     text: &[u8],
 ) -> io::Result<bool> {
-    if plan.wanted.as_slice() == text {
+    if wanted == text {
         return Ok(true);
     }
     println!(rt; "{}", case.name.as_str())?;
     println!(rt;
         "    wanted: {}",
-        String::from_utf8_lossy(alloc, plan.wanted.as_slice())?.as_str()
+        String::from_utf8_lossy(alloc, wanted)?.as_str()
     )?;
     println!(rt;
         "    is:     {}",

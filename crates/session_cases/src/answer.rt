@@ -1,6 +1,8 @@
 //! What is wanted to come back, line by line.
 
-use crate::wanted::{put_line, put_message, put_reply, put_socket, put_stream, put_text};
+use crate::wanted::{
+    put_line, put_message, put_metrics, put_reply, put_socket, put_stream, put_text,
+};
 use std::alloc::{AllocError, Global};
 
 /// The bytes that are wanted, and the end of the session.
@@ -39,6 +41,7 @@ impl Answer {
         match word {
             "reply" => put_reply(&mut self.bytes, self.alloc, text, false)?,
             "closing" => put_reply(&mut self.bytes, self.alloc, text, true)?,
+            "metrics" => put_metrics(&mut self.bytes, text)?,
             "text" => put_text(&mut self.bytes, text)?,
             "end" => self.end.push_str(text)?,
             _ => return self.take_stream_line(word, text),

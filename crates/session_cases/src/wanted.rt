@@ -54,6 +54,15 @@ pub fn put_reply(
     text.extend_from_slice(b"\n")
 }
 
+/// Puts the head of a reply of metrics, whose lines have so many bytes.
+pub fn put_metrics(text: &mut Vec<u8>, length: &str) -> Result<(), AllocError> {
+    text.extend_from_slice(b"HTTP/1.1 200 OK\r\n")?;
+    text.extend_from_slice(b"Content-Type: text/plain; version=0.0.4; charset=utf-8\r\n")?;
+    text.extend_from_slice(b"Content-Length: ")?;
+    text.extend_from_slice(length.as_bytes())?;
+    text.extend_from_slice(b"\r\n\r\n")
+}
+
 /// Puts a text, which a line feed ends.
 pub fn put_text(text: &mut Vec<u8>, line: &str) -> Result<(), AllocError> {
     text.extend_from_slice(line.as_bytes())?;

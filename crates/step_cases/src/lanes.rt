@@ -1,8 +1,8 @@
-//! Which lanes a change is told to, by the node of a pod.
+//! Which lanes a change is told to, by the name, the node and the namespace of a pod.
 
 use crate::answers::tell_numbers;
 use case_rows::{NO_STEP, Steps, Wording, key, number, object, split};
-use kube_meta::{Fields, Memory, Obj, Resource, Text};
+use kube_meta::{Fields, Key, Memory, Obj, Resource, Text};
 use select_all::Selection;
 use std::alloc::Global;
 use watch_lane::LaneIndex;
@@ -26,7 +26,12 @@ impl Steps for Lanes {
     fn answer(&mut self, alloc: Global, step: &str, told: &mut Wording) -> Result<(), Memory> {
         let (verb, rest) = split(step);
         match verb {
-            "add" => add(alloc, &mut self.index, rest, told)?,
+            "add" => add(alloc, &mut self.index, None, rest, told)?,
+            "add-in" => {
+                let (ns, lane) = split(rest);
+                let ns = Text::new(alloc, ns)?;
+                add(alloc, &mut self.index, Some(ns), lane, told)?;
+            }
             "drop" => {
                 self.index.drop_lane(number(rest));
                 told.add("ok");
@@ -38,9 +43,16 @@ impl Steps for Lanes {
     }
 }
 
-fn add(alloc: Global, index: &mut LaneIndex, text: &str, told: &mut Wording) -> Result<(), Memory> {
+/// Adds a lane in a namespace, or in all.
+fn add(
+    alloc: Global,
+    index: &mut LaneIndex,
+    ns: Option<Text>,
+    text: &str,
+    told: &mut Wording,
+) -> Result<(), Memory> {
     let (id, fields) = split(text);
-    match Selection::read(alloc, Resource::Pods, None, "", fields) {
+    match Selection::read(alloc, Resource::Pods, ns, "", fields) {
         Ok(selection) => {
             index.add(number(id), &selection)?;
             told.add("ok");
@@ -50,7 +62,7 @@ fn add(alloc: Global, index: &mut LaneIndex, text: &str, told: &mut Wording) -> 
     Ok(())
 }
 
-/// The lanes that are told of a change from one node to another, each of them a node or `none`.
+/// The lanes that are told of a change from one pod to another.
 fn change(alloc: Global, index: &LaneIndex, text: &str, told: &mut Wording) -> Result<(), Memory> {
     let (old, new) = split(text);
     let old = pod(alloc, old)?;
@@ -59,14 +71,27 @@ fn change(alloc: Global, index: &LaneIndex, text: &str, told: &mut Wording) -> R
     Ok(())
 }
 
-/// A pod on this node, unless that is `none`.
-fn pod(alloc: Global, node: &str) -> Result<Option<Obj>, Memory> {
-    if node == "none" {
+/// The pod that a word names: `none`, the node of one, or the key, `@` and the node, which may be left out.
+fn pod(alloc: Global, word: &str) -> Result<Option<Obj>, Memory> {
+    if word == "none" {
         return Ok(None);
     }
-    let node = Text::new(alloc, node)?;
-    let fields = vec![in alloc; node]?;
-    let mut pod = object(alloc, key(alloc, "web")?)?;
-    pod.fields = Fields::new(fields);
-    Ok(Some(pod))
+    let Some((own, node)) = word.split_once('@') else {
+        return Ok(Some(on_node(alloc, key(alloc, "web")?, word)?));
+    };
+    match Key::read(alloc, own.as_bytes())? {
+        Some(key) => Ok(Some(on_node(alloc, key, node)?)),
+        None => Ok(None),
+    }
+}
+
+/// The pod with this key, which has no listed field where no node is named.
+fn on_node(alloc: Global, key: Key, node: &str) -> Result<Obj, Memory> {
+    let mut pod = object(alloc, key)?;
+    if !node.is_empty() {
+        let node = Text::new(alloc, node)?;
+        let fields = vec![in alloc; node]?;
+        pod.fields = Fields::new(fields);
+    }
+    Ok(pod)
 }

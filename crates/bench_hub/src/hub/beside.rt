@@ -7,7 +7,7 @@ use crate::hub::plain::Plain;
 use crate::hub::scene::{Scene, WINDOW};
 use crate::hub::things::{change, config_map, node};
 use bench_parts::{Laps, NONE, Pair, ZERO, print_pair};
-use kube_meta::{Memory, Resource, Row};
+use kube_meta::{Memory, Resource, Row, Text};
 use select_all::Selection;
 use std::alloc::Global;
 use std::io;
@@ -26,24 +26,25 @@ pub struct Counts {
     pub plain_agrees: bool,
 }
 
-/// A cache, a plain one with the same objects, and a lane of the first for each of some nodes.
+/// A cache, a plain one with the same objects, and lanes of the first.
 #[derive(Drop)]
 pub struct Bench<N: LogFacts> {
-    alloc: Global,
+    pub alloc: Global,
     scene: Scene<N>,
-    plain: Plain,
+    pub plain: Plain,
     lanes: Vec<LaneOut<N>>,
 }
 
-/// The pods of one node, or all where none is given.
+/// The pods that a watcher asks for.
 #[derive(Drop)]
-struct Asked {
+pub struct Asked {
     selection: Selection,
     ghost of: { selection.resource ≡ Pods },
 }
 
-fn pods_of(alloc: Global, fields: &str) -> Result<Asked, Memory> {
-    match Selection::read(alloc, Resource::Pods, None, "", fields) {
+/// The pods of a namespace, or of all, with these fields.
+pub fn pods_of(alloc: Global, ns: Option<Text>, fields: &str) -> Result<Asked, Memory> {
+    match Selection::read(alloc, Resource::Pods, ns, "", fields) {
         Ok(selection) => Ok(Asked { selection }),
         Err(_) => Err(Memory),
     }
@@ -76,9 +77,16 @@ impl<N: LogFacts> Bench<N> {
     fn open(&mut self, number: usize) -> Result<(), Memory> {
         let node = node(self.alloc, number)?;
         let fields = format!(in self.alloc; "spec.nodeName={}", node.as_str())?;
-        let asked = pods_of(self.alloc, fields.as_str())?;
-        self.lanes.push(self.scene.open(&asked.selection)?)?;
+        let asked = pods_of(self.alloc, None, fields.as_str())?;
+        self.open_lane(&asked)?;
         self.plain.open(node)
+    }
+
+    /// Opens a lane of these pods.
+    pub fn open_lane(&mut self, asked: &Asked) -> Result<(), Memory> {
+        let lane = self.scene.open(&asked.selection)?;
+        self.lanes.push(lane)?;
+        Ok(())
     }
 
     /// Makes so many changes, which both caches then take in one by one.
@@ -142,7 +150,7 @@ impl<N: LogFacts> Bench<N> {
     }
 
     fn caught(&mut self, behind: usize) -> Result<usize, Memory> {
-        let all = pods_of(self.alloc, "")?;
+        let all = pods_of(self.alloc, None, "")?;
         Ok(self.scene.caught(&all.selection, behind as u64))
     }
 }

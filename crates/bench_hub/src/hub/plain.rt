@@ -1,4 +1,4 @@
-//! What a plain cache is made of: a map of objects, a queue of the last changes, and a queue for each node's watcher.
+//! What a plain cache is made of: a map of objects, a queue of the last changes, and a queue for each watcher.
 
 use encode_once::Shown;
 use kube_meta::{Key, Memory, Row, Text};
@@ -15,19 +15,30 @@ struct Kept {
     now: Arc<Shown>,
 }
 
-/// The queue of one node's watcher.
+/// The queue of one watcher.
 #[derive(Drop)]
 struct Queue {
     lines: VecDeque<Arc<Shown>>,
 }
 
-/// A plain cache. It keeps its last `many` changes.
+impl Queue {
+    fn tell(&mut self, now: &Arc<Shown>) -> Result<(), Memory> {
+        self.lines.push_back(Arc::try_clone(now)?)?;
+        Ok(())
+    }
+}
+
+/// A plain cache. It keeps its last `many` changes, and has queues of nodes, of namespaces, of single objects, and of
+/// all objects.
 #[derive(Drop)]
 pub struct Plain {
     alloc: Global,
     map: BTreeMap<Key, Arc<Shown>>,
     held: VecDeque<Kept>,
     queues: BTreeMap<Text, Queue>,
+    spaces: BTreeMap<Text, Queue>,
+    single: BTreeMap<Key, Queue>,
+    all: Vec<Queue>,
     many: usize,
 }
 
@@ -39,6 +50,9 @@ impl Plain {
             map: BTreeMap::new(alloc),
             held: VecDeque::new(alloc),
             queues: BTreeMap::new(alloc),
+            spaces: BTreeMap::new(alloc),
+            single: BTreeMap::new(alloc),
+            all: Vec::new(alloc),
             many,
         }
     }
@@ -55,12 +69,37 @@ impl Plain {
         Ok(())
     }
 
+    fn queue(&self) -> Queue {
+        Queue {
+            lines: VecDeque::new(self.alloc),
+        }
+    }
+
     /// A queue for the watcher of a node.
     pub fn open(&mut self, node: Text) -> Result<(), Memory> {
-        let queue = Queue {
-            lines: VecDeque::new(self.alloc),
-        };
+        let queue = self.queue();
         let _ = self.queues.insert(node, queue)?;
+        Ok(())
+    }
+
+    /// A queue for the watcher of a namespace.
+    pub fn open_space(&mut self, ns: Text) -> Result<(), Memory> {
+        let queue = self.queue();
+        let _ = self.spaces.insert(ns, queue)?;
+        Ok(())
+    }
+
+    /// A queue for the watcher of one object.
+    pub fn open_single(&mut self, key: Key) -> Result<(), Memory> {
+        let queue = self.queue();
+        let _ = self.single.insert(key, queue)?;
+        Ok(())
+    }
+
+    /// A queue for a watcher of all.
+    pub fn open_all(&mut self) -> Result<(), Memory> {
+        let queue = self.queue();
+        self.all.push(queue)?;
         Ok(())
     }
 
@@ -87,13 +126,29 @@ impl Plain {
     }
 
     fn tell(&mut self, now: &Arc<Shown>) -> Result<(), Memory> {
+        self.tell_node(now)?;
+        let key = &now.row().obj.key;
+        let ns = Text::new(self.alloc, key.ns())?;
+        if let Some(queue) = self.spaces.get_mut(&ns) {
+            queue.tell(now)?;
+        }
+        if let Some(queue) = self.single.get_mut(key) {
+            queue.tell(now)?;
+        }
+        for queue in &mut self.all {
+            queue.tell(now)?;
+        }
+        Ok(())
+    }
+
+    fn tell_node(&mut self, now: &Arc<Shown>) -> Result<(), Memory> {
         let Some(node) = now.row().obj.fields.get(0) else {
             return Ok(());
         };
-        if let Some(queue) = self.queues.get_mut(node) {
-            queue.lines.push_back(Arc::try_clone(now)?)?;
+        match self.queues.get_mut(node) {
+            Some(queue) => queue.tell(now),
+            None => Ok(()),
         }
-        Ok(())
     }
 
     fn keep(&mut self, kept: Kept) -> Result<(), Memory> {

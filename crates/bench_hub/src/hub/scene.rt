@@ -1,6 +1,6 @@
 //! A store and the cache of its pods.
 
-ghost use Rattle.std.specs.Prelude.{◌≡◌, [], false};
+ghost use Rattle.std.specs.Prelude.{◌≡◌, ◌≤◌, [], false};
 ghost use Rattle.kube_meta.specs.declared.resources.Resource.TheVariants.{Pods};
 
 use crate::hub::things::creation;
@@ -42,8 +42,15 @@ impl<N: LogFacts> Model for Scene<N> {
 }
 
 impl<N: LogFacts> Scene<N> {
-    /// A new store with so many pods, and a cache of them.
-    pub fn new(alloc: Global, made: Blank<Revision>, objects: usize) -> Result<Scene<N>, Memory>
+    /// A new store with so many pods, and a cache of them, whose lanes have room for so many batches.
+    pub fn new(
+        alloc: Global,
+        made: Blank<Revision>,
+        objects: usize,
+        room: usize,
+    ) -> Result<Scene<N>, Memory>
+        requires some { 1 ≤ room }
+        requires bounded { room ≤ 1024 }
         requires name { made ≡ N.log }
         requires base { N.base ≡ [] }
         requires own { N.mirror ≡ false }
@@ -51,7 +58,7 @@ impl<N: LogFacts> Scene<N> {
         let mut settings = Settings::usual();
         settings.window = WINDOW;
         settings.window_max = WINDOW;
-        settings.lane = 256;
+        settings.lane = room;
         let mut store = Store::new(alloc, made, 1_000_000)?;
         let mut told = store.pass()?;
         for number in 0..objects {

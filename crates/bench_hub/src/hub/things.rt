@@ -39,8 +39,8 @@ pub fn config_map(alloc: Global) -> Result<WriteAsk, Memory> {
     })
 }
 
-// The names are good ones, so all that can be missing is memory.
-fn key(alloc: Global, number: usize) -> Result<Key, Memory> {
+/// The key of a pod. The names are good ones, so all that can be missing is memory.
+pub fn key(alloc: Global, number: usize) -> Result<Key, Memory> {
     let name = format!(in alloc; "web-6d4b75cb6d-{}", 1_000_000usize.wrapping_add(number))?;
     Key::new(Text::new(alloc, "default")?, Text::from_string(name)).map_err(|_| Memory)
 }

@@ -82,6 +82,7 @@ fn tell_route(routed: &Routed, told: &mut Wording) {
             told.add("describe ");
             told.debug(document);
         }
+        Routed::Metrics => told.add("metrics"),
     }
 }
 

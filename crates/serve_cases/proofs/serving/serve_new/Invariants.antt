@@ -1,5 +1,5 @@
 use Rattle.std.proofs.Common.{[], false}
-use Rattle.serve_cases.proofs.serving.serve_case.Given as goal
+use Rattle.serve_cases.proofs.serving.serve_new.Given as goal
 
 -- the log that was just made
 abbrev pub ghosts-serve_on-N-LogName : goal.ghosts-serve_on-N-LogName
