@@ -164,6 +164,8 @@ def drawn_request(draw):
     if way < 0.92:
         items = [drawn_item(draw) for _ in range(draw.randrange(1, 4))]
         return request("POST", "/watchcache/transaction", json.dumps(items, separators=(",", ":")))
+    if way < 0.93:
+        return request("GET", "/metrics")
     if way < 0.96:
         own = draw.choice(["cut", "restart", "compact?revision=" + draw.choice(REVISIONS), "compact", "other"])
         return request(draw.choice(["POST"] * 9 + ["GET"]), "/watchcache/" + own)
@@ -171,7 +173,8 @@ def drawn_request(draw):
 
 
 def odd_request(draw):
-    target = draw.choice(["/", "*", "/api/v1/widgets", "http://x" + PODS, PODS + "/", "//", "/api/v1/pods?" + "&" * 50, PODS + "?watch=0"])
+    target = draw.choice(["/", "*", "/api/v1/widgets", "http://x" + PODS, PODS + "/", "//", "/api/v1/pods?" + "&" * 50, PODS + "?watch=0",
+                          "/metrics", "/metrics", "/metrics/?x"])
     fields = draw.choice([["Connection: keep-alive"], ["Accept: */*"], ["Origin: http://a.example"], ["Sec-Fetch-Site: none"],
                           ["Expect: 100-continue"], ["Connection: Upgrade", "Upgrade: websocket"], [f"X{it}: y" for it in range(62)]])
     return request(draw.choice(["GET", "HEAD", "PATCH", "OPTIONS", "DELETE", "G"]), target, "", *fields)

@@ -36,8 +36,9 @@ EVENTS = {"ADDED", "MODIFIED", "DELETED", "BOOKMARK", "ERROR"}
 # the texts by which a server describes itself, whose members stand as Kubernetes writes them
 DOCUMENTS = {"APIVersions", "APIGroupList", "APIGroup", "APIResourceList", "Namespace"}
 
-HEAD = re.compile(rb"HTTP/1\.1 (\d{3}) ([A-Za-z ]+)\r\nContent-Type: (?:application/json|(text/plain; charset=utf-8))\r\n"
+HEAD = re.compile(rb"HTTP/1\.1 (\d{3}) ([A-Za-z ]+)\r\nContent-Type: (?:application/json|(text/plain; (version=0\.0\.4; )?charset=utf-8))\r\n"
                   rb"Content-Length: ([1-9]\d*)\r\n(Retry-After: 1\r\n)?(Connection: close\r\n)?\r\n")
+SAMPLE = re.compile(r'([a-z_]+)((?:\{[a-z]+="[^"\\\n]*"(?:,[a-z]+="[^"\\\n]*")*\})?) (0|[1-9]\d*)')
 STREAM = b"HTTP/1.1 200 OK\r\nContent-Type: application/json\r\nTransfer-Encoding: chunked\r\nConnection: close\r\n\r\n"
 SOCKET = re.compile(rb"HTTP/1\.1 101 Switching Protocols\r\nUpgrade: websocket\r\nConnection: Upgrade\r\n"
                     rb"Sec-WebSocket-Accept: ([A-Za-z0-9+/]{27}=)\r\n\r\n")
@@ -113,11 +114,11 @@ def read(data, may_break=False):
             at = read_messages(output, data, found.end())
         else:
             found = HEAD.match(data, at)
-            if not found or found.end() + int(found[4]) > len(data):
+            if not found or found.end() + int(found[5]) > len(data):
                 output.rest = data[at:]
                 break
-            output.replies.append(reply_of(found, data[found.end():found.end() + int(found[4])]))
-            at = found.end() + int(found[4])
+            output.replies.append(reply_of(found, data[found.end():found.end() + int(found[5])]))
+            at = found.end() + int(found[5])
             if output.replies[-1].closes:
                 output.rest = data[at:]
                 same("what stands behind the last reply", output.rest, b"")
@@ -132,20 +133,44 @@ def read(data, may_break=False):
 def reply_of(found, body):
     code, phrase = int(found[1]), found[2].decode()
     same("a phrase", phrase, PHRASES.get(code))
-    same("Retry-After", bool(found[5]), code == 504)
+    same("Retry-After", bool(found[6]), code == 504)
+    if found[4]:
+        same("the code of what a monitor is told", code, 200)
+        return Reply(code, {"samples": samples_in(body.decode())}, bool(found[7]))
     if found[3]:
         same("a plain text", (code, body.rstrip(b"\n")), (200, b"ok"))
-        return Reply(code, {"kind": "Namespace"}, bool(found[6]))
+        return Reply(code, {"kind": "Namespace"}, bool(found[7]))
     same("the end of a body", body[-1:], b"\n")
     value = value_of(body[:-1])
     if code >= 400:
         check_status(value, code)
     elif not is_document(value):
         check_answer(value)
-    reply = Reply(code, value, bool(found[6]))
+    reply = Reply(code, value, bool(found[7]))
     if reply.refuses_bytes():
         same("Connection: close with the refusal of bytes", reply.closes, True)
     return reply
+
+
+def samples_in(text):
+    """The samples of what a monitor is told, in the text format of Prometheus (version 0.0.4): families, each in one place,
+    behind its help and its type."""
+    samples, families = {}, set()
+    before, *parts = text.split("# HELP ")
+    same("what stands before the first family", (before, text[-1:]), ("", "\n"))
+    for part in parts:
+        head, kind, *rows = part[:-1].split("\n")
+        name, _, meaning = head.partition(" ")
+        same(f"that the family {name} is there twice, or without a help", (name in families, bool(meaning)), (False, True))
+        wanted = "counter" if name.endswith("_total") else "gauge"
+        same(f"the type of {name}, and that it has samples", (kind, bool(rows)), (f"# TYPE {name} {wanted}", True))
+        families.add(name)
+        for row in rows:
+            found = SAMPLE.fullmatch(row)
+            if not found or found[1] != name or found[1] + found[2] in samples:
+                raise Amiss(f"a sample of {name}: {row}")
+            samples[found[1] + found[2]] = int(found[3])
+    return samples
 
 
 def check_status(value, code):

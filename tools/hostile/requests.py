@@ -196,6 +196,8 @@ NO_METHOD = (405, "the server does not allow this method on the requested resour
 OWN = ("cut", "compact", "restart", "transaction")
 # where a server describes itself
 DOCUMENTS = re.compile("(?:/version|/api|/apis|/api/v1|/apis/apps|/apis/apps/v1|/livez|/readyz|/healthz|/api/v1/namespaces/[^/]*)/?")
+# and what tells a monitor of it
+METRICS = re.compile("/metrics/?")
 
 
 def place_of(path):
@@ -254,6 +256,8 @@ class Log:
             return self.follow_other(request, reply, place)
         if DOCUMENTS.fullmatch(unquote(request.path)):
             return same("the code of what describes the server", reply.code in (200, 404, 405), True)
+        if METRICS.fullmatch(unquote(request.path)):
+            return self.measure(request, reply)
         if place is None:
             return same("the reply to a path that isn't there", (reply.code, reply.message()), NO_PATH)
         resource, namespace, name = place
@@ -265,6 +269,17 @@ class Log:
         if request.method == "GET":
             return self.look(request, reply, resource, namespace, name)
         return self.write(request, reply, (resource, namespace, name))
+
+    def measure(self, request, reply):
+        """What a monitor is told: the log's revision and floor, and of a cache that stands for all of it its objects."""
+        if request.method != "GET":
+            return same("the reply to a method that isn't there", (reply.code, reply.message()), NO_METHOD)
+        told = reply.value.get("samples", {})
+        same("the log's revision and floor", (told.get("watchcache_log_revision"), told.get("watchcache_log_floor")), (self.at, self.floor))
+        for resource, (base, _, _) in BASES.items():
+            labels = f'{{group="{base.split("/")[2] if base.startswith("/apis") else ""}",resource="{resource}"}}'
+            if told.get("apiserver_watch_cache_resource_version" + labels, self.at) == self.at:
+                same(f"the objects of {resource}", told.get("apiserver_resource_objects" + labels), len(self.listed(resource, None)))
 
     def follow_other(self, request, reply, place):
         """A request whose reply depends on who asks: what it did is taken from the reply."""
