@@ -2,13 +2,16 @@
 use Rattle.std.proofs.Common.{◌≡◌, ℕ, zero, suc, ◌+◌, ◌<◌, true, false, List, [], ◌∷◌, ◌++◌, map, length, take, append_assoc, Option, Some, None, inl, inr, refl, ap, sym, ◌∙◌, arith}
 use Rattle.std.specs.Prelude.{◌==◌}
 use Rattle.std.specs.List.{list_all}
-use Rattle.std.proofs.lemmas.Bool.{cases_Bool, and_parts, eqb-true}
+use Rattle.std.proofs.lemmas.Bool.{cases_Bool, and_parts, eqb-true, true≢false}
 use Rattle.std.proofs.lemmas.List.{map-append, length-map, length-append}
 use Rattle.std.proofs.Math.Seq.{take-append_seam}
 use Rattle.kube_meta.specs.Keys.{is_in}
 use Rattle.kube_meta.specs.Rows.{RowData, key_of, within}
+use Rattle.kube_meta.specs.Words.{has_bits, word_of}
+use Rattle.kube_meta.specs.declared.objects.Obj.{Obj}
 use Rattle.select_all.specs.declared.selection.Selection.{Selection}
 use Rattle.select_all.specs.Listings.{listing}
+use Rattle.select_all.specs.Masks.{IsMaskOf}
 use Rattle.select_all.specs.Selecting.{is_within, selects}
 use Rattle.list_rules.specs.Pages.{page_of, left_of, is_unrestricted}
 use Rattle.cache_answers.specs.Walks.{AreWithin}
@@ -40,6 +43,15 @@ within_one s ns (row ∷ rows) some = elim (cases_Bool (is_in ns (key_of row))) 
 pub within_all : (s : Selection) (rows : List RowData) → s.ns ≡ None → AreWithin s rows
 within_all s [] none = refl
 within_all s (row ∷ rows) none = rw (ap (λ (o : Option (List ℕ)). is_within o (key_of row)) none) (within_all s rows none)
+
+-- ---- masks
+
+-- what lacks a bit of the mask isn't selected
+pub not_had : (s : Selection) (mask : ℕ) (obj : Obj) → IsMaskOf s mask → has_bits (word_of obj) mask ≡ false → selects s obj ≡ false
+not_had s mask obj is lacks = elim (cases_Bool (selects s obj)) [
+  | inl chosen ↦ absurd (true≢false (sym (is obj chosen) ∙ lacks))
+  | inr out ↦ out
+]
 
 -- ---- the first ones
 

@@ -3,6 +3,7 @@
 ghost use Rattle.std.specs.Prelude.{◌≡◌, ◌↔◌, [], ◌∷◌, length, map, option_copied, IfOk, MatchOption};
 ghost use Rattle.kube_meta.specs.Rows.{behind};
 ghost use Rattle.select_all.specs.Listings.{listing};
+ghost use Rattle.select_all.specs.Masks.{IsMaskOf};
 ghost use Rattle.select_all.specs.Selecting.{selects};
 ghost use Rattle.list_rules.specs.Pages.{page_of, left_of, remaining_of, is_unrestricted};
 ghost use Rattle.cache_answers.specs.Walks.{AreWithin};
@@ -41,8 +42,9 @@ pub(crate) fn first(
     ensures left { IfOk result (λ _. length (listing selection.now rows.new) ≡ left_of limit (listing selection.now rows.old)) }
     ensures within { AreWithin selection.now rows.old → AreWithin selection.now rows.new }
 {
+    let mask = selection.mask();
     let mut kept = Vec::new(alloc);
-    while let Some(shown) = next_selected(selection, rows) {
+    while let Some(shown) = next_selected(selection, mask, rows) {
         kept.push(Arc::try_clone(shown)?)?;
         if kept.len() as u64 == limit {
             return Ok(kept);
@@ -60,8 +62,9 @@ pub(crate) fn left(selection: &Selection, rows: Rows<'_>) -> u64
     if is_unrestricted(selection) {
         return rows.len() as u64;
     }
+    let mask = selection.mask();
     let mut rows = rows;
-    match next_selected(selection, &mut rows) {
+    match next_selected(selection, mask, &mut rows) {
         Some(_) => 1,
         None => 0,
     }
@@ -75,22 +78,28 @@ fn is_unrestricted(selection: &Selection) -> bool
 }
 
 // The next selected one of the rows, which are those behind it then.
-fn next_selected<'a>(selection: &Selection, rows: &mut Rows<'a>) -> Option<&'a Arc<Shown>>
+fn next_selected<'a>(
+    selection: &Selection,
+    mask: u64,
+    rows: &mut Rows<'a>,
+) -> Option<&'a Arc<Shown>>
+    requires { IsMaskOf selection.now mask }
     ensures next { MatchOption result ((listing selection.now rows.old ≡ []) × (listing selection.now rows.new ≡ []))
         (λ shown. listing selection.now rows.old ≡ shown.now.value ∷ listing selection.now rows.new) }
     ensures within { AreWithin selection.now rows.old → AreWithin selection.now rows.new }
 {
     while let Some(shown) = rows.next() {
-        if is_selected(selection, shown) {
+        if is_selected(selection, mask, shown) {
             return Some(shown);
         }
     }
     None
 }
 
-// Whether the selection has the object.
-fn is_selected(selection: &Selection, shown: &Arc<Shown>) -> bool
+// Whether the selection has the object, which isn't looked at where its word lacks a bit of the mask.
+fn is_selected(selection: &Selection, mask: u64, shown: &Arc<Shown>) -> bool
+    requires { IsMaskOf selection.now mask }
     ensures { result ≡ selects selection.now shown.now.value.obj }
 {
-    selection.selects(&shown.row().obj)
+    shown.has(mask) && selection.selects(&shown.row().obj)
 }

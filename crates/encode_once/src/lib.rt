@@ -1,5 +1,5 @@
 //! A row with what is made of it once and lent to everybody: its JSON, of which the object's two texts are
-//! shared and only the digits of the revision are written, and the prefix of its key.
+//! shared and only the digits of the revision are written, the prefix of its key, and the word of its object.
 #![tactic(auto)]
 
 mod prefix;
@@ -8,10 +8,11 @@ mod sought;
 ghost use Rattle.std.specs.Prelude.{◌≡◌, ◌++◌, IfOk, decimal};
 ghost use Rattle.kube_meta.specs.Objects.{object_json};
 ghost use Rattle.kube_meta.specs.Rows.{key_of};
+ghost use Rattle.kube_meta.specs.Words.{has_bits, word_of};
 ghost use Rattle.encode_once.specs.Prefixes.{first_bytes};
 
 use itoa::write_digits;
-use kube_meta::{Memory, Row};
+use kube_meta::{Memory, Row, has_bits, word_of};
 pub use prefix::{KeyPrefix, prefixes_are_in_order};
 pub use sought::Sought;
 use std::alloc::Global;
@@ -19,12 +20,13 @@ use std::marker::Model;
 use std::sync::Arc;
 
 /// A row with the text of its revision, so that its JSON can be sent part by part without being
-/// copied, and with the prefix of its key, so that rows can be searched without a look at their objects.
-/// Seen in contracts as the row.
+/// copied, with the prefix of its key, so that rows can be searched without a look at their objects, and with
+/// the word of its object, so that most rows are passed over without one. Seen in contracts as the row.
 #[derive(Debug, Drop)]
 pub struct Shown {
     row: Row,
     prefix: KeyPrefix,
+    word: u64,
     // The digits of the revision stand at the end of 20 bytes, from `start` on.
     digits: [u8; 20],
     start: u8,
@@ -33,13 +35,14 @@ pub struct Shown {
 impl Model for Shown {
     ghost use Rattle.std.specs.Prelude.{◌≡◌, ◌≤◌, decimal, drop};
     ghost use Rattle.kube_meta.specs.Rows.{RowData, key_of};
+    ghost use Rattle.kube_meta.specs.Words.{word_of};
     ghost use Rattle.encode_once.specs.Prefixes.{first_bytes};
 
     ghost Value = { RowData };
 
     ghost view = { λ s. s.row };
 
-    ghost invariant = { λ s. (s.start ≤ 20) × (drop s.start s.digits ≡ decimal s.row.rev) × (s.prefix.bytes ≡ first_bytes 48 (key_of s.row)) };
+    ghost invariant = { λ s. (s.start ≤ 20) × (drop s.start s.digits ≡ decimal s.row.rev) × (s.prefix.bytes ≡ first_bytes 48 (key_of s.row)) × (s.word ≡ word_of s.row.obj) };
 }
 
 impl Shown {
@@ -50,9 +53,11 @@ impl Shown {
         let mut digits = [0; 20];
         let start = write_digits(row.rev, &mut digits, 20) as u8;
         let prefix = KeyPrefix::of(&row.obj.key);
+        let word = word_of(&row.obj);
         let shown = Shown {
             row,
             prefix,
+            word,
             digits,
             start,
         };
@@ -71,6 +76,13 @@ impl Shown {
         ensures { result.now.bytes ≡ first_bytes 48 (key_of self.now) }
     {
         &self.prefix
+    }
+
+    /// Whether the word of the object has each bit of a mask. The object itself isn't looked at.
+    pub fn has(&self, mask: u64) -> bool
+        ensures { result ≡ has_bits (word_of self.now.obj) mask }
+    {
+        has_bits(self.word, mask)
     }
 
     /// The object's JSON up to its revision.

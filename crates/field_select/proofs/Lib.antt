@@ -3,3 +3,4 @@ pub mod Loops
 pub mod Laws
 pub mod MeaningLaws
 pub mod WantedLaws
+pub mod MaskLaws

@@ -1,6 +1,7 @@
 //! Field selectors.
 
-ghost use Rattle.std.specs.Prelude.{◌≡◌, ◌↔◌, List, [], IfOk, IsTrue, Ok, option_copied};
+ghost use Rattle.std.specs.Prelude.{◌≡◌, ◌↔◌, ℕ, List, [], IfOk, IsTrue, Ok, option_copied};
+ghost use Rattle.kube_meta.specs.Words.{fields_word, has_bits};
 ghost use Rattle.field_select.specs.declared.terms.Term.{Term as Asked};
 ghost use Rattle.field_select.specs.Grammar.{IsSelector};
 ghost use Rattle.field_select.specs.Reading.{selector_of};
@@ -70,6 +71,14 @@ impl FieldSel {
         all_hold(&self.terms, fields, key)
     }
 
+    /// Bits that the word of listed fields has wherever these are selected: those of each listed field that has
+    /// to have one value.
+    pub fn mask(&self) -> u64
+        ensures { (fields : List (List ℕ)) (key : List ℕ) → Selects self.now fields key → IsTrue (has_bits (fields_word fields) result) }
+    {
+        mask_of(&self.terms)
+    }
+
     /// Whether there is no term, so that everything is selected.
     pub fn is_empty(&self) -> bool
         ensures { IsTrue result ↔ (self.now ≡ []) }
@@ -134,6 +143,16 @@ fn are_same(terms: &[Term], others: &[Term]) -> bool
         }
     }
     true
+}
+
+fn mask_of(terms: &[Term]) -> u64
+    ensures { (fields : List (List ℕ)) (key : List ℕ) → Selects terms.now fields key → IsTrue (has_bits (fields_word fields) result) }
+{
+    let mut mask = 0;
+    for term in terms {
+        mask |= term.mask();
+    }
+    mask
 }
 
 fn all_hold(terms: &[Term], fields: &Fields, key: &Key) -> bool

@@ -1,9 +1,10 @@
 //! One term of a field selector.
 
-ghost use Rattle.std.specs.Prelude.{◌≡◌, ◌↔◌, IfOk, IsTrue};
+ghost use Rattle.std.specs.Prelude.{◌≡◌, ◌↔◌, ℕ, List, IfOk, IsTrue};
+ghost use Rattle.kube_meta.specs.Words.{fields_word, has_bits};
 ghost use Rattle.field_select.specs.Meaning.{asks_for, asks_name, is_listed, is_name, value_of};
 
-use kube_meta::{Fields, Key, Memory, Text};
+use kube_meta::{Fields, Key, Memory, Text, field_bits};
 
 /// A field by which objects are selected.
 #[derive(Clone, Copy, Debug)]
@@ -95,6 +96,20 @@ impl Term {
         ensures { result ≡ asks_name self.now }
     {
         self.equal && self.field.is_name()
+    }
+
+    /// Bits that the word of listed fields has wherever the term holds: those of a listed field with the value
+    /// that it has to have, and else none.
+    pub fn mask(&self) -> u64
+        ensures { (fields : List (List ℕ)) (key : List ℕ) → Holds fields key self.now → IsTrue (has_bits (fields_word fields) result) }
+    {
+        if !self.equal {
+            return 0;
+        }
+        match self.field {
+            Field::Listed(place) => field_bits(place, self.value.as_str()),
+            Field::Name | Field::Namespace => 0,
+        }
     }
 
     /// A copy of the term.

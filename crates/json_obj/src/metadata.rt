@@ -174,7 +174,7 @@ fn labels_of(alloc: Global, members: &Map<String, Value>) -> Result<Labels, Memo
     ensures { IfOk result (λ labels. (name : List ℕ)
         → value_at labels name ≡ option_and_then as_str (get_member name (members_view members.now.entries))) }
 {
-    let mut labels = Labels::new(alloc);
+    let mut labels = Labels::with_capacity(alloc, members.len())?;
     for (name, value) in members.iter() {
         put_label(alloc, &mut labels, name.as_str(), value)?;
     }

@@ -6,3 +6,5 @@ pub mod Revisions
 pub mod Objects
 pub mod Rows
 pub mod Texts
+pub mod Hashes
+pub mod Words

@@ -37,6 +37,15 @@ impl Labels {
         }
     }
 
+    /// No labels, and room for so many.
+    pub fn with_capacity(alloc: Global, capacity: usize) -> Result<Labels, Memory>
+        ensures { IfOk result (λ labels. labels ≡ []) }
+    {
+        Ok(Labels {
+            pairs: Vec::with_capacity(alloc, capacity)?,
+        })
+    }
+
     /// Sets the value of the label `name`, and answers the one that stood there.
     pub fn put(&mut self, name: Text, value: Text) -> Result<Option<Text>, Memory>
         ensures old { IfOk result (λ old. old ≡ value_at self.old name) }

@@ -3,6 +3,7 @@
 #![tactic(auto)]
 
 mod field_values;
+mod hashes;
 mod keys;
 mod label_pairs;
 mod names;
@@ -10,6 +11,7 @@ mod objects;
 mod resources;
 mod revisions;
 mod texts;
+mod words;
 
 pub use field_values::Fields;
 pub use keys::{
@@ -24,3 +26,4 @@ pub use resources::{
 pub use revisions::{MAX_REVISION, Rev, RevNo, revisions_are_read_back};
 pub use std::alloc::AllocError as Memory;
 pub use texts::Text;
+pub use words::{field_bits, has_bits, label_bits, word_of};

@@ -8,3 +8,4 @@ pub mod Laws
 pub mod RequirementLaws
 pub mod MeaningLaws
 pub mod SetLaws
+pub mod MaskLaws

@@ -1,9 +1,11 @@
 //! One requirement of a label selector.
 
-ghost use Rattle.std.specs.Prelude.{◌≡◌, ◌↔◌, ◌||◌, ℕ, List, [], ◌∷◌, ◌++◌, Contains, IfOk, IsTrue, OnOk, OnErr, option_copied, bytes_eq};
+ghost use Rattle.std.specs.Prelude.{◌≡◌, ◌↔◌, ◌||◌, ℕ, List, [], ◌∷◌, ◌++◌, Contains, IfOk, IfSome, IsTrue, OnOk, OnErr, option_copied, bytes_eq};
+ghost use Rattle.kube_meta.specs.Labels.{Pairs};
+ghost use Rattle.kube_meta.specs.Words.{labels_word, has_bits};
 ghost use Rattle.label_select.specs.Values.{HasOneOf, HasAll, is_in};
 
-use kube_meta::{Labels, Memory, Text};
+use kube_meta::{Labels, Memory, Text, label_bits};
 use std::alloc::Global;
 use std::collections::BTreeSet;
 use std::marker::Model;
@@ -81,6 +83,16 @@ impl Values {
         match &self.ordered {
             Some(ordered) => ordered.contains(value),
             None => is_listed(&self.texts, value),
+        }
+    }
+
+    /// The value, where there is one alone.
+    pub fn alone(&self) -> Option<&Text>
+        ensures { IfSome result (λ value. self.now ≡ value.now ∷ []) }
+    {
+        match self.texts.as_slice() {
+            [value] => Some(value),
+            _ => None,
         }
     }
 
@@ -169,6 +181,20 @@ impl Requirement {
             Requirement::Absent(key) => labels.get(key.as_str()).is_none(),
             Requirement::In(key, values) => is_one_of(labels.get(key.as_str()), values),
             Requirement::NotIn(key, values) => !is_one_of(labels.get(key.as_str()), values),
+        }
+    }
+
+    /// Bits that the word of labels has wherever these meet it: those of a label with the one value that is
+    /// asked for, and else none.
+    pub fn mask(&self) -> u64
+        ensures { (labels : Pairs) → Holds labels self.now → IsTrue (has_bits (labels_word labels) result) }
+    {
+        match self {
+            Requirement::In(key, values) => match values.alone() {
+                Some(value) => label_bits(key.as_str(), value.as_str()),
+                None => 0,
+            },
+            _ => 0,
         }
     }
 

@@ -1,6 +1,8 @@
 //! Label selectors.
 
 ghost use Rattle.std.specs.Prelude.{◌≡◌, ◌↔◌, List, [], IfOk, IsTrue, Ok};
+ghost use Rattle.kube_meta.specs.Labels.{Pairs};
+ghost use Rattle.kube_meta.specs.Words.{labels_word, has_bits};
 ghost use Rattle.label_select.specs.declared.requirements.Requirement.{Requirement as Asked};
 ghost use Rattle.label_select.specs.Grammar.{IsSelector};
 ghost use Rattle.label_select.specs.Reading.{selector_of};
@@ -75,6 +77,14 @@ impl LabelSel {
         all_hold(&self.requirements, labels)
     }
 
+    /// Bits that the word of labels has wherever these are selected: those of each label that has to have one
+    /// value.
+    pub fn mask(&self) -> u64
+        ensures { (labels : Pairs) → Selects self.now labels → IsTrue (has_bits (labels_word labels) result) }
+    {
+        mask_of(&self.requirements)
+    }
+
     /// Whether there is no requirement, so that everything is selected.
     pub fn is_empty(&self) -> bool
         ensures { IsTrue result ↔ (self.now ≡ []) }
@@ -113,6 +123,16 @@ fn are_same(requirements: &[Requirement], others: &[Requirement]) -> bool
         }
     }
     true
+}
+
+fn mask_of(requirements: &[Requirement]) -> u64
+    ensures { (labels : Pairs) → Selects requirements.now labels → IsTrue (has_bits (labels_word labels) result) }
+{
+    let mut mask = 0;
+    for requirement in requirements {
+        mask |= requirement.mask();
+    }
+    mask
 }
 
 fn all_hold(requirements: &[Requirement], labels: &Labels) -> bool

@@ -1,4 +1,5 @@
 pub mod Selecting
+pub mod Masks
 pub mod Reading
 pub mod Streams
 pub mod Listings

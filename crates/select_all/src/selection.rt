@@ -3,6 +3,7 @@
 ghost use Rattle.std.specs.Prelude.{◌≡◌, ◌↔◌, IfOk, IsTrue, Ok, option_copied};
 ghost use Rattle.select_all.specs.declared.selection.Selection.{Selection as Asked};
 ghost use Rattle.select_all.specs.Reading.{IsRead, ReadsSelection, selection_of, label_refusal, field_refusal};
+ghost use Rattle.select_all.specs.Masks.{IsMaskOf};
 ghost use Rattle.select_all.specs.Selecting.{Selects, is_within, selects, holds, kind_of_change, told_of};
 
 use field_select::{FieldNo, FieldSel};
@@ -130,6 +131,14 @@ impl Selection {
         is_within(&self.ns, &obj.key)
             && self.labels.matches(&obj.labels)
             && self.fields.matches(&obj.fields, &obj.key)
+    }
+
+    /// Bits that the word of each selected object has: those of each label and each listed field that has to
+    /// have one value.
+    pub fn mask(&self) -> u64
+        ensures { IsMaskOf self.now result }
+    {
+        self.labels.mask() | self.fields.mask()
     }
 
     /// What a change from `old` to `new` is to a watch of the selection; `None` where neither is
