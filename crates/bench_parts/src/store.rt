@@ -88,11 +88,13 @@ fn time<R: Runtime>(rt: &R, alloc: Global, count: usize, runs: usize) -> io::Res
     println!(rt; "sum {}", steps.wrapping_add(taken).wrapping_add(pushed))
 }
 
-/// The pairs of puts of new objects, of puts in place of others, of gets and of removals.
+/// The pairs of puts of new objects, of puts in place of others, of such puts each behind a snapshot, of gets and
+/// of removals.
 #[derive(Clone, Copy)]
 struct Steps {
     put: Pair,
     replace: Pair,
+    behind: Pair,
     get: Pair,
     remove: Pair,
 }
@@ -106,6 +108,7 @@ fn time_steps<R: Runtime>(
     let mut best = Steps {
         put: NONE,
         replace: NONE,
+        behind: NONE,
         get: NONE,
         remove: NONE,
     };
@@ -117,6 +120,7 @@ fn time_steps<R: Runtime>(
     let count = rows.len() as u64;
     print_pair(rt, "put", best.put, count)?;
     print_pair(rt, "replace", best.replace, count)?;
+    print_pair(rt, "put behind a snapshot", best.behind, count)?;
     print_pair(rt, "get", best.get, count)?;
     print_pair(rt, "remove", best.remove, count)?;
     Ok(sum)
@@ -130,6 +134,7 @@ fn tree_run<R: Clock>(
 ) -> Result<u32, Memory> {
     let first = mixed(alloc, rows)?;
     let again = mixed(alloc, rows)?;
+    let once_more = mixed(alloc, rows)?;
     let keys = keys(alloc, &first)?;
     let mut tree = Tree::new(alloc)?;
     let mut laps = Laps::begin(rt);
@@ -137,12 +142,15 @@ fn tree_run<R: Clock>(
     best.put.step = best.put.step.min(laps.lap(rt));
     let replaced = tree::puts(&mut tree, again);
     best.replace.step = best.replace.step.min(laps.lap(rt));
+    let behind = tree::puts_behind(&mut tree, once_more);
+    best.behind.step = best.behind.step.min(laps.lap(rt));
     let found = tree::gets(&tree, &keys);
     best.get.step = best.get.step.min(laps.lap(rt));
     let removed = tree::removals(&mut tree, &keys);
     best.remove.step = best.remove.step.min(laps.lap(rt));
     Ok(
         put.wrapping_add(replaced)
+            .wrapping_add(behind)
             .wrapping_add(found)
             .wrapping_add(removed),
     )
@@ -157,6 +165,7 @@ fn map_run<R: Clock>(
     let rows = mixed(alloc, rows)?;
     let first = entries(alloc, &rows)?;
     let again = entries(alloc, &rows)?;
+    let once_more = entries(alloc, &rows)?;
     let keys = keys(alloc, &rows)?;
     let mut map: Map = BTreeMap::new(alloc);
     let mut laps = Laps::begin(rt);
@@ -164,12 +173,15 @@ fn map_run<R: Clock>(
     best.put.plain = best.put.plain.min(laps.lap(rt));
     let replaced = tree::map_puts(&mut map, again);
     best.replace.plain = best.replace.plain.min(laps.lap(rt));
+    let behind = tree::map_puts(&mut map, once_more);
+    best.behind.plain = best.behind.plain.min(laps.lap(rt));
     let found = tree::map_gets(&map, &keys);
     best.get.plain = best.get.plain.min(laps.lap(rt));
     let removed = tree::map_removals(&mut map, &keys);
     best.remove.plain = best.remove.plain.min(laps.lap(rt));
     Ok(
         put.wrapping_add(replaced)
+            .wrapping_add(behind)
             .wrapping_add(found)
             .wrapping_add(removed),
     )

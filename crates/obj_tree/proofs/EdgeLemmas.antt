@@ -14,11 +14,11 @@ use Rattle.std.proofs.lemmas.Cmp.{ranked}
 use Rattle.kube_meta.specs.Keys.{joined as key_text, is_in}
 use Rattle.kube_meta.specs.Rows.{RowData, key_of, is_behind, behind, within}
 use Rattle.obj_tree.specs.Edges.{is_from, is_after, begins_below, rows_before, AreBefore, IsSpot}
-use Rattle.obj_tree.specs.Maps.{is_below}
-use Rattle.obj_tree.specs.Pages.{joined, IsPaged, page_at}
+use Rattle.obj_tree.specs.Maps.{is_below, above}
+use Rattle.obj_tree.specs.Pages.{joined, AreParts, page_at}
 use Rattle.obj_tree.specs.declared.edges.Spot.{Spot}
 use Rattle.obj_tree.proofs.MapLemmas.{lt_trans, Stand, lower, same, higher, stand, all_weaker, all_append, all_parts, Rising, rising, rising_parts, before_row}
-use Rattle.obj_tree.proofs.PageLemmas.{joined_at, sized_at}
+use Rattle.obj_tree.proofs.PageLemmas.{joined_at, some_at}
 use Rattle.obj_tree.proofs.SpanLemmas.{front_is, back_is, spot_inside}
 
 -- ---- rows at an edge
@@ -48,13 +48,13 @@ below_all text front (row ∷ rows) back some is begins =
     all_weaker (is_below (key_of row)) (is_below text) (λ x passes. lt_trans (key_of x) (key_of row) text passes begins) front (before_row front (rows ++ back) row is)
 
 -- what stands before a page that begins before a text stands before it too
-pub below_pages : (pages : List (List RowData)) (text : List ℕ) (at : ℕ) → at < length pages → IsPaged pages → begins_below text (page_at pages at) ≡ true → list_all (is_below text) (joined (take at pages)) ≡ true
+pub below_pages : (pages : List (List RowData)) (text : List ℕ) (at : ℕ) → at < length pages → AreParts pages → begins_below text (page_at pages at) ≡ true → list_all (is_below text) (joined (take at pages)) ≡ true
 below_pages pages text at inside paged begun =
     let split = subst (λ (r : List RowData). Rising r) (joined_at pages at inside) (rising (joined pages) paged.rising) in
-    below_all text (joined (take at pages)) (page_at pages at) (joined (drop (suc at) pages)) (sized_at pages at paged.sized inside).0 split begun
+    below_all text (joined (take at pages)) (page_at pages at) (joined (drop (suc at) pages)) (some_at pages at paged.some inside) split begun
 
 -- and of a page that doesn't begin before it, and those after it, no row does
-pub from_pages : (pages : List (List RowData)) (text : List ℕ) (at : ℕ) → at < length pages → IsPaged pages → begins_below text (page_at pages at) ≡ false → list_all (is_from text) (joined (drop at pages)) ≡ true
+pub from_pages : (pages : List (List RowData)) (text : List ℕ) (at : ℕ) → at < length pages → AreParts pages → begins_below text (page_at pages at) ≡ false → list_all (is_from text) (joined (drop at pages)) ≡ true
 from_pages pages text at inside paged from =
     let split = subst (λ (r : List RowData). Rising r) (joined_at pages at inside) (rising (joined pages) paged.rising) in
     let later = (rising_parts (joined (take at pages)) (page_at pages at ++ joined (drop (suc at) pages)) split).1 in
@@ -123,6 +123,29 @@ module _ {X : Type 0} where
   filter_true : (xs : List X) → filter (λ x. true) xs ≡ xs
   filter_true [] = refl
   filter_true (x ∷ xs) = ap (λ (r : List X). x ∷ r) (filter_true xs)
+
+  -- those that aren't in a front part
+  pub front_gone : (p : X → Bool) (xs : List X) (i : ℕ) → list_all p (take i xs) ≡ true → list_all (λ x. not (p x)) (drop i xs) ≡ true → filter (λ x. not (p x)) xs ≡ drop i xs
+  front_gone p [] zero pt pd = refl
+  front_gone p [] (suc i) pt pd = refl
+  front_gone p (x ∷ xs) zero pt pd =
+      let these = and_parts (not (p x)) (list_all (λ x. not (p x)) xs) pd in
+      rw these.0 (ap (λ (r : List X). x ∷ r) (front_gone p xs zero refl these.1))
+  front_gone p (x ∷ xs) (suc i) pt pd =
+      let these = and_parts (p x) (list_all p (take i xs)) pt in
+      rw these.0 (front_gone p xs i these.1 pd)
+
+  filter_same : (p q : X → Bool) → ((x : X) → p x ≡ q x) → (xs : List X) → filter p xs ≡ filter q xs
+  filter_same p q alike [] = refl
+  filter_same p q alike (x ∷ xs) = elim (cases_Bool (q x)) [
+    | inl pass ↦ let is : p x ≡ true = alike x ∙ pass in rw (is, pass) (ap (λ (r : List X). x ∷ r) (filter_same p q alike xs))
+    | inr fail ↦ let is : p x ≡ false = alike x ∙ fail in rw (is, fail) (filter_same p q alike xs)
+  ]
+
+-- the rows behind a key
+pub above_is : (text key : List ℕ) (rows : List RowData) (i : ℕ) → ((row : RowData) → is_from text row ≡ is_behind key row) → AreBefore text rows i → drop i rows ≡ above key rows
+above_is text key rows i alike these =
+    sym (front_gone (is_below text) rows i these.before these.after) ∙ filter_same (is_from text) (is_behind key) alike rows
 
 -- the rows behind a key, where one is given
 behind_is : (after : Option (List ℕ)) (rows : List RowData) → behind after rows ≡ filter (is_after after) rows
@@ -251,7 +274,7 @@ pub told_by_text : (key text : List ℕ) (next : ℕ) → bytes_eq (take (length
 told_by_text key text next other = ap is_lt (no_prefix key text (next ∷ []) other)
 
 -- behind a key stands what isn't before it with a zero behind
-next_text : (key a : List ℕ) → not (is_lt (slice_cmp nat_cmp a (key ++ 0 ∷ []))) ≡ is_lt (slice_cmp nat_cmp key a)
+pub next_text : (key a : List ℕ) → not (is_lt (slice_cmp nat_cmp a (key ++ 0 ∷ []))) ≡ is_lt (slice_cmp nat_cmp key a)
 next_text [] [] = refl
 next_text [] (x ∷ a) = by (nat_cmp x 0) refl
   where
@@ -355,9 +378,9 @@ pub none_before : (text : List ℕ) (page : List RowData) → page ≡ [] → Ar
 none_before text page none = rw none (record { inside = omega arith; before = refl; after = refl })
 
 -- what is before an edge in one page, and in all
-pub at_spot : (text : List ℕ) (pages : List (List RowData)) (spot : Spot) → IsSpot pages spot → list_all (is_below text) (joined (take spot.page pages)) ≡ true → AreBefore text (page_at pages spot.page) spot.row → list_all (is_from text) (joined (drop (suc spot.page) pages)) ≡ true → AreBefore text (joined pages) (rows_before pages spot)
+pub at_spot : (text : List ℕ) (pages : List (List RowData)) (spot : Spot) → IsSpot pages spot → list_all (is_below text) (joined (take spot.part pages)) ≡ true → AreBefore text (page_at pages spot.part) spot.row → list_all (is_from text) (joined (drop (suc spot.part) pages)) ≡ true → AreBefore text (joined pages) (rows_before pages spot)
 at_spot text pages spot is front page rest = record {
   inside = spot_inside pages spot is;
-  before = ap (list_all (is_below text)) (front_is pages spot is) ∙ all_append (is_below text) (joined (take spot.page pages)) (take spot.row (page_at pages spot.page)) front page.before;
-  after = ap (list_all (is_from text)) (back_is pages spot is) ∙ all_append (is_from text) (drop spot.row (page_at pages spot.page)) (joined (drop (suc spot.page) pages)) page.after rest;
+  before = ap (list_all (is_below text)) (front_is pages spot is) ∙ all_append (is_below text) (joined (take spot.part pages)) (take spot.row (page_at pages spot.part)) front page.before;
+  after = ap (list_all (is_from text)) (back_is pages spot is) ∙ all_append (is_from text) (drop spot.row (page_at pages spot.part)) (joined (drop (suc spot.part) pages)) page.after rest;
 }

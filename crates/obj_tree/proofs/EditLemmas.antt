@@ -25,6 +25,31 @@ empty_of : (page : List RowData) → length page ≡ 0 → page ≡ []
 empty_of [] e = refl
 empty_of (row ∷ page) e = absurd (omega arith)
 
+-- ---- one part and the next, as one in place of two
+
+module _ (parts : List (List RowData)) (part : List RowData) where
+  pub rows_with_next : (at : ℕ) → suc at < length parts → joined (replaced parts at (suc (suc at)) ((part ++ page_at parts (suc at)) ∷ [])) ≡ joined (replaced parts at (suc at) (part ∷ []))
+  rows_with_next at more =
+      joined_replaced parts ((part ++ page_at parts (suc at)) ∷ []) at (suc (suc at))
+      ∙ ap (λ (r : List RowData). joined (take at parts) ++ r) (regroup part (page_at parts (suc at)) (joined (drop (suc (suc at)) parts)))
+      ∙ ap (λ (r : List RowData). joined (take at parts) ++ ((part ++ []) ++ r)) (sym (joined_drop parts (suc at) more))
+      ∙ sym (joined_replaced parts (part ∷ []) at (suc at))
+    where
+      regroup : (a b c : List RowData) → ((a ++ b) ++ []) ++ c ≡ (a ++ []) ++ (b ++ c)
+      regroup a b c = simp (append_assoc, append-nil)
+
+  pub rows_with_last : (n : ℕ) → n < length parts → joined (replaced parts n (suc (suc n)) ((page_at parts n ++ part) ∷ [])) ≡ joined (replaced parts (suc n) (suc (suc n)) (part ∷ []))
+  rows_with_last n here =
+      joined_replaced parts ((page_at parts n ++ part) ∷ []) n (suc (suc n))
+      ∙ regroup (joined (take n parts)) (page_at parts n) part (joined (drop (suc (suc n)) parts))
+      ∙ ap (λ (r : List RowData). r ++ ((part ++ []) ++ joined (drop (suc (suc n)) parts))) (sym (joined_take parts n here))
+      ∙ sym (joined_replaced parts (part ∷ []) (suc n) (suc (suc n)))
+    where
+      regroup : (a b c d : List RowData) → a ++ (((b ++ c) ++ []) ++ d) ≡ (a ++ b) ++ ((c ++ []) ++ d)
+      regroup a b c d = simp (append_assoc, append-nil)
+
+-- ---- a page that a row was taken from
+
 module _ (pages : List (List RowData)) (at : ℕ) (page : List RowData) (inside : at < length pages) (sized : AreSized pages) (full : AreFull pages) (smaller : length page + 1 ≡ length (page_at pages at)) where
   pub gone : length page ≡ 0 → ArePagesOf (replaced pages at (at + 1) []) (joined (replaced pages at (at + 1) (page ∷ [])))
   gone empty = record {
@@ -81,19 +106,12 @@ module _ (pages : List (List RowData)) (at : ℕ) (page : List RowData) (inside 
       let pair : AreFull (page_at pages at ∷ next ∷ drop (suc (suc at)) pages) = subst (λ (r : List (List RowData)). AreFull (page_at pages at ∷ r)) (drop-cons pages (suc at) [] more) cons in
       let full_pair : 32 < length (page_at pages at) + length next = pair.0 in
       rw (add-one, two) (record {
-        rows_are =
-            joined_replaced pages ((page ++ next) ∷ []) at (suc (suc at))
-            ∙ ap (λ (r : List RowData). joined (take at pages) ++ r) (regroup page next (joined (drop (suc (suc at)) pages)))
-            ∙ ap (λ (r : List RowData). joined (take at pages) ++ ((page ++ []) ++ r)) (sym (joined_drop pages (suc at) more))
-            ∙ sym (joined_replaced pages (page ∷ []) at (suc at));
+        rows_are = rows_with_next pages page at more;
         sized = sized_with pages at (suc (suc at)) ((page ++ next) ∷ []) sized (omega (arith, long), omega (arith, long), tt);
         full = full_from pages at ((page ++ next) ∷ drop (suc (suc at)) pages) (omega arith) full
             (full_more next (page ++ next) (drop (suc (suc at)) pages) (omega (arith, long)) pair.1.0, pair.1.1)
             (touches_big pages at (page ++ next) (drop (suc (suc at)) pages) sized (omega (arith, long)));
       })
-    where
-      regroup : (a b c : List RowData) → ((a ++ b) ++ []) ++ c ≡ (a ++ []) ++ (b ++ c)
-      regroup a b c = simp (append_assoc, append-nil)
 
 pub with_before : (pages : List (List RowData)) (at : ℕ) (page : List RowData) → at < length pages → AreSized pages → AreFull pages → length page + 1 ≡ length (page_at pages at) → 0 < length page → FitsBefore pages at (length page) → ArePagesOf (replaced pages (at - 1) (at - 1 + 2) ((page_at pages (at - 1) ++ page) ∷ [])) (joined (replaced pages at (at + 1) (page ∷ [])))
 with_before pages zero page inside sized full smaller some fits = absurd (omega (arith, fits.0))
@@ -108,20 +126,13 @@ with_before pages (suc n) page inside sized full smaller some fits =
     let pair : AreFull (last ∷ page_at pages (suc n) ∷ drop (suc (suc n)) pages) = subst (λ (r : List (List RowData)). AreFull (last ∷ r)) (drop-cons pages (suc n) [] inside) cons in
     let full_pair : 32 < length last + length (page_at pages (suc n)) = pair.0 in
     let now : ArePagesOf (replaced pages n (suc (suc n)) ((last ++ page) ∷ [])) (joined (replaced pages (suc n) (suc (suc n)) (page ∷ []))) = record {
-      rows_are =
-          joined_replaced pages ((last ++ page) ∷ []) n (suc (suc n))
-          ∙ regroup (joined (take n pages)) last page (joined (drop (suc (suc n)) pages))
-          ∙ ap (λ (r : List RowData). r ++ ((page ++ []) ++ joined (drop (suc (suc n)) pages))) (sym (joined_take pages n here))
-          ∙ sym (joined_replaced pages (page ∷ []) (suc n) (suc (suc n)));
+      rows_are = rows_with_last pages page n here;
       sized = sized_with pages n (suc (suc n)) ((last ++ page) ∷ []) sized (omega (arith, long), omega (arith, long), tt);
       full = full_from pages n ((last ++ page) ∷ drop (suc (suc n)) pages) (omega arith) full
           (full_big (last ++ page) (drop (suc (suc n)) pages) (omega (arith, long)) (sized-drop pages (suc (suc n)) sized), pair.1.1)
           (touches_more pages n last (last ++ page) (drop (suc n) pages) (drop (suc (suc n)) pages) (omega (arith, long)) (touches_page pages n full here));
     } in
     rw (one, add-one, two) now
-  where
-    regroup : (a b c d : List RowData) → a ++ (((b ++ c) ++ []) ++ d) ≡ (a ++ b) ++ ((c ++ []) ++ d)
-    regroup a b c d = simp (append_assoc, append-nil)
 
 pub one_less : (page : List RowData) (at : ℕ) → at < length page → length (row_gone page at) + 1 ≡ length page
 one_less page at inside = omega (arith, length-append (take at page) (drop (at + 1) page), length-take at page, length-drop (at + 1) page)

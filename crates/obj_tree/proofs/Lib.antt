@@ -7,3 +7,4 @@ pub mod FillLemmas
 pub mod PrefixLemmas
 pub mod SpanLemmas
 pub mod EdgeLemmas
+pub mod NodeLemmas

@@ -6,14 +6,14 @@ use Rattle.std.proofs.Math.Seq.{drop-cons}
 use Rattle.std.proofs.lemmas.Bool.{cases_Bool, ltb-true, ltb-false}
 use Rattle.std.proofs.lemmas.List.{append-nil, take-append-drop, get_or-map, length-map}
 use Rattle.kube_meta.specs.Rows.{RowData, key_of, row_with, is_behind}
-use Rattle.obj_tree.specs.Maps.{is_below, above, with_row, without}
+use Rattle.obj_tree.specs.Maps.{is_below, with_row, without}
 use Rattle.obj_tree.specs.Pages.{joined, AreSized, AreFull, IsPaged, ArePagesOf, page_at, replaced, row_put, row_gone, divided, IsPageFor, IsRowAt, IsGapAt, IsWithin}
 use Rattle.obj_tree.specs.Places.{IsPlace}
 use Rattle.obj_tree.specs.declared.search.Place.{Place}
 use Rattle.obj_tree.proofs.MapLemmas.{are_rising, Cut, cut_gap, gap_row, cut_row, row_row, all_append, put_stays_rising, removal_stays_rising}
 use Rattle.obj_tree.proofs.PageLemmas.{joined_at, joined_replaced, joined_divided, sized-drop, sized_at, full_drop, full_from, touches_page, full_page, full_more, full_big, touches_more, touches_big}
 use Rattle.obj_tree.proofs.SearchLemmas.{first_row}
-use Rattle.obj_tree.proofs.EditLemmas.{sized_with, joined_drop}
+use Rattle.obj_tree.proofs.EditLemmas.{sized_with}
 
 -- ---- a page that a row was put into, whole or in two
 
@@ -140,10 +140,10 @@ put_paged pages row at from to paged inside order near within rows =
       rising = rw rows (put_stays_rising (joined pages) row paged.rising);
     }
 
-with_cut : (rows front back : List RowData) (row : RowData) → Cut rows (key_of row) front back → with_row rows row ≡ front ++ (row ∷ back)
+pub with_cut : (rows front back : List RowData) (row : RowData) → Cut rows (key_of row) front back → with_row rows row ≡ front ++ (row ∷ back)
 with_cut rows front back row cut = rw (cut.below_is, cut.above_is) refl
 
-without_cut : (rows front back : List RowData) (key : List ℕ) → Cut rows key front back → without rows key ≡ front ++ back
+pub without_cut : (rows front back : List RowData) (key : List ℕ) → Cut rows key front back → without rows key ≡ front ++ back
 without_cut rows front back key cut = rw (cut.below_is, cut.above_is) refl
 
 module _ (pages : List (List RowData)) (row : RowData) (at n : ℕ) (paged : IsPaged pages) (for_key : IsPageFor pages (key_of row) at) where
@@ -223,24 +223,6 @@ sole_page pages row is = rw is (one_paged row)
 
 -- ---- what is lent
 
-drop_front : (n : ℕ) (xs ys : List RowData) → n ≤ length xs → drop n (xs ++ ys) ≡ drop n xs ++ ys
-drop_front zero xs ys within = refl
-drop_front (suc n) [] ys within = absurd (omega arith)
-drop_front (suc n) (x ∷ xs) ys within = drop_front n xs ys (omega arith)
-
-lent : (pages : List (List RowData)) (at n : ℕ) → at < length pages → n ≤ length (page_at pages at) → drop n (joined (drop at pages)) ≡ drop n (page_at pages at) ++ joined (drop (suc at) pages)
-lent pages at n inside within =
-    ap (λ (r : List RowData). drop n r) (joined_drop pages at inside) ∙ drop_front n (page_at pages at) (joined (drop (suc at) pages)) within
-
-pub lent_after_row : (pages : List (List RowData)) (key : List ℕ) (at n : ℕ) → IsPageFor pages key at → IsRowAt (page_at pages at) key n → drop (n + 1) (joined (drop at pages)) ≡ above key (joined pages)
-lent_after_row pages key at n for_key is =
-    let row = first_row (page_at pages at) (omega (arith, is.inside)) in
-    rw add-one (lent pages at (suc n) for_key.inside (omega (arith, is.inside)) ∙ sym (row_cut pages key at for_key n row is).above_is)
-
-pub lent_after_gap : (pages : List (List RowData)) (key : List ℕ) (at n : ℕ) → IsPageFor pages key at → IsGapAt (page_at pages at) key n → drop n (joined (drop at pages)) ≡ above key (joined pages)
-lent_after_gap pages key at n for_key gap =
-    lent pages at n for_key.inside gap.inside ∙ sym (gap_cut pages key at for_key n gap).above_is
-
 taken : (rows back : List RowData) (n : ℕ) (d : RowData) → n < length rows → drop n (rows ++ back) ≡ get_or rows n d ∷ drop (suc n) (rows ++ back)
 taken [] back n d inside = absurd (omega arith)
 taken (row ∷ rows) back zero d inside = refl
@@ -250,8 +232,8 @@ taken (row ∷ rows) back (suc n) d inside = taken rows back n d (omega arith)
 pub first_taken : (pages : List (List RowData)) (first : List RowData) (rest : List (List RowData)) (n : ℕ) (d : RowData) → pages ≡ first ∷ rest → n < length first → drop n (joined pages) ≡ get_or first n d ∷ drop (n + 1) (joined pages)
 first_taken pages first rest n d same inside = rw (same, add-one) (taken first (joined rest) n d inside)
 
-pub within_first : (pages : List (List RowData)) (first : List RowData) (rest : List (List RowData)) (n : ℕ) → pages ≡ first ∷ rest → IsWithin n pages → n < length first
-within_first pages first rest n same within = subst (λ (p : List (List RowData)). IsWithin n p) same within
+pub within_first : (pages nodes : List (List RowData)) (first : List RowData) (rest : List (List RowData)) (n : ℕ) → pages ≡ first ∷ rest → IsWithin n pages nodes → n < length first
+within_first pages nodes first rest n same within = subst (λ (p : List (List RowData)). IsWithin n p nodes) same within
 
 pub none_paged : IsPaged []
 none_paged = record { sized = tt; full = tt; rising = are_rising [] tt }

@@ -203,6 +203,35 @@ row_row front back row key same low =
     ∙ ap (λ (r : Option RowData). first_some r (find test (row ∷ back))) (find_none test (is_below key) (below_differs key) front low)
     ∙ rw here refl
 
+-- what stands around some rows
+none_after : {X : Type 0} (o : Option X) → first_some o None ≡ o
+none_after None = refl
+none_after (Some x) = refl
+
+pub cut_around : (front rows back : List RowData) (key : List ℕ) → list_all (is_below key) front ≡ true → list_all (is_behind key) back ≡ true → Cut (front ++ (rows ++ back)) key (front ++ below key rows) (above key rows ++ back)
+cut_around front rows back key low high = record {
+  below_is =
+      filter-append (is_below key) front (rows ++ back)
+      ∙ ap (λ (r : List RowData). r ++ below key (rows ++ back)) (filter_all (is_below key) front low)
+      ∙ ap (λ (r : List RowData). front ++ r) (filter-append (is_below key) rows back)
+      ∙ ap (λ (r : List RowData). front ++ (below key rows ++ r)) (filter_none (is_below key) (is_behind key) (below_not_above key) back high)
+      ∙ ap (λ (r : List RowData). front ++ r) (append-nil (below key rows));
+  above_is =
+      filter-append (is_behind key) front (rows ++ back)
+      ∙ ap (λ (r : List RowData). r ++ above key (rows ++ back)) (filter_none (is_behind key) (is_below key) (above_not_below key) front low)
+      ∙ filter-append (is_behind key) rows back
+      ∙ ap (λ (r : List RowData). above key rows ++ r) (filter_all (is_behind key) back high);
+}
+
+pub row_around : (front rows back : List RowData) (key : List ℕ) → list_all (is_below key) front ≡ true → list_all (is_behind key) back ≡ true → row_with (front ++ (rows ++ back)) key ≡ row_with rows key
+row_around front rows back key low high =
+    let test : RowData → Bool = λ row. bytes_eq key (key_of row) in
+    find-append test front (rows ++ back)
+    ∙ ap (λ (r : Option RowData). first_some r (find test (rows ++ back))) (find_none test (is_below key) (below_differs key) front low)
+    ∙ find-append test rows back
+    ∙ ap (λ (r : Option RowData). first_some (find test rows) r) (find_none test (is_behind key) (above_differs key) back high)
+    ∙ none_after (find test rows)
+
 -- ---- the laws
 
 -- below one key stand all rows of a smaller key and none of another, and so above it
@@ -243,10 +272,6 @@ found rows middle gone key =
     let test : RowData → Bool = λ x. bytes_eq key (key_of x) in
     find-append test (below gone rows) (middle ++ above gone rows)
     ∙ ap (λ (r : Option RowData). first_some (row_with (below gone rows) key) r) (find-append test middle (above gone rows))
-
-none_after : {X : Type 0} (o : Option X) → first_some o None ≡ o
-none_after None = refl
-none_after (Some x) = refl
 
 -- another key's row
 pub found_other : (rows middle : List RowData) (gone key : List ℕ) → bytes_eq key gone ≡ false → row_with middle key ≡ None → row_with (below gone rows ++ (middle ++ above gone rows)) key ≡ row_with rows key
@@ -360,6 +385,27 @@ rising_filter q (x ∷ xs) is = elim (cases_Bool (q x)) [
   | inl pass ↦ rw pass (still_pass (is_behind (key_of x)) q xs is.0, rising_filter q xs is.1)
   | inr fail ↦ rw fail (rising_filter q xs is.1)
 ]
+
+-- where no row has a key, nothing is removed
+pub none_without : (rows : List RowData) (key : List ℕ) → Rising rows → row_with rows key ≡ None → without rows key ≡ rows
+none_without [] key is none = refl
+none_without (row ∷ rows) key is none = by (stand (key_of row) key) (none_without rows key is.1)
+  where
+    by : Stand (key_of row) key → (row_with rows key ≡ None → without rows key ≡ rows) → without (row ∷ rows) key ≡ row ∷ rows
+    by (lower less) rest_is =
+        let over : is_behind key row ≡ false = above_not_below key row less in
+        let other : bytes_eq key (key_of row) ≡ false = below_differs key row less in
+        let rest : row_with (row ∷ rows) key ≡ row_with rows key = rw other refl in
+        rw (less, over) (ap (λ (r : List RowData). row ∷ r) (rest_is (sym rest ∙ none)))
+    by (same e) rest_is =
+        let some : row_with (row ∷ rows) key ≡ Some row = row_row [] rows row key e refl in
+        let never : Some row ≡ None = sym some ∙ none in
+        cc
+    by (higher more) rest_is =
+        let later : list_all (is_behind key) rows ≡ true = all_weaker (is_behind (key_of row)) (is_behind key) (λ x passes. lt_trans key (key_of row) (key_of x) more passes) rows is.0 in
+        let all : list_all (is_behind key) (row ∷ rows) ≡ true = rw more later in
+        let cut = cut_gap [] (row ∷ rows) key refl all in
+        rw (cut.below_is, cut.above_is) refl
 
 pub put_stays_rising : (rows : List RowData) (row : RowData) → AreRising rows → AreRising (with_row rows row)
 put_stays_rising rows row is =

@@ -7,7 +7,7 @@ use Rattle.std.proofs.lemmas.Bool.{cases_Bool, true≢false}
 use Rattle.std.proofs.lemmas.Bool.Decides.{nat_tests}
 use Rattle.std.proofs.lemmas.List.{append-nil, take-append-drop, get_or-map, length-take, length-drop}
 use Rattle.kube_meta.specs.Rows.{RowData, AreRising}
-use Rattle.obj_tree.specs.Pages.{joined, AreSized, FullWith, AreFull, page_at, replaced, row_put, row_gone, divided}
+use Rattle.obj_tree.specs.Pages.{joined, HoldEach, AreParts, AreSized, FullWith, AreFull, IsPaged, page_at, replaced, row_put, row_gone, divided}
 use Rattle.obj_tree.proofs.MapLemmas.{Rising, rising, are_rising, rising_parts}
 
 -- ---- edits of a list, seen through a function
@@ -22,6 +22,11 @@ module _ {X Y : Type 0} (f : X → Y) where
   both_cut [] i z x y inside = absurd (omega arith)
   both_cut (w ∷ xs) zero z x y inside = refl
   both_cut (w ∷ xs) (suc i) z x y inside = ap (λ rest. f w ∷ rest) (both_cut xs i z x y (omega arith))
+
+  pair_cut : (xs : List X) (i : ℕ) (z x : X) → i < length xs → map f (set (insert xs (suc i) z) i x) ≡ take i (map f xs) ++ (f x ∷ f z ∷ drop (suc i) (map f xs))
+  pair_cut [] i z x inside = absurd (omega arith)
+  pair_cut (w ∷ xs) zero z x inside = refl
+  pair_cut (w ∷ xs) (suc i) z x inside = ap (λ rest. f w ∷ rest) (pair_cut xs i z x (omega arith))
 
   back_cut : (xs : List X) (i : ℕ) (z x y : X) → i < length xs → y ≡ get_or (insert xs (suc i) z) i y → f x ≡ f y → map f (remove (set (insert xs (suc i) z) i x) (suc i)) ≡ map f xs
   back_cut [] i z x y inside is same = absurd (omega arith)
@@ -57,6 +62,10 @@ module _ {X Y : Type 0} (f : X → Y) where
   pub set_both : (xs : List X) (i : ℕ) (z x b : X) (y w : Y) → i < length xs → f x ≡ y → f b ≡ w → map f (set (set (insert xs (i + 1) z) i x) (i + 1) b) ≡ take i (map f xs) ++ ((y ∷ w ∷ []) ++ drop (i + 1) (map f xs))
   set_both xs i z x b y w inside is second =
       rw add-one (both_cut xs i z x b inside ∙ ap (λ v. take i (map f xs) ++ (v ∷ f b ∷ drop (suc i) (map f xs))) is ∙ ap (λ v. take i (map f xs) ++ (y ∷ v ∷ drop (suc i) (map f xs))) second)
+
+  pub set_pair : (xs : List X) (i : ℕ) (z x : X) (y w : Y) → i < length xs → f x ≡ y → f z ≡ w → map f (set (insert xs (i + 1) z) i x) ≡ take i (map f xs) ++ ((y ∷ w ∷ []) ++ drop (i + 1) (map f xs))
+  set_pair xs i z x y w inside is second =
+      rw add-one (pair_cut xs i z x inside ∙ ap (λ v. take i (map f xs) ++ (v ∷ f z ∷ drop (suc i) (map f xs))) is ∙ ap (λ v. take i (map f xs) ++ (y ∷ v ∷ drop (suc i) (map f xs))) second)
 
   -- what was put in, taken out again
   pub set_back : (xs : List X) (i : ℕ) (z x y : X) → i < length xs → y ≡ get_or (insert xs (i + 1) z) i y → f x ≡ f y → map f (remove (set (insert xs (i + 1) z) i x) (i + 1)) ≡ map f xs
@@ -133,6 +142,37 @@ pub sized_at : (xs : List (List RowData)) (at : ℕ) → AreSized xs → at < le
 sized_at [] at sized inside = absurd (omega arith)
 sized_at (x ∷ xs) zero sized inside = (sized.0, sized.1)
 sized_at (x ∷ xs) (suc at) sized inside = sized_at xs at sized.2 (omega arith)
+
+-- ---- parts that aren't empty
+
+pub some_of : (pages : List (List RowData)) → AreSized pages → HoldEach 1 pages
+some_of [] sized = tt
+some_of (page ∷ pages) sized = (omega (arith, sized.0), some_of pages sized.2)
+
+pub parts_of_pages : (pages : List (List RowData)) → IsPaged pages → AreParts pages
+parts_of_pages pages paged = record { some = some_of pages paged.sized; rising = paged.rising }
+
+pub hold_at : (least : ℕ) (parts : List (List RowData)) (at : ℕ) → HoldEach least parts → at < length parts → least ≤ length (page_at parts at)
+hold_at least [] at holds inside = absurd (omega arith)
+hold_at least (part ∷ parts) zero holds inside = holds.0
+hold_at least (part ∷ parts) (suc at) holds inside = hold_at least parts at holds.1 (omega arith)
+
+pub some_at : (parts : List (List RowData)) (at : ℕ) → HoldEach 1 parts → at < length parts → 0 < length (page_at parts at)
+some_at parts at some inside = omega (arith, hold_at 1 parts at some inside)
+
+pub hold-append : (least : ℕ) (xs ys : List (List RowData)) → HoldEach least xs → HoldEach least ys → HoldEach least (xs ++ ys)
+hold-append least [] ys these those = those
+hold-append least (x ∷ xs) ys these those = (these.0, hold-append least xs ys these.1 those)
+
+pub hold-take : (least : ℕ) (xs : List (List RowData)) (n : ℕ) → HoldEach least xs → HoldEach least (take n xs)
+hold-take least xs zero holds = tt
+hold-take least [] (suc n) holds = tt
+hold-take least (x ∷ xs) (suc n) holds = (holds.0, hold-take least xs n holds.1)
+
+pub hold-drop : (least : ℕ) (xs : List (List RowData)) (n : ℕ) → HoldEach least xs → HoldEach least (drop n xs)
+hold-drop least xs zero holds = holds
+hold-drop least [] (suc n) holds = tt
+hold-drop least (x ∷ xs) (suc n) holds = hold-drop least xs n holds.1
 
 -- ---- neighbours
 

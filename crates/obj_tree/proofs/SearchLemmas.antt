@@ -9,9 +9,9 @@ use Rattle.std.proofs.lemmas.Bool.{and_parts, true≢false}
 use Rattle.std.proofs.lemmas.List.{take-append-drop}
 use Rattle.kube_meta.specs.Rows.{RowData, key_of, AreRising, is_behind}
 use Rattle.obj_tree.specs.Maps.{is_below}
-use Rattle.obj_tree.specs.Pages.{joined, IsPaged, page_at, begins_by, IsRowAt}
+use Rattle.obj_tree.specs.Pages.{joined, AreParts, page_at, begins_by, IsRowAt}
 use Rattle.obj_tree.proofs.MapLemmas.{flipped, of_lt, lt_trans, Stand, lower, same, higher, stand, all_weaker, Rising, rising, rising_parts, before_row}
-use Rattle.obj_tree.proofs.PageLemmas.{joined_at, sized_at}
+use Rattle.obj_tree.proofs.PageLemmas.{joined_at, some_at}
 
 -- ---- the row with a key
 
@@ -99,13 +99,13 @@ all_before key front (row ∷ rows) back some is begins =
     all_weaker (is_below (key_of row)) (is_below key) (λ x passes. lt_le (key_of x) (key_of row) key passes (not_true (is_behind key row) begins)) front (before_row front (rows ++ back) row is)
 
 -- what stands before a page that doesn't begin above a key is below it
-pub below_page : (pages : List (List RowData)) (key : List ℕ) (at : ℕ) → at < length pages → IsPaged pages → begins_by key (page_at pages at) ≡ true → list_all (is_below key) (joined (take at pages)) ≡ true
+pub below_page : (pages : List (List RowData)) (key : List ℕ) (at : ℕ) → at < length pages → AreParts pages → begins_by key (page_at pages at) ≡ true → list_all (is_below key) (joined (take at pages)) ≡ true
 below_page pages key at inside paged begun =
     let split = subst (λ (r : List RowData). Rising r) (joined_at pages at inside) (rising (joined pages) paged.rising) in
-    all_before key (joined (take at pages)) (page_at pages at) (joined (drop (suc at) pages)) (sized_at pages at paged.sized inside).0 split begun
+    all_before key (joined (take at pages)) (page_at pages at) (joined (drop (suc at) pages)) (some_at pages at paged.some inside) split begun
 
 -- and a page that begins above it stands above it with all after it
-pub behind_page : (pages : List (List RowData)) (key : List ℕ) (at : ℕ) → at < length pages → IsPaged pages → begins_by key (page_at pages at) ≡ false → list_all (is_behind key) (joined (drop at pages)) ≡ true
+pub behind_page : (pages : List (List RowData)) (key : List ℕ) (at : ℕ) → at < length pages → AreParts pages → begins_by key (page_at pages at) ≡ false → list_all (is_behind key) (joined (drop at pages)) ≡ true
 behind_page pages key at inside paged above =
     let split = subst (λ (r : List RowData). Rising r) (joined_at pages at inside) (rising (joined pages) paged.rising) in
     let later = (rising_parts (joined (take at pages)) (page_at pages at ++ joined (drop (suc at) pages)) split).1 in

@@ -2,7 +2,7 @@
 use Rattle.std.proofs.Common.{◌≡◌, ℕ, zero, suc, ◌+◌, ◌-◌, ◌<◌, ◌≤◌, List, [], ◌∷◌, ◌++◌, length, take, drop, refl, sym, ap, ◌∙◌, subst, map, arith, append_assoc, length-append}
 use Rattle.kube_meta.specs.Rows.{RowData}
 use Rattle.obj_tree.specs.Edges.{rows_before, IsSpot}
-use Rattle.obj_tree.specs.Pages.{joined, page_at}
+use Rattle.obj_tree.specs.Pages.{joined, page_at, HoldEach, IsWithin}
 use Rattle.obj_tree.specs.declared.edges.Spot.{Spot}
 use Rattle.obj_tree.proofs.EditLemmas.{joined_take}
 
@@ -71,30 +71,30 @@ module _ {X : Type 0} where
   take_none (suc n) [] none = refl
   take_none (suc n) (x ∷ xs) none = absurd (cc)
 
-pub front_is : (pages : List (List RowData)) (spot : Spot) → IsSpot pages spot → take (rows_before pages spot) (joined pages) ≡ joined (take spot.page pages) ++ take spot.row (page_at pages spot.page)
+pub front_is : (pages : List (List RowData)) (spot : Spot) → IsSpot pages spot → take (rows_before pages spot) (joined pages) ≡ joined (take spot.part pages) ++ take spot.row (page_at pages spot.part)
 front_is pages spot is =
-    let front = joined (take spot.page pages) in
-    let page = page_at pages spot.page in
-    let rest = joined (drop (suc spot.page) pages) in
-    ap (take (length front + spot.row)) (joined_any pages spot.page)
+    let front = joined (take spot.part pages) in
+    let page = page_at pages spot.part in
+    let rest = joined (drop (suc spot.part) pages) in
+    ap (take (length front + spot.row)) (joined_any pages spot.part)
     ∙ take_past front (page ++ rest) spot.row
     ∙ ap (λ (r : List RowData). front ++ r) (take_front spot.row page rest is.row_is)
 
-pub back_is : (pages : List (List RowData)) (spot : Spot) → IsSpot pages spot → drop (rows_before pages spot) (joined pages) ≡ drop spot.row (page_at pages spot.page) ++ joined (drop (suc spot.page) pages)
+pub back_is : (pages : List (List RowData)) (spot : Spot) → IsSpot pages spot → drop (rows_before pages spot) (joined pages) ≡ drop spot.row (page_at pages spot.part) ++ joined (drop (suc spot.part) pages)
 back_is pages spot is =
-    let front = joined (take spot.page pages) in
-    let page = page_at pages spot.page in
-    let rest = joined (drop (suc spot.page) pages) in
-    ap (drop (length front + spot.row)) (joined_any pages spot.page)
+    let front = joined (take spot.part pages) in
+    let page = page_at pages spot.part in
+    let rest = joined (drop (suc spot.part) pages) in
+    ap (drop (length front + spot.row)) (joined_any pages spot.part)
     ∙ drop_past front (page ++ rest) spot.row
     ∙ drop_front spot.row page rest is.row_is
 
 pub spot_inside : (pages : List (List RowData)) (spot : Spot) → IsSpot pages spot → rows_before pages spot ≤ length (joined pages)
 spot_inside pages spot is =
-    let front = joined (take spot.page pages) in
-    let page = page_at pages spot.page in
-    let rest = joined (drop (suc spot.page) pages) in
-    omega (arith, ap length (joined_any pages spot.page), length-append front (page ++ rest), length-append page rest, is.row_is)
+    let front = joined (take spot.part pages) in
+    let page = page_at pages spot.part in
+    let rest = joined (drop (suc spot.part) pages) in
+    omega (arith, ap length (joined_any pages spot.part), length-append front (page ++ rest), length-append page rest, is.row_is)
 
 -- from a page on
 pub drop_spot : (pages : List (List RowData)) (page row : ℕ) → drop (length (joined (take page pages)) + row) (joined pages) ≡ drop row (joined (drop page pages))
@@ -118,9 +118,9 @@ count_upto pages from to order =
     subst (λ (n : ℕ). length (joined (take n pages)) ≡ length (joined (take from pages)) + length (joined (take (to - from) (drop from pages)))) same (count_to pages from (to - from))
 
 -- a place in an earlier page has no more rows before it
-pub none_between : (pages : List (List RowData)) (from to : Spot) → IsSpot pages from → IsSpot pages to → to.page < from.page → rows_before pages to ≤ rows_before pages from
+pub none_between : (pages : List (List RowData)) (from to : Spot) → IsSpot pages from → IsSpot pages to → to.part < from.part → rows_before pages to ≤ rows_before pages from
 none_between pages from to here there order =
-    omega (arith, count_more pages to.page (omega (arith, here.page_is)), count_upto pages (suc to.page) from.page (omega arith), there.row_is)
+    omega (arith, count_more pages to.part (omega (arith, here.part_is)), count_upto pages (suc to.part) from.part (omega arith), there.row_is)
 
 pub page_after : (pages : List (List RowData)) (n : ℕ) → page_at (drop n pages) 0 ≡ page_at pages n
 page_after pages zero = refl
@@ -134,3 +134,35 @@ map_take f (x ∷ xs) (suc n) = ap (λ (r : List _). f x ∷ r) (map_take f xs n
 
 pub take_length : {X : Type 0} (n m : ℕ) (xs : List X) → n ≡ m → take n xs ≡ take m xs
 take_length n m xs e = ap (λ (k : ℕ). take k xs) e
+
+-- ---- what is lent
+
+pub take_whole : {X : Type 0} (n : ℕ) (xs : List X) → length xs ≤ n → take n xs ≡ xs
+take_whole zero [] long = refl
+take_whole (suc n) [] long = refl
+take_whole zero (x ∷ xs) long = absurd (omega arith)
+take_whole (suc n) (x ∷ xs) long = ap (λ (r : List _). x ∷ r) (take_whole n xs (omega arith))
+
+-- from behind a page on
+pub drop_first : (n : ℕ) (pages : List (List RowData)) (first : List RowData) (rest nodes : List (List RowData)) → pages ≡ first ∷ rest → length first ≤ n → drop (n - length first) (joined (rest ++ nodes)) ≡ drop n (joined (pages ++ nodes))
+drop_first n pages first rest nodes same past =
+    let back : length first + (n - length first) ≡ n = omega (arith, past) in
+    sym (drop_past first (joined (rest ++ nodes)) (n - length first))
+    ∙ ap (λ (k : ℕ). drop k (first ++ joined (rest ++ nodes))) back
+    ∙ sym (ap (λ (p : List (List RowData)). drop n (joined (p ++ nodes))) same)
+
+-- where no page is left
+pub drop_none : (n : ℕ) (pages nodes : List (List RowData)) → pages ≡ [] → n ≤ length (joined pages) → drop n (joined (pages ++ nodes)) ≡ joined nodes
+drop_none n pages nodes none few =
+    let zero_is : n ≡ 0 = omega (arith, few, ap (λ (p : List (List RowData)). length (joined p)) none) in
+    ap (λ (k : ℕ). drop k (joined (pages ++ nodes))) zero_is ∙ ap (λ (p : List (List RowData)). joined (p ++ nodes)) none
+
+pub within_start : (pages nodes : List (List RowData)) → HoldEach 1 pages → 0 < length (joined pages) → IsWithin 0 pages nodes
+within_start [] nodes some more = absurd (omega arith)
+within_start (page ∷ pages) nodes some more = omega (arith, some.0)
+
+pub within_page : (pages nodes : List (List RowData)) (first : List RowData) (rest : List (List RowData)) (n : ℕ) → pages ≡ first ∷ rest → n < length first → IsWithin n pages nodes
+within_page pages nodes first rest n same inside = subst (λ (p : List (List RowData)). IsWithin n p nodes) (sym same) inside
+
+pub within_none : (pages nodes : List (List RowData)) → pages ≡ [] → nodes ≡ [] → IsWithin 0 pages nodes
+within_none pages nodes none no_nodes = subst (λ (p : List (List RowData)). IsWithin 0 p nodes) (sym none) (refl, no_nodes)

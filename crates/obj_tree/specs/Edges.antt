@@ -20,7 +20,7 @@ abbrev pub is_after : Option (List ℕ) → RowData → Bool
 is_after None row = true
 is_after (Some key) row = is_behind key row
 
--- a page doesn't begin at an edge or behind it
+-- a part doesn't begin at an edge or behind it
 abbrev pub begins_below : List ℕ → List RowData → Bool
 begins_below text [] = true
 begins_below text (row ∷ rows) = is_below text row
@@ -31,11 +31,11 @@ pub record AreBefore (text : List ℕ) (rows : List RowData) (count : ℕ) : Typ
   pub before : list_all (is_below text) (take count rows) ≡ true
   pub after : list_all (is_from text) (drop count rows) ≡ true
 
--- a place between two rows of a page, at its ends, or behind all
-pub record IsSpot (pages : List (List RowData)) (spot : Spot) : Type 0 where
-  pub page_is : spot.page ≤ length pages
-  pub row_is : spot.row ≤ length (page_at pages spot.page)
+-- a place between two rows of a part, at its ends, or behind all
+pub record IsSpot (parts : List (List RowData)) (spot : Spot) : Type 0 where
+  pub part_is : spot.part ≤ length parts
+  pub row_is : spot.row ≤ length (page_at parts spot.part)
 
 -- how many rows stand before it
 abbrev pub rows_before : List (List RowData) → Spot → ℕ
-rows_before pages spot = length (joined (take spot.page pages)) + spot.row
+rows_before parts spot = length (joined (take spot.part parts)) + spot.row

@@ -5,12 +5,13 @@ ghost use Rattle.std.specs.Cmp.Lexicographic.{slice_cmp};
 ghost use Rattle.std.specs.List.{list_all};
 ghost use Rattle.std.specs.Ordering.{nat_cmp, is_lt};
 ghost use Rattle.kube_meta.specs.Keys.{joined as key_text};
-ghost use Rattle.kube_meta.specs.Rows.{RowData, AreRising};
-ghost use Rattle.obj_tree.specs.Edges.{edge_text, is_from, is_after, begins_below, rows_before, AreBefore, IsSpot};
+ghost use Rattle.kube_meta.specs.Rows.{RowData, AreRising, is_behind};
+ghost use Rattle.obj_tree.specs.Edges.{edge_text, is_from, is_after, rows_before, AreBefore, IsSpot};
 ghost use Rattle.obj_tree.specs.Maps.{is_below};
-ghost use Rattle.obj_tree.specs.Pages.{values_of, joined, IsPaged};
+ghost use Rattle.obj_tree.specs.Pages.{values_of, parts_of, joined, AreParts};
 
-use crate::page::{Page, key_of};
+use crate::page::key_of;
+use crate::part::Part;
 use encode_once::Shown;
 use kube_meta::Key;
 use std::sync::Arc;
@@ -22,10 +23,10 @@ pub(crate) struct Edge<'a> {
     pub next: u8,
 }
 
-/// A place between rows: before which row of which page.
+/// A place between rows: before which row of which part.
 #[derive(Clone, Copy)]
 pub(crate) struct Spot {
-    pub page: usize,
+    pub part: usize,
     pub row: usize,
 }
 
@@ -43,10 +44,7 @@ pub(crate) fn first_edge<'a>(ns: &'a str, after: Option<&'a Key>) -> Edge<'a>
     if is_before(key, &begin) {
         return begin;
     }
-    Edge {
-        text: key.as_str(),
-        next: 0,
-    }
+    edge_behind(key)
 }
 
 /// The edge behind all objects of a namespace.
@@ -60,32 +58,42 @@ pub(crate) fn last_edge(ns: &str) -> Edge<'_>
     }
 }
 
-/// Where an edge stands among the rows of pages, by binary search over the pages and in one.
-pub(crate) fn spot_of(pages: &[Arc<Page>], edge: &Edge<'_>) -> Spot
-    requires { IsPaged (values_of pages.now) }
-    ensures spot { IsSpot (values_of pages.now) result }
-    ensures rows { AreBefore (edge_text edge.now) (joined (values_of pages.now)) (rows_before (values_of pages.now) result) }
+/// The edge right behind a key.
+pub(crate) fn edge_behind(key: &Key) -> Edge<'_>
+    ensures { (row : RowData) → is_from (edge_text result) row ≡ is_behind key.now row }
 {
-    let page = page_at(pages, edge);
-    if page == pages.len() {
-        return Spot { page, row: 0 };
+    Edge {
+        text: key.as_str(),
+        next: 0,
     }
-    let row = row_at(pages[page].rows(), edge);
-    Spot { page, row }
 }
 
-// The last page that begins before an edge, or the first page where none does.
-fn page_at(pages: &[Arc<Page>], edge: &Edge<'_>) -> usize
-    requires { IsPaged (values_of pages.now) }
-    ensures inside { result ≤ length pages.now }
-    ensures before { list_all (is_below (edge_text edge.now)) (joined (take result (values_of pages.now))) ≡ true }
-    ensures after { list_all (is_from (edge_text edge.now)) (joined (drop (suc result) (values_of pages.now))) ≡ true }
+/// Where an edge stands among the rows of parts, by binary search over the parts and in one.
+pub(crate) fn spot_of<P: Part>(parts: &[Arc<P>], edge: &Edge<'_>) -> Spot
+    requires { AreParts (parts_of P.rows parts.now) }
+    ensures spot { IsSpot (parts_of P.rows parts.now) result }
+    ensures rows { AreBefore (edge_text edge.now) (joined (parts_of P.rows parts.now)) (rows_before (parts_of P.rows parts.now) result) }
+{
+    let part = part_at(parts, edge);
+    if part == parts.len() {
+        return Spot { part, row: 0 };
+    }
+    let row = parts[part].count_before(edge);
+    Spot { part, row }
+}
+
+// The last part that begins before an edge, or the first one where none does.
+fn part_at<P: Part>(parts: &[Arc<P>], edge: &Edge<'_>) -> usize
+    requires { AreParts (parts_of P.rows parts.now) }
+    ensures inside { result ≤ length parts.now }
+    ensures before { list_all (is_below (edge_text edge.now)) (joined (take result (parts_of P.rows parts.now))) ≡ true }
+    ensures after { list_all (is_from (edge_text edge.now)) (joined (drop (suc result) (parts_of P.rows parts.now))) ≡ true }
 {
     let mut low = 0;
-    let mut high = pages.len();
+    let mut high = parts.len();
     while low < high {
         let middle = low + (high - low) / 2;
-        if begins_before(&pages[middle], edge) {
+        if parts[middle].begins_before(edge) {
             low = middle + 1;
         } else {
             high = middle;
@@ -94,8 +102,8 @@ fn page_at(pages: &[Arc<Page>], edge: &Edge<'_>) -> usize
     low.saturating_sub(1)
 }
 
-// How many of a page's rows stand before an edge.
-fn row_at(rows: &[Arc<Shown>], edge: &Edge<'_>) -> usize
+/// How many of a page's rows stand before an edge.
+pub(crate) fn row_at(rows: &[Arc<Shown>], edge: &Edge<'_>) -> usize
     requires { AreRising (values_of rows.now) }
     ensures { AreBefore (edge_text edge.now) (values_of rows.now) result }
 {
@@ -112,18 +120,8 @@ fn row_at(rows: &[Arc<Shown>], edge: &Edge<'_>) -> usize
     low
 }
 
-// Whether a page's first row stands before an edge.
-fn begins_before(page: &Page, edge: &Edge<'_>) -> bool
-    ensures { result ≡ begins_below (edge_text edge.now) page.now }
-{
-    match page.rows().first() {
-        Some(shown) => is_before(key_of(shown), edge),
-        None => true,
-    }
-}
-
-// Whether a key stands before an edge.
-fn is_before(key: &Key, edge: &Edge<'_>) -> bool
+/// Whether a key stands before an edge.
+pub(crate) fn is_before(key: &Key, edge: &Edge<'_>) -> bool
     ensures { result ≡ is_lt (slice_cmp nat_cmp key.now (edge_text edge.now)) }
 {
     let (key, text) = (key.as_str().as_bytes(), edge.text.as_bytes());

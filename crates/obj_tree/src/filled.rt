@@ -1,8 +1,10 @@
-//! Pages that are filled at once.
+//! Pages and nodes that are filled at once.
 
 ghost use Rattle.std.specs.Prelude.{◌≡◌, ◌≤◌, ◌<◌, ◌++◌, ◌∷◌, [], length, map, IfOk, OnOk};
-ghost use Rattle.obj_tree.specs.Pages.{values_of, joined, AreFilled, ArePagesOf};
+ghost use Rattle.kube_meta.specs.Rows.{AreRising};
+ghost use Rattle.obj_tree.specs.Pages.{values_of, joined, AreFilled, IsNoded, IsPaged, ArePagesOf};
 
+use crate::node::{FULL, HALF, Node};
 use crate::page::Page;
 use encode_once::Shown;
 use kube_meta::Memory;
@@ -12,9 +14,52 @@ use std::sync::Arc;
 // The rows of a page that is filled at once: room is left for as many puts as removals.
 const FILL: usize = 48;
 
-/// Pages of 48 rows, and a last one of those that are left. The rows are cut before a page is made of any,
-/// so that the looks at the pages' first rows don't wait for one another.
-pub(crate) fn filled(alloc: Global, rows: Vec<Arc<Shown>>) -> Result<Vec<Arc<Page>>, Memory>
+/// Nodes of 32 pages, and a last one of those that are left, fewer than 64.
+pub(crate) fn filled(alloc: Global, rows: Vec<Arc<Shown>>) -> Result<Vec<Arc<Node>>, Memory>
+    requires { AreRising (values_of rows.items) }
+    ensures noded { IfOk result (λ nodes. IsNoded (values_of nodes.items)) }
+    ensures rows { IfOk result (λ nodes. joined (values_of nodes.items) ≡ values_of rows.items) }
+{
+    let _len = rows.len();
+    let pages = filled_pages(alloc, rows)?;
+    noded(alloc, &pages)
+}
+
+// Nodes of pages, which are shared.
+fn noded(alloc: Global, pages: &[Arc<Page>]) -> Result<Vec<Arc<Node>>, Memory>
+    requires paged { IsPaged (values_of pages.now) }
+    requires few { length (joined (values_of pages.now)) ≤ usize.MAX }
+    ensures noded { IfOk result (λ nodes. IsNoded (values_of nodes.items)) }
+    ensures rows { IfOk result (λ nodes. joined (values_of nodes.items) ≡ joined (values_of pages.now)) }
+{
+    let mut nodes = Vec::new(alloc);
+    let mut rest = pages;
+    while rest.len() >= FULL {
+        let (front, back) = rest.split_at(HALF);
+        add_node(alloc, &mut nodes, front)?;
+        rest = back;
+    }
+    if rest.len() == 0 {
+        return Ok(nodes);
+    }
+    add_node(alloc, &mut nodes, rest)?;
+    Ok(nodes)
+}
+
+// Puts a node of pages behind others.
+fn add_node(alloc: Global, nodes: &mut Vec<Arc<Node>>, pages: &[Arc<Page>]) -> Result<(), Memory>
+    requires paged { IsPaged (values_of pages.now) }
+    requires few { length (joined (values_of pages.now)) ≤ usize.MAX }
+    ensures { OnOk result (values_of nodes.new.items ≡ values_of nodes.old.items ++ (joined (values_of pages.now) ∷ [])) }
+{
+    let node = Node::sharing(alloc, pages)?;
+    nodes.push(Arc::new(alloc, node)?)?;
+    Ok(())
+}
+
+// Pages of 48 rows, and a last one of those that are left. The rows are cut before a page is made of any, so that
+// the looks at the pages' first rows don't wait for one another.
+fn filled_pages(alloc: Global, rows: Vec<Arc<Shown>>) -> Result<Vec<Arc<Page>>, Memory>
     ensures { IfOk result (λ pages. ArePagesOf (values_of pages.items) (values_of rows.items)) }
 {
     let mut parts = Vec::new(alloc);

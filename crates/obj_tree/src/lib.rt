@@ -1,12 +1,16 @@
-//! The current objects of one resource in the order of their keys, in shared pages: a snapshot shares
-//! all of them, and a change copies only the page that it changes, and that only where it is shared.
+//! The current objects of one resource in the order of their keys, in shared pages of shared nodes: a snapshot
+//! shares all of them, and a change copies only the page that it changes and its node, and these only where they
+//! are shared.
 #![tactic(auto)]
 
 mod edges;
 mod filled;
 mod laws;
+mod node;
+mod nodes;
 mod page;
 mod pages;
+mod part;
 mod rows;
 mod search;
 mod shared;

@@ -5,6 +5,8 @@ ghost use Rattle.kube_meta.specs.Rows.{key_of as row_key};
 ghost use Rattle.obj_tree.specs.Prefixes.{IsPrefix};
 ghost use Rattle.obj_tree.specs.Pages.{values_of, begins_by, row_put, row_gone};
 
+use crate::edges::{Edge, is_before, row_at};
+use crate::part::Part;
 use encode_once::{KeyPrefix, Shown, Sought};
 use kube_meta::{Key, Memory};
 use std::alloc::Global;
@@ -41,22 +43,11 @@ impl Page {
         &self.rows
     }
 
-    // How many rows there are.
-    pub(crate) fn len(&self) -> usize
-        ensures { result ≡ length self.now }
+    // The first row's prefix.
+    pub(crate) fn prefix(&self) -> &KeyPrefix
+        ensures { IsPrefix result.now self.now }
     {
-        self.rows.len()
-    }
-
-    // Whether the first row isn't above a key. The row itself is looked at only where the prefixes are equal.
-    pub(crate) fn begins_by(&self, sought: &Sought<'_>) -> bool
-        ensures { result ≡ begins_by sought.now self.now }
-    {
-        match self.prefix.order(sought.prefix()) {
-            Ordering::Less => true,
-            Ordering::Equal => is_first_by(&self.rows, sought),
-            Ordering::Greater => self.rows.as_slice().is_empty(),
-        }
+        &self.prefix
     }
 
     // A page of one row.
@@ -187,6 +178,37 @@ impl Page {
         };
         *room = Page::of(self.rows.split_off(32)?);
         Ok(back)
+    }
+}
+
+impl Part for Page {
+    ghost use Rattle.std.specs.Prelude.{List};
+    ghost use Rattle.kube_meta.specs.Rows.{RowData};
+
+    ghost rows = { λ page. page };
+
+    fn len(&self) -> usize {
+        self.rows.len()
+    }
+
+    // The row itself is looked at only where the prefixes are equal.
+    fn begins_by(&self, sought: &Sought<'_>) -> bool {
+        match self.prefix.order(sought.prefix()) {
+            Ordering::Less => true,
+            Ordering::Equal => is_first_by(&self.rows, sought),
+            Ordering::Greater => self.rows.as_slice().is_empty(),
+        }
+    }
+
+    fn begins_before(&self, edge: &Edge<'_>) -> bool {
+        match self.rows().first() {
+            Some(shown) => is_before(key_of(shown), edge),
+            None => true,
+        }
+    }
+
+    fn count_before(&self, edge: &Edge<'_>) -> usize {
+        row_at(self.rows(), edge)
     }
 }
 

@@ -6,8 +6,8 @@ ghost use Rattle.obj_tree.specs.Maps.{with_row, without};
 ghost use Rattle.obj_tree.specs.Pages.{values_of, joined, page_at, replaced, row_put, divided, row_gone, AreSized, AreFull, IsPaged, ArePagesOf, FitsBefore, FitsAfter};
 
 use crate::page::Page;
+use crate::part::Part;
 use crate::search::find;
-use crate::shared::{Pages, own, slice_of};
 use encode_once::{Shown, Sought};
 use kube_meta::{Key, Memory};
 use std::alloc::Global;
@@ -16,56 +16,54 @@ use std::sync::Arc;
 /// Puts a row at its key, and answers the one that stood there.
 pub(crate) fn put(
     alloc: Global,
-    pages: &mut Pages,
+    pages: &mut Vec<Arc<Page>>,
     shown: Arc<Shown>,
 ) -> Result<Option<Arc<Shown>>, Memory>
-    requires { IsPaged (values_of pages.old.value.items) }
-    ensures rows { OnOk result (joined (values_of pages.new.value.items) ≡ with_row (joined (values_of pages.old.value.items)) shown.value) }
-    ensures answer { IfOk result (λ old. option_map (λ o. o.value) old ≡ row_with (joined (values_of pages.old.value.items)) (row_key shown.value)) }
-    ensures len { IfOk result (λ old. MatchOption old (length (joined (values_of pages.new.value.items)) ≡ length (joined (values_of pages.old.value.items)) + 1) (λ _. length (joined (values_of pages.new.value.items)) ≡ length (joined (values_of pages.old.value.items)))) }
-    ensures paged { IsPaged (values_of pages.new.value.items) }
-    ensures err { OnErr result (values_of pages.new.value.items ≡ values_of pages.old.value.items) }
+    requires { IsPaged (values_of pages.old.items) }
+    ensures rows { OnOk result (joined (values_of pages.new.items) ≡ with_row (joined (values_of pages.old.items)) shown.value) }
+    ensures answer { IfOk result (λ old. option_map (λ o. o.value) old ≡ row_with (joined (values_of pages.old.items)) (row_key shown.value)) }
+    ensures len { IfOk result (λ old. MatchOption old (length (joined (values_of pages.new.items)) ≡ length (joined (values_of pages.old.items)) + 1) (λ _. length (joined (values_of pages.new.items)) ≡ length (joined (values_of pages.old.items)))) }
+    ensures paged { IsPaged (values_of pages.new.items) }
+    ensures err { OnErr result (values_of pages.new.items ≡ values_of pages.old.items) }
 {
-    let Some(place) = find(slice_of(pages), &shown.sought()) else {
+    let Some(place) = find(pages, &shown.sought()) else {
         put_first(alloc, pages, shown)?;
         return Ok(None);
     };
     match place.row {
         Ok(row) => {
-            let old = shared_row(slice_of(pages), place.page, row)?;
-            put_owned(alloc, pages, place.page, row, row + 1, shown)?;
+            let old = shared_row(pages, place.page, row)?;
+            put_row(alloc, pages, place.page, row, row + 1, shown)?;
             Ok(Some(old))
         }
         Err(row) => {
-            put_owned(alloc, pages, place.page, row, row, shown)?;
+            put_row(alloc, pages, place.page, row, row, shown)?;
             Ok(None)
         }
     }
 }
 
-/// Removes the row with a key, and answers it. Where there is none nothing is changed, and no memory is
-/// taken.
+/// Removes the row with a key, and answers it, if there is one.
 pub(crate) fn remove(
     alloc: Global,
-    pages: &mut Pages,
+    pages: &mut Vec<Arc<Page>>,
     key: &Key,
 ) -> Result<Option<Arc<Shown>>, Memory>
-    requires { IsPaged (values_of pages.old.value.items) }
-    ensures rows { OnOk result (joined (values_of pages.new.value.items) ≡ without (joined (values_of pages.old.value.items)) key.now) }
-    ensures answer { IfOk result (λ old. option_map (λ o. o.value) old ≡ row_with (joined (values_of pages.old.value.items)) key.now) }
-    ensures len { IfOk result (λ old. MatchOption old (length (joined (values_of pages.new.value.items)) ≡ length (joined (values_of pages.old.value.items))) (λ _. length (joined (values_of pages.new.value.items)) + 1 ≡ length (joined (values_of pages.old.value.items)))) }
-    ensures paged { IsPaged (values_of pages.new.value.items) }
-    ensures absent { row_with (joined (values_of pages.old.value.items)) key.now ≡ None → (result ≡ Ok None) × (pages.new ≡ pages.old) }
-    ensures err { OnErr result (values_of pages.new.value.items ≡ values_of pages.old.value.items) }
+    requires { IsPaged (values_of pages.old.items) }
+    ensures rows { OnOk result (joined (values_of pages.new.items) ≡ without (joined (values_of pages.old.items)) key.now) }
+    ensures answer { IfOk result (λ old. option_map (λ o. o.value) old ≡ row_with (joined (values_of pages.old.items)) key.now) }
+    ensures len { IfOk result (λ old. MatchOption old (length (joined (values_of pages.new.items)) ≡ length (joined (values_of pages.old.items))) (λ _. length (joined (values_of pages.new.items)) + 1 ≡ length (joined (values_of pages.old.items)))) }
+    ensures paged { IsPaged (values_of pages.new.items) }
+    ensures err { OnErr result (values_of pages.new.items ≡ values_of pages.old.items) }
 {
-    let Some(place) = find(slice_of(pages), &Sought::new(key)) else {
+    let Some(place) = find(pages, &Sought::new(key)) else {
         return Ok(None);
     };
     let Ok(row) = place.row else {
         return Ok(None);
     };
-    let old = shared_row(slice_of(pages), place.page, row)?;
-    remove_owned(alloc, pages, place.page, row)?;
+    let old = shared_row(pages, place.page, row)?;
+    remove_row(alloc, pages, place.page, row)?;
     Ok(Some(old))
 }
 
@@ -78,56 +76,19 @@ fn shared_row(pages: &[Arc<Page>], at: usize, place: usize) -> Result<Arc<Shown>
     Ok(Arc::try_clone(&pages[at].rows()[place])?)
 }
 
-// The first page, of one row.
-fn put_first(alloc: Global, pages: &mut Pages, shown: Arc<Shown>) -> Result<(), Memory>
-    ensures ok { OnOk result (values_of pages.new.value.items ≡ (shown.value ∷ []) ∷ []) }
-    ensures err { OnErr result (pages.new ≡ pages.old) }
-{
-    let page = Arc::new(alloc, Page::one(alloc, shown)?)?;
-    let mut first = Vec::new(alloc);
-    first.push(page)?;
-    *pages = Arc::new(alloc, first)?;
-    Ok(())
-}
-
-// As `put_row`, once nobody shares the vector.
-fn put_owned(
+/// The first page, of one row.
+pub(crate) fn put_first(
     alloc: Global,
-    pages: &mut Pages,
-    at: usize,
-    from: usize,
-    to: usize,
+    pages: &mut Vec<Arc<Page>>,
     shown: Arc<Shown>,
 ) -> Result<(), Memory>
-    requires inside { at < length pages.old.value.items }
-    requires order { from ≤ to }
-    requires near { to ≤ from + 1 }
-    requires place { to ≤ length (page_at (values_of pages.old.value.items) at) }
-    requires sized { AreSized (values_of pages.old.value.items) }
-    ensures ok { OnOk result (values_of pages.new.value.items ≡ replaced (values_of pages.old.value.items) at (at + 1) (divided (row_put (page_at (values_of pages.old.value.items) at) from to shown.value))) }
-    ensures err { OnErr result (values_of pages.new.value.items ≡ values_of pages.old.value.items) }
+    requires { values_of pages.old.items ≡ [] }
+    ensures ok { OnOk result (values_of pages.new.items ≡ (shown.value ∷ []) ∷ []) }
+    ensures err { OnErr result (values_of pages.new.items ≡ values_of pages.old.items) }
 {
-    own(alloc, pages)?;
-    match Arc::get_mut(pages) {
-        Some(pages) => put_row(alloc, pages, at, from, to, shown),
-        None => Err(Memory),
-    }
-}
-
-// As `remove_row`, once nobody shares the vector.
-fn remove_owned(alloc: Global, pages: &mut Pages, at: usize, place: usize) -> Result<(), Memory>
-    requires inside { at < length pages.old.value.items }
-    requires place { place < length (page_at (values_of pages.old.value.items) at) }
-    requires sized { AreSized (values_of pages.old.value.items) }
-    requires full { AreFull (values_of pages.old.value.items) }
-    ensures ok { OnOk result (ArePagesOf (values_of pages.new.value.items) (joined (replaced (values_of pages.old.value.items) at (at + 1) (row_gone (page_at (values_of pages.old.value.items) at) place ∷ [])))) }
-    ensures err { OnErr result (values_of pages.new.value.items ≡ values_of pages.old.value.items) }
-{
-    own(alloc, pages)?;
-    match Arc::get_mut(pages) {
-        Some(pages) => remove_row(alloc, pages, at, place),
-        None => Err(Memory),
-    }
+    let page = Arc::new(alloc, Page::one(alloc, shown)?)?;
+    pages.push(page)?;
+    Ok(())
 }
 
 // Puts a row into a page in place of those from one place up to another. A page of 65 rows is split.
@@ -294,8 +255,8 @@ fn fits_after(pages: &[Arc<Page>], at: usize, rows: usize) -> bool
     at + 1 < pages.len() && fit(&pages[at + 1], rows)
 }
 
-// Whether a page holds at most 32 rows together with so many.
-fn fit(page: &Page, rows: usize) -> bool
+/// Whether a page holds at most 32 rows together with so many.
+pub(crate) fn fit(page: &Page, rows: usize) -> bool
     ensures { IsTrue result ↔ (length page.now + rows ≤ 32) }
 {
     page.len() <= 32 && rows <= 32 - page.len()
@@ -364,8 +325,8 @@ fn divide_in(
     }
 }
 
-// One page in place of two.
-fn put_joined(
+/// One page in place of two.
+pub(crate) fn put_joined(
     alloc: Global,
     pages: &mut Vec<Arc<Page>>,
     at: usize,

@@ -1,12 +1,14 @@
 //! Rows that are lent one after the other.
 
-ghost use Rattle.std.specs.Prelude.{◌≡◌, ◌-◌, ◌≤◌, ◌==◌, ◌∷◌, [], length, take, drop, MatchOption};
+ghost use Rattle.std.specs.Prelude.{◌≡◌, ◌-◌, ◌≤◌, ◌==◌, ◌∷◌, ◌++◌, [], length, take, drop, MatchOption};
 ghost use Rattle.std.specs.Iterator.{YieldsFirstBy, item_count};
 ghost use Rattle.obj_tree.specs.Edges.{rows_before, IsSpot};
-ghost use Rattle.obj_tree.specs.Pages.{values_of, joined, page_at, AreSized, IsWithin};
+ghost use Rattle.obj_tree.specs.Pages.{values_of, parts_of, joined, page_at, HoldEach, IsWithin};
 
 use crate::edges::Spot;
+use crate::node::Node;
 use crate::page::Page;
+use crate::part::Part;
 use encode_once::Shown;
 use std::marker::Model;
 use std::sync::Arc;
@@ -15,65 +17,65 @@ use std::sync::Arc;
 /// rows that are still to come.
 #[derive(Drop)]
 pub struct Rows<'a> {
+    // Of a node, the page that is lent from and those behind it.
     pages: &'a [Arc<Page>],
+    // The nodes behind that one.
+    nodes: &'a [Arc<Node>],
     place: usize,
     // How many are still to come.
     left: usize,
 }
 
 impl<'a> Model for Rows<'a> {
-    ghost use Rattle.std.specs.Prelude.{◌≤◌, ◌<◌, List, length, take, drop};
+    ghost use Rattle.std.specs.Prelude.{◌≤◌, ◌++◌, List, length, take, drop};
     ghost use Rattle.kube_meta.specs.Rows.{RowData};
-    ghost use Rattle.obj_tree.specs.Pages.{values_of, joined, AreSized, IsWithin};
+    ghost use Rattle.obj_tree.specs.Pages.{values_of, joined, HoldEach, IsWithin};
 
     ghost Value = { List RowData };
 
-    ghost view = { λ r. take r.left (drop r.place (joined (values_of r.pages.now))) };
+    ghost view = { λ r. take r.left (drop r.place (joined (values_of r.pages.now ++ values_of r.nodes.now))) };
 
-    ghost invariant = { λ r. AreSized (values_of r.pages.now) × IsWithin r.place (values_of r.pages.now) × (r.left ≤ length (drop r.place (joined (values_of r.pages.now)))) };
+    ghost invariant = { λ r. HoldEach 1 (values_of r.pages.now) × HoldEach 1 (values_of r.nodes.now) × IsWithin r.place (values_of r.pages.now) (values_of r.nodes.now) × (r.left ≤ length (drop r.place (joined (values_of r.pages.now ++ values_of r.nodes.now)))) };
 }
 
 impl<'a> Rows<'a> {
-    // So many rows of pages, from a place in the first one on.
-    pub(crate) fn from(pages: &'a [Arc<Page>], place: usize, left: usize) -> Rows<'a>
-        requires sized { AreSized (values_of pages.now) }
-        requires place { place ≤ length (page_at (values_of pages.now) 0) }
-        requires left { left ≤ length (drop place (joined (values_of pages.now))) }
-        ensures { result ≡ take left (drop place (joined (values_of pages.now))) }
+    // So many rows of nodes, from a place in the first one on.
+    pub(crate) fn from(nodes: &'a [Arc<Node>], place: usize, left: usize) -> Rows<'a>
+        requires some { HoldEach 1 (values_of nodes.now) }
+        requires place { place ≤ length (page_at (values_of nodes.now) 0) }
+        requires left { left ≤ length (drop place (joined (values_of nodes.now))) }
+        ensures { result ≡ take left (drop place (joined (values_of nodes.now))) }
     {
-        match pages.split_first() {
-            Some((page, rest)) if place == page.len() => Rows {
-                pages: rest,
-                place: 0,
-                left,
-            },
-            _ => Rows { pages, place, left },
+        match nodes.split_first() {
+            Some((node, rest)) => lent(node.pages(), rest, place, left),
+            None => lent(&[], nodes, place, left),
         }
     }
 
-    // All rows of pages from a place in the first one on.
-    pub(crate) fn behind(pages: &'a [Arc<Page>], place: usize) -> Rows<'a>
-        requires sized { AreSized (values_of pages.now) }
-        requires place { place ≤ length (page_at (values_of pages.now) 0) }
-        requires few { length (joined (values_of pages.now)) ≤ usize.MAX }
-        ensures { result ≡ drop place (joined (values_of pages.now)) }
+    // All rows of nodes from a place on.
+    pub(crate) fn behind(nodes: &'a [Arc<Node>], from: Spot) -> Rows<'a>
+        requires some { HoldEach 1 (values_of nodes.now) }
+        requires from { IsSpot (values_of nodes.now) from }
+        requires few { length (joined (values_of nodes.now)) ≤ usize.MAX }
+        ensures { result ≡ drop (rows_before (values_of nodes.now) from) (joined (values_of nodes.now)) }
     {
-        Rows::from(pages, place, rows_in(pages) - place)
+        let (_, rest) = nodes.split_at(from.part);
+        Rows::from(rest, from.row, rows_in(rest) - from.row)
     }
 
-    // The rows of pages from one place up to another.
-    pub(crate) fn between(pages: &'a [Arc<Page>], from: Spot, to: Spot) -> Rows<'a>
-        requires sized { AreSized (values_of pages.now) }
-        requires from { IsSpot (values_of pages.now) from }
-        requires to { IsSpot (values_of pages.now) to }
-        requires few { length (joined (values_of pages.now)) ≤ usize.MAX }
-        ensures { result ≡ take (rows_before (values_of pages.now) to - rows_before (values_of pages.now) from) (drop (rows_before (values_of pages.now) from) (joined (values_of pages.now))) }
+    // The rows of nodes from one place up to another.
+    pub(crate) fn between(nodes: &'a [Arc<Node>], from: Spot, to: Spot) -> Rows<'a>
+        requires some { HoldEach 1 (values_of nodes.now) }
+        requires from { IsSpot (values_of nodes.now) from }
+        requires to { IsSpot (values_of nodes.now) to }
+        requires few { length (joined (values_of nodes.now)) ≤ usize.MAX }
+        ensures { result ≡ take (rows_before (values_of nodes.now) to - rows_before (values_of nodes.now) from) (drop (rows_before (values_of nodes.now) from) (joined (values_of nodes.now))) }
     {
-        if to.page < from.page {
-            return Rows::from(pages, 0, 0);
+        if to.part < from.part {
+            return Rows::from(nodes, 0, 0);
         }
-        let (_, rest) = pages.split_at(from.page);
-        let (front, _) = rest.split_at(to.page - from.page);
+        let (_, rest) = nodes.split_at(from.part);
+        let (front, _) = rest.split_at(to.part - from.part);
         let left = (rows_in(front) + to.row).saturating_sub(from.row);
         Rows::from(rest, from.row, left)
     }
@@ -101,37 +103,88 @@ impl<'a> Iterator for Rows<'a> {
     ghost remaining = { item_count (λ s. s) };
 
     fn next(&mut self) -> Option<&'a Arc<Shown>> {
-        let (shown, rest) = taken(self.pages, self.place, self.left)?;
+        let (shown, rest) = taken(self.pages, self.nodes, self.place, self.left)?;
         *self = rest;
         Some(shown)
+    }
+}
+
+// So many rows of pages and of the nodes behind them, from a place among the pages' rows on.
+fn lent<'a>(pages: &'a [Arc<Page>], nodes: &'a [Arc<Node>], place: usize, left: usize) -> Rows<'a>
+    requires some { HoldEach 1 (values_of pages.now) }
+    requires behind { HoldEach 1 (values_of nodes.now) }
+    requires place { place ≤ length (joined (values_of pages.now)) }
+    requires left { left ≤ length (drop place (joined (values_of pages.now ++ values_of nodes.now))) }
+    ensures { result ≡ take left (drop place (joined (values_of pages.now ++ values_of nodes.now))) }
+{
+    let mut pages = pages;
+    let mut place = place;
+    while let Some((page, rest)) = pages.split_first() {
+        let len = page.len();
+        if place < len {
+            return Rows {
+                pages,
+                nodes,
+                place,
+                left,
+            };
+        }
+        place -= len;
+        pages = rest;
+    }
+    opened(pages, nodes, left)
+}
+
+// So many rows of nodes.
+fn opened<'a>(none: &'a [Arc<Page>], nodes: &'a [Arc<Node>], left: usize) -> Rows<'a>
+    requires none { values_of none.now ≡ [] }
+    requires some { HoldEach 1 (values_of nodes.now) }
+    requires left { left ≤ length (joined (values_of nodes.now)) }
+    ensures { result ≡ take left (joined (values_of nodes.now)) }
+{
+    match nodes.split_first() {
+        Some((node, rest)) => Rows {
+            pages: node.pages(),
+            nodes: rest,
+            place: 0,
+            left,
+        },
+        None => Rows {
+            pages: none,
+            nodes,
+            place: 0,
+            left,
+        },
     }
 }
 
 // The row at a place in the first page, and those after it; `None` where no more are to come.
 fn taken<'a>(
     pages: &'a [Arc<Page>],
+    nodes: &'a [Arc<Node>],
     place: usize,
     left: usize,
 ) -> Option<(&'a Arc<Shown>, Rows<'a>)>
-    requires sized { AreSized (values_of pages.now) }
-    requires place { IsWithin place (values_of pages.now) }
-    requires left { left ≤ length (drop place (joined (values_of pages.now))) }
-    ensures { MatchOption result (take left (drop place (joined (values_of pages.now))) ≡ []) (λ first. take left (drop place (joined (values_of pages.now))) ≡ first.0.now.value ∷ first.1) }
+    requires some { HoldEach 1 (values_of pages.now) }
+    requires behind { HoldEach 1 (values_of nodes.now) }
+    requires place { IsWithin place (values_of pages.now) (values_of nodes.now) }
+    requires left { left ≤ length (drop place (joined (values_of pages.now ++ values_of nodes.now))) }
+    ensures { MatchOption result (take left (drop place (joined (values_of pages.now ++ values_of nodes.now))) ≡ []) (λ first. take left (drop place (joined (values_of pages.now ++ values_of nodes.now))) ≡ first.0.now.value ∷ first.1) }
 {
     let left = left.checked_sub(1)?;
     let (page, _) = pages.split_first()?;
     let shown = &page.rows()[place];
-    Some((shown, Rows::from(pages, place + 1, left)))
+    Some((shown, lent(pages, nodes, place + 1, left)))
 }
 
-// How many rows pages hold.
-fn rows_in(pages: &[Arc<Page>]) -> usize
-    requires { length (joined (values_of pages.now)) ≤ usize.MAX }
-    ensures { result ≡ length (joined (values_of pages.now)) }
+/// How many rows parts hold.
+pub(crate) fn rows_in<P: Part>(parts: &[Arc<P>]) -> usize
+    requires { length (joined (parts_of P.rows parts.now)) ≤ usize.MAX }
+    ensures { result ≡ length (joined (parts_of P.rows parts.now)) }
 {
     let mut count = 0;
-    for page in pages {
-        count += page.len();
+    for part in parts {
+        count += part.len();
     }
     count
 }

@@ -4,10 +4,11 @@ ghost use Rattle.std.specs.Prelude.{◌≡◌, ◌≤◌, ◌<◌, [], true, suc
 ghost use Rattle.std.specs.List.{list_all};
 ghost use Rattle.kube_meta.specs.Rows.{AreRising, row_with, is_behind};
 ghost use Rattle.obj_tree.specs.Maps.{is_below};
-ghost use Rattle.obj_tree.specs.Pages.{values_of, joined, IsPaged, IsPageFor, IsRowAt, IsGapAt};
+ghost use Rattle.obj_tree.specs.Pages.{values_of, parts_of, joined, AreParts, IsPaged, IsPageFor, IsRowAt, IsGapAt};
 ghost use Rattle.obj_tree.specs.Places.{IsPlace};
 
 use crate::page::Page;
+use crate::part::Part;
 use encode_once::{Shown, Sought};
 use std::cmp::Ordering;
 use std::sync::Arc;
@@ -40,38 +41,38 @@ pub(crate) fn find(pages: &[Arc<Page>], sought: &Sought<'_>) -> Option<Place>
     requires { IsPaged (values_of pages.now) }
     ensures { MatchOption result (values_of pages.now ≡ []) (IsPlace (values_of pages.now) sought.now) }
 {
-    let page = page_for(pages, sought)?;
+    let page = part_for(pages, sought)?;
     let row = place_in(pages[page].rows(), sought);
     Some(Place { page, row })
 }
 
-// The page in which a key stands or would stand, by long steps and then shorter ones; `None` where there is
-// no page.
-fn page_for(pages: &[Arc<Page>], sought: &Sought<'_>) -> Option<usize>
-    requires { IsPaged (values_of pages.now) }
-    ensures { MatchOption result (values_of pages.now ≡ []) (IsPageFor (values_of pages.now) sought.now) }
+/// The part in which a key stands or would stand, by long steps and then shorter ones; `None` where there is
+/// no part.
+pub(crate) fn part_for<P: Part>(parts: &[Arc<P>], sought: &Sought<'_>) -> Option<usize>
+    requires { AreParts (parts_of P.rows parts.now) }
+    ensures { MatchOption result (parts_of P.rows parts.now ≡ []) (IsPageFor (parts_of P.rows parts.now) sought.now) }
 {
-    if pages.is_empty() {
+    if parts.is_empty() {
         return None;
     }
-    let at = last_begun(pages, sought, 0, 512);
-    let at = last_begun(pages, sought, at, 64);
-    let at = last_begun(pages, sought, at, 8);
-    Some(last_begun(pages, sought, at, 1))
+    let at = last_begun(parts, sought, 0, 512);
+    let at = last_begun(parts, sought, at, 64);
+    let at = last_begun(parts, sought, at, 8);
+    Some(last_begun(parts, sought, at, 1))
 }
 
-// Goes on by steps while the page there doesn't begin above a key.
-fn last_begun(pages: &[Arc<Page>], sought: &Sought<'_>, from: usize, step: usize) -> usize
-    requires paged { IsPaged (values_of pages.now) }
-    requires inside { from < length pages.now }
-    requires before { list_all (is_below sought.now) (joined (take from (values_of pages.now))) ≡ true }
+// Goes on by steps while the part there doesn't begin above a key.
+fn last_begun<P: Part>(parts: &[Arc<P>], sought: &Sought<'_>, from: usize, step: usize) -> usize
+    requires parted { AreParts (parts_of P.rows parts.now) }
+    requires inside { from < length parts.now }
+    requires before { list_all (is_below sought.now) (joined (take from (parts_of P.rows parts.now))) ≡ true }
     requires some { 0 < step }
-    ensures inside { result < length pages.now }
-    ensures before { list_all (is_below sought.now) (joined (take result (values_of pages.now))) ≡ true }
-    ensures after { step ≡ 1 → list_all (is_behind sought.now) (joined (drop (suc result) (values_of pages.now))) ≡ true }
+    ensures inside { result < length parts.now }
+    ensures before { list_all (is_below sought.now) (joined (take result (parts_of P.rows parts.now))) ≡ true }
+    ensures after { step ≡ 1 → list_all (is_behind sought.now) (joined (drop (suc result) (parts_of P.rows parts.now))) ≡ true }
 {
     let mut at = from;
-    while step < pages.len() - at && pages[at + step].begins_by(sought) {
+    while step < parts.len() - at && parts[at + step].begins_by(sought) {
         at += step;
     }
     at

@@ -2,12 +2,12 @@
 
 ghost use Rattle.std.specs.Prelude.{◌≡◌, ◌==◌, length, option_map, option_copied};
 ghost use Rattle.kube_meta.specs.Rows.{AreRising, behind, row_with, within};
-ghost use Rattle.obj_tree.specs.Pages.{values_of, joined, IsPaged};
+ghost use Rattle.obj_tree.specs.Pages.{values_of, joined, IsNoded};
 
 use crate::Rows;
-use crate::edges::{first_edge, last_edge, spot_of};
-use crate::search::{find, row_of};
-use crate::shared::{Pages, slice_of};
+use crate::edges::{edge_behind, first_edge, last_edge, spot_of};
+use crate::nodes::row_of;
+use crate::shared::{Nodes, slice_of};
 use encode_once::{Shown, Sought};
 use kube_meta::Key;
 use std::marker::Model;
@@ -17,7 +17,7 @@ use std::sync::Arc;
 /// contracts as the list of its rows, whose keys rise byte by byte.
 #[derive(Drop)]
 pub struct Snapshot {
-    pages: Pages,
+    nodes: Nodes,
     len: usize,
 }
 
@@ -25,30 +25,30 @@ impl Model for Snapshot {
     ghost use Rattle.std.specs.Prelude.{◌≡◌, ◌≤◌, List, length};
     ghost use Rattle.std.below.core.specs.declared.int.usize.TheConstants.{MAX};
     ghost use Rattle.kube_meta.specs.Rows.{RowData};
-    ghost use Rattle.obj_tree.specs.Pages.{values_of, joined, IsPaged};
+    ghost use Rattle.obj_tree.specs.Pages.{values_of, joined, IsNoded};
 
     ghost Value = { List RowData };
 
-    ghost view = { λ s. joined (values_of s.pages.value.items) };
+    ghost view = { λ s. joined (values_of s.nodes.value.items) };
 
-    ghost invariant = { λ s. IsPaged (values_of s.pages.value.items) × (s.len ≡ length (joined (values_of s.pages.value.items))) × (s.len ≤ MAX) };
+    ghost invariant = { λ s. IsNoded (values_of s.nodes.value.items) × (s.len ≡ length (joined (values_of s.nodes.value.items))) × (s.len ≤ MAX) };
 }
 
 impl Snapshot {
-    // The rows of pages, and how many there are.
-    pub(crate) fn of(pages: Pages, len: usize) -> Snapshot
-        requires paged { IsPaged (values_of pages.value.items) }
-        requires count { len ≡ length (joined (values_of pages.value.items)) }
-        ensures { result ≡ joined (values_of pages.value.items) }
+    // The rows of nodes, and how many there are.
+    pub(crate) fn of(nodes: Nodes, len: usize) -> Snapshot
+        requires noded { IsNoded (values_of nodes.value.items) }
+        requires count { len ≡ length (joined (values_of nodes.value.items)) }
+        ensures { result ≡ joined (values_of nodes.value.items) }
     {
-        Snapshot { pages, len }
+        Snapshot { nodes, len }
     }
 
     /// The object at a key, if there is one.
     pub fn get(&self, key: &Key) -> Option<&Arc<Shown>>
         ensures { option_map (λ o. o.value) (option_copied result) ≡ row_with self.now key.now }
     {
-        row_of(slice_of(&self.pages), &Sought::new(key))
+        row_of(slice_of(&self.nodes), &Sought::new(key))
     }
 
     /// How many objects there are.
@@ -72,17 +72,13 @@ impl Snapshot {
         ensures rows { result ≡ behind (option_copied after.entry) self.now }
         ensures rising { AreRising self.now }
     {
-        let pages = slice_of(&self.pages);
-        let Some(key) = after else {
-            return Rows::from(pages, 0, self.len);
-        };
-        let Some(place) = find(pages, &Sought::new(key)) else {
-            return Rows::from(pages, 0, self.len);
-        };
-        let (_, pages) = pages.split_at(place.page);
-        match place.row {
-            Ok(row) => Rows::behind(pages, row + 1),
-            Err(row) => Rows::behind(pages, row),
+        let nodes = slice_of(&self.nodes);
+        match after {
+            Some(key) => {
+                let from = spot_of(nodes, &edge_behind(key));
+                Rows::behind(nodes, from)
+            }
+            None => Rows::from(nodes, 0, self.len),
         }
     }
 
@@ -92,9 +88,9 @@ impl Snapshot {
         ensures rows { result ≡ within ns.now (behind (option_copied after.entry) self.now) }
         ensures rising { AreRising self.now }
     {
-        let pages = slice_of(&self.pages);
-        let from = spot_of(pages, &first_edge(ns, after));
-        let to = spot_of(pages, &last_edge(ns));
-        Rows::between(pages, from, to)
+        let nodes = slice_of(&self.nodes);
+        let from = spot_of(nodes, &first_edge(ns, after));
+        let to = spot_of(nodes, &last_edge(ns));
+        Rows::between(nodes, from, to)
     }
 }

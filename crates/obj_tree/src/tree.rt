@@ -6,9 +6,9 @@ ghost use Rattle.obj_tree.specs.Maps.{with_row, without};
 ghost use Rattle.obj_tree.specs.Pages.{values_of};
 
 use crate::filled::filled;
-use crate::pages;
-use crate::search::row_of;
-use crate::shared::{Pages, slice_of};
+use crate::nodes;
+use crate::nodes::{pages_in, row_of};
+use crate::shared::{Nodes, slice_of};
 use crate::snapshot::Snapshot;
 use encode_once::{Shown, Sought};
 use kube_meta::{Key, Memory};
@@ -18,25 +18,27 @@ use std::sync::Arc;
 
 /// The current objects of one resource: a finite map from keys to objects, each with the revision at
 /// which it was written. Seen in contracts as the list of its rows, whose keys rise byte by byte. It is
-/// held in pages of 1 to 64 rows, of which any two neighbours hold more than 32 rows together. A change
-/// takes place in the page itself, or in a copy where another tree or a snapshot shares it.
+/// held in pages of 1 to 64 rows, and these in nodes of about as many pages. In a node any two pages that are
+/// neighbours hold more than 32 rows together, and a node that isn't alone holds 512 at least. A change takes
+/// place in the page itself and its node, or in copies where another tree or a snapshot shares them.
 #[derive(Drop)]
 pub struct Tree {
     alloc: Global,
-    pages: Pages,
+    nodes: Nodes,
     len: usize,
 }
 
 impl Model for Tree {
-    ghost use Rattle.std.specs.Prelude.{◌≡◌, List, length};
+    ghost use Rattle.std.specs.Prelude.{◌≡◌, ◌≤◌, List, length};
+    ghost use Rattle.std.below.core.specs.declared.int.usize.TheConstants.{MAX};
     ghost use Rattle.kube_meta.specs.Rows.{RowData};
-    ghost use Rattle.obj_tree.specs.Pages.{values_of, joined, IsPaged};
+    ghost use Rattle.obj_tree.specs.Pages.{values_of, joined, IsNoded};
 
     ghost Value = { List RowData };
 
-    ghost view = { λ t. joined (values_of t.pages.value.items) };
+    ghost view = { λ t. joined (values_of t.nodes.value.items) };
 
-    ghost invariant = { λ t. IsPaged (values_of t.pages.value.items) × (t.len ≡ length (joined (values_of t.pages.value.items))) };
+    ghost invariant = { λ t. IsNoded (values_of t.nodes.value.items) × (t.len ≡ length (joined (values_of t.nodes.value.items))) × (t.len ≤ MAX) };
 }
 
 impl Tree {
@@ -46,7 +48,7 @@ impl Tree {
     {
         Ok(Tree {
             alloc,
-            pages: Arc::new(alloc, Vec::new(alloc))?,
+            nodes: Arc::new(alloc, Vec::new(alloc))?,
             len: 0,
         })
     }
@@ -57,8 +59,8 @@ impl Tree {
         ensures { IfOk result (λ tree. tree ≡ values_of rows.items) }
     {
         let len = rows.len();
-        let pages = Arc::new(alloc, filled(alloc, rows)?)?;
-        Ok(Tree { alloc, pages, len })
+        let nodes = Arc::new(alloc, filled(alloc, rows)?)?;
+        Ok(Tree { alloc, nodes, len })
     }
 
     /// Puts an object at its key, and answers the one that stood there. A tree of 2^64 - 1 objects, which no
@@ -71,7 +73,7 @@ impl Tree {
         let Some(more) = self.len.checked_add(1) else {
             return Err(Memory);
         };
-        let old = pages::put(self.alloc, &mut self.pages, shown)?;
+        let old = nodes::put(self.alloc, &mut self.nodes, shown)?;
         if old.is_none() {
             self.len = more;
         }
@@ -86,7 +88,7 @@ impl Tree {
         ensures absent { row_with self.old key.now ≡ None → (result ≡ Ok None) × (self.new ≡ self.old) }
         ensures err { OnErr result (self.new ≡ self.old) }
     {
-        let old = pages::remove(self.alloc, &mut self.pages, key)?;
+        let old = nodes::remove(self.alloc, &mut self.nodes, key)?;
         if old.is_some() {
             self.len -= 1;
         }
@@ -97,7 +99,7 @@ impl Tree {
     pub fn get(&self, key: &Key) -> Option<&Arc<Shown>>
         ensures { option_map (λ o. o.value) (option_copied result) ≡ row_with self.now key.now }
     {
-        row_of(slice_of(&self.pages), &Sought::new(key))
+        row_of(slice_of(&self.nodes), &Sought::new(key))
     }
 
     /// How many objects there are.
@@ -120,17 +122,17 @@ impl Tree {
         ensures few { result ≤ length self.now / 16 + 1 }
         ensures enough { length self.now ≤ 64 * result }
     {
-        slice_of(&self.pages).len()
+        pages_in(slice_of(&self.nodes))
     }
 
-    /// Another tree of the same objects. The pages are shared, and changes of one don't show in the other.
+    /// Another tree of the same objects. The nodes are shared, and changes of one don't show in the other.
     pub fn copy(&self) -> Result<Tree, Memory>
         ensures { IfOk result (λ tree. tree ≡ self.now) }
     {
-        let pages = Arc::try_clone(&self.pages)?;
+        let nodes = Arc::try_clone(&self.nodes)?;
         Ok(Tree {
             alloc: self.alloc,
-            pages,
+            nodes,
             len: self.len,
         })
     }
@@ -139,15 +141,15 @@ impl Tree {
     pub fn into_snapshot(self) -> Snapshot
         ensures { result ≡ self }
     {
-        Snapshot::of(self.pages, self.len)
+        Snapshot::of(self.nodes, self.len)
     }
 
-    /// The objects as they are now. The pages are shared, and later changes don't show in it. It costs the
+    /// The objects as they are now. The nodes are shared, and later changes don't show in it. It costs the
     /// same for any number of objects.
     pub fn snapshot(&self) -> Result<Snapshot, Memory>
         ensures { IfOk result (λ snapshot. snapshot ≡ self.now) }
     {
-        let pages = Arc::try_clone(&self.pages)?;
-        Ok(Snapshot::of(pages, self.len))
+        let nodes = Arc::try_clone(&self.nodes)?;
+        Ok(Snapshot::of(nodes, self.len))
     }
 }

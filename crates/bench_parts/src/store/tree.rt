@@ -1,7 +1,7 @@
 //! The steps on a tree, and the same on a plain map. Each answers how often it did something.
 use crate::store::rows::Map;
 use encode_once::Shown;
-use kube_meta::Key;
+use kube_meta::{Key, Memory};
 use obj_tree::Tree;
 use std::sync::Arc;
 
@@ -15,6 +15,24 @@ pub fn puts(tree: &mut Tree, rows: Vec<Arc<Shown>>) -> u32 {
         }
     }
     done
+}
+
+/// Puts objects into a tree, each behind a snapshot that is let go of after the put.
+#[inline(never)]
+pub fn puts_behind(tree: &mut Tree, rows: Vec<Arc<Shown>>) -> u32 {
+    let mut done = 0u32;
+    for shown in rows {
+        if put_behind(tree, shown).is_ok() {
+            done = done.wrapping_add(1);
+        }
+    }
+    done
+}
+
+fn put_behind(tree: &mut Tree, shown: Arc<Shown>) -> Result<(), Memory> {
+    let _kept = tree.snapshot()?;
+    let _old = tree.put(shown)?;
+    Ok(())
 }
 
 /// Puts them into a map.

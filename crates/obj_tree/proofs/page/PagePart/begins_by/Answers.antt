@@ -1,11 +1,12 @@
-use Rattle.std.proofs.Common.{◌≡◌, List, length, Less, Greater, ap, sym, ◌∙◌}
+use Rattle.std.proofs.Common.{◌≡◌, ℕ, List, length, Less, Greater, ap, sym, ◌∙◌}
 use Rattle.std.specs.Prelude.{◌==◌}
+use Rattle.std.proofs.lemmas.List.{length-map}
 use Rattle.std.specs.Cmp.Lexicographic.{slice_cmp}
 use Rattle.std.specs.Ordering.{nat_cmp}
 use Rattle.encode_once.specs.Prefixes.{first_bytes}
-use Rattle.obj_tree.specs.Pages.{begins_by}
+use Rattle.obj_tree.specs.Pages.{values_of, begins_by}
 use Rattle.obj_tree.proofs.PrefixLemmas.{begins_below, begins_over}
-use Rattle.obj_tree.proofs.page.Page.begins_by.Goals as goal
+use Rattle.obj_tree.proofs.page.PagePart.begins_by.Goals as goal
 
 pub returns-in-Less : goal.returns-in-Less
 returns-in-Less c =
@@ -19,4 +20,4 @@ returns-in-Greater c =
     let key = c.args.sought.now in
     let prefix = c.self.inside.prefix in
     let greater : slice_cmp nat_cmp prefix.bytes (first_bytes 48 key) ≡ Greater = ap (slice_cmp nat_cmp prefix.bytes) (sym c.prefix.ensures) ∙ sym c.order.ensures ∙ c.in-Greater.is in
-    c.is_empty.ensures ∙ ap (λ (xs : List _). length xs == 0) c.as_slice.ensures.value ∙ begins_over (λ p. p.value) c.self.inside.rows.items prefix key c.self.invariant greater ∙ ap (begins_by key) c.self.view_is
+    c.is_empty.ensures ∙ ap (λ (xs : List _). length xs == 0) c.as_slice.ensures.value ∙ ap (λ (n : ℕ). n == 0) (sym (length-map c.self.inside.rows.items (λ p. p.value))) ∙ begins_over (values_of c.self.inside.rows.items) prefix key c.self.invariant greater ∙ ap (begins_by key) c.self.view_is
