@@ -1,11 +1,11 @@
--- How many faults an answer counts.
-use Rattle.std.specs.Prelude.{◌≡◌, ℕ, Result, Ok, Err}
-use Rattle.edge_io.specs.Counts.{Rose}
+-- What asking for a watch comes to.
+use Rattle.std.specs.Prelude.{ℕ, List, [], Result, Ok, Err}
+use Rattle.edge_io.specs.Sent.{Sent, IsWrittenOut, IsSentOn, IsBrokenOff}
 use Rattle.ask_watch.specs.declared.asking.AskNo.{AskNo}
 use Rattle.ask_watch.specs.declared.asking.AskNo.TheVariants.{WriteFault, Memory}
 
--- the sink counted a fault exactly where writing failed
-abbrev pub Counts : Result (Unit {0}) AskNo → ℕ → ℕ → Type 0
-Counts (Ok u) old new = new ≡ old
-Counts (Err WriteFault) old new = Rose old new
-Counts (Err Memory) old new = new ≡ old
+-- the request was sent on; or it was broken off; or there was no memory for it, and nothing was written
+abbrev pub Asks : Result (Unit {0}) AskNo → List ℕ → Sent → Type 0
+Asks (Ok asked) text sent = IsSentOn text sent
+Asks (Err WriteFault) text sent = IsBrokenOff text sent
+Asks (Err Memory) text sent = IsWrittenOut [] sent

@@ -1,12 +1,11 @@
 //! Requests, written.
 
-ghost use Rattle.std.specs.Prelude.{◌≡◌, ◌≤◌, [], IfOk, OnOk, OnErr};
+ghost use Rattle.std.specs.Prelude.{◌≡◌, [], IfOk, OnOk};
 ghost use Rattle.std.specs.String.{string_bytes};
-ghost use Rattle.edge_io.specs.Counts.{Rose};
+ghost use Rattle.edge_io.specs.Sent.{Writes, sent_through};
 ghost use Rattle.form_urlencoded.specs.Form.{extend_pairs};
-ghost use Rattle.edge_io.specs.Told.{appended, AppendedSome};
+ghost use Rattle.ask_watch.specs.Answers.{Asks};
 ghost use Rattle.ask_watch.specs.Requests.{pairs_of, request_of, request_text, selector_pair, start_pairs};
-ghost use Rattle.ask_watch.specs.Answers.{Counts};
 
 use crate::Start;
 use edge_io::{Failed, Sink};
@@ -34,11 +33,8 @@ pub fn ask_watch<K: Sink>(
     field: &str,
     sink: &mut K,
 ) -> Result<(), AskNo>
-    ensures sent { OnOk result (K.written sink.new ≡ appended (K.written sink.old) (request_text ns.now start label.now field.now)) }
-    ensures settled { OnOk result (K.settled sink.new) }
-    ensures broken { OnErr result (AppendedSome (K.written sink.old) (K.written sink.new) (request_text ns.now start label.now field.now)) }
-    ensures counted { Counts result (K.faults sink.old) (K.faults sink.new) }
-    ensures never_falls { K.faults sink.old ≤ K.faults sink.new }
+    ensures { Asks result (request_text ns.now start label.now field.now)
+        (sent_through K.written K.settled K.faults sink.old sink.new) }
 {
     match form(alloc, start, label, field) {
         Ok(form) => send(sink, ns, form.as_str()),
@@ -89,11 +85,7 @@ fn add_selector(form: &mut Serializer<Global>, name: &str, text: &str) -> Result
 
 // Writes the request.
 fn write<K: Sink>(sink: &mut K, ns: &Option<Text>, form: &str) -> Result<(), Failed>
-    ensures sent { OnOk result (K.written sink.new ≡ appended (K.written sink.old) (request_of ns.now form.now)) }
-    ensures broken { OnErr result (AppendedSome (K.written sink.old) (K.written sink.new) (request_of ns.now form.now)) }
-    ensures quiet { OnOk result (K.faults sink.new ≡ K.faults sink.old) }
-    ensures counted { OnErr result (Rose (K.faults sink.old) (K.faults sink.new)) }
-    ensures never_falls { K.faults sink.old ≤ K.faults sink.new }
+    ensures { Writes result (request_of ns.now form.now) (sent_through K.written K.settled K.faults sink.old sink.new) }
 {
     match ns {
         Some(ns) => sink.write_pieces(&[
@@ -113,11 +105,7 @@ fn write<K: Sink>(sink: &mut K, ns: &Option<Text>, form: &str) -> Result<(), Fai
 
 // Writes the request, and sends it on.
 fn send<K: Sink>(sink: &mut K, ns: &Option<Text>, form: &str) -> Result<(), AskNo>
-    ensures sent { OnOk result (K.written sink.new ≡ appended (K.written sink.old) (request_of ns.now form.now)) }
-    ensures settled { OnOk result (K.settled sink.new) }
-    ensures broken { OnErr result (AppendedSome (K.written sink.old) (K.written sink.new) (request_of ns.now form.now)) }
-    ensures counted { Counts result (K.faults sink.old) (K.faults sink.new) }
-    ensures never_falls { K.faults sink.old ≤ K.faults sink.new }
+    ensures { Asks result (request_of ns.now form.now) (sent_through K.written K.settled K.faults sink.old sink.new) }
 {
     match write(sink, ns, form) {
         Ok(()) => {}

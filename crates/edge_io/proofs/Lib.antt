@@ -1,2 +1,3 @@
 pub mod ToldLemmas
 pub mod PieceLemmas
+pub mod SentLemmas

@@ -1,5 +1,5 @@
 -- Counts of faults. A count is a `u64`: it never falls, and it stays at its last value.
-use Rattle.std.specs.Prelude.{ℕ, ◌+◌, ◌-◌, ◌<◌, ◌^◌, min}
+use Rattle.std.specs.Prelude.{ℕ, ◌+◌, ◌-◌, ◌≤◌, ◌<◌, ◌^◌, min}
 
 -- the greatest value of a count
 abbrev pub last_count : ℕ
@@ -9,6 +9,6 @@ last_count = 2 ^ 64 - 1
 abbrev pub counted : ℕ → ℕ
 counted faults = min (faults + 1) last_count
 
--- a fault was counted; of a count that stands at its last value this is said too
+-- a fault was counted, and the count didn't fall; of a count that stands at its last value this is said too
 abbrev pub Rose : ℕ → ℕ → Type 0
-Rose old new = old < last_count → old < new
+Rose old new = (old ≤ new) × (old < last_count → old < new)

@@ -3,3 +3,4 @@ pub mod Counts
 pub mod Net
 pub mod Memory
 pub mod Held
+pub mod Sent

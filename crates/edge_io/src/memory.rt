@@ -1,7 +1,7 @@
 //! Ends in memory, which tell in their contracts what goes through them.
 
 ghost use Rattle.std.specs.Prelude.{◌≡◌, ℕ, ◌+◌, ◌<◌, ◌≤◌, ◌↔◌, [], ◌∷◌, ◌++◌, min, length, take, drop, Some, IsTrue, IfOk, OnOk, OnErr, IsErr, Contains};
-ghost use Rattle.edge_io.specs.Counts.{counted};
+ghost use Rattle.edge_io.specs.Counts.{Rose, counted};
 ghost use Rattle.edge_io.specs.Memory.{after_read, after_read_fault, after_write, after_write_fault, fresh_source, fresh_sink};
 
 use crate::fault::Failed;
@@ -73,7 +73,7 @@ impl Source for MemSource {
         ensures given { IfOk result (λ n. self.new ≡ after_read self.old n) }
         ensures failed { OnErr result (self.new ≡ after_read_fault self.old) }
         ensures end { IfOk result (λ n. n ≡ 0 → 0 < length buf.new → self.new.left ≡ []) }
-        ensures never_falls { self.old.faults ≤ self.new.faults }
+        ensures counted { OnErr result (Rose self.old.faults self.new.faults) }
     {
         let fails = self.fails.contains(&self.calls);
         self.calls = self.calls.saturating_add(1);
@@ -148,7 +148,7 @@ impl MemSink {
         ensures listed { IsErr result ↔ Contains self.old.fails self.old.calls }
         ensures ok { OnOk result (self.new ≡ after_write self.old []) }
         ensures failed { OnErr result (self.new ≡ after_write_fault self.old) }
-        ensures never_falls { self.old.faults ≤ self.new.faults }
+        ensures counted { OnErr result (Rose self.old.faults self.new.faults) }
     {
         let fails = self.fails.contains(&self.calls);
         self.calls = self.calls.saturating_add(1);
@@ -174,7 +174,7 @@ impl Sink for MemSink {
         ensures taken { IfOk result (λ n. self.new ≡ after_write self.old (take n bytes.now)) }
         ensures failed { OnErr result (self.new ≡ after_write_fault self.old) }
         ensures some { IfOk result (λ n. 0 < length bytes.now → 0 < n) }
-        ensures never_falls { self.old.faults ≤ self.new.faults }
+        ensures counted { OnErr result (Rose self.old.faults self.new.faults) }
     {
         self.count_call()?;
         let n = self.step.min(bytes.len());
@@ -189,7 +189,7 @@ impl Sink for MemSink {
         ensures listed { IsErr result ↔ Contains self.old.fails self.old.calls }
         ensures ok { OnOk result (self.new ≡ after_write self.old []) }
         ensures failed { OnErr result (self.new ≡ after_write_fault self.old) }
-        ensures never_falls { self.old.faults ≤ self.new.faults }
+        ensures counted { OnErr result (Rose self.old.faults self.new.faults) }
     {
         self.count_call()
     }

@@ -91,7 +91,6 @@ impl<W> WriteEnd<W> {
     // Counts a fault, after which each call fails.
     fn fail(&mut self) -> Failed
         ensures counted { Rose self.old.faults self.new.faults }
-        ensures never_falls { self.old.faults ≤ self.new.faults }
     {
         self.broken = true;
         self.faults = self.faults.saturating_add(1);
@@ -105,7 +104,6 @@ impl<W: Write> WriteEnd<W> {
         ensures emptied { OnOk result (self.new.held ≡ record self.old.held { bytes = [] }) }
         ensures quiet { OnOk result (self.new.faults ≡ self.old.faults) }
         ensures counted { OnErr result (Rose self.old.faults self.new.faults) }
-        ensures never_falls { self.old.faults ≤ self.new.faults }
     {
         let outcome = write_whole(&mut self.to, self.held.bytes());
         self.held.clear();

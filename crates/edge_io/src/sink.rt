@@ -26,16 +26,14 @@ pub trait Sink {
         ensures taken { IfOk result (λ n. written self.new ≡ appended (written self.old) (take n bytes.now)) }
         ensures kept { OnErr result (written self.new ≡ written self.old) }
         ensures quiet { OnOk result (faults self.new ≡ faults self.old) }
-        ensures counted { OnErr result (Rose (faults self.old) (faults self.new)) }
-        ensures never_falls { faults self.old ≤ faults self.new };
+        ensures counted { OnErr result (Rose (faults self.old) (faults self.new)) };
 
     /// Sends on what the sink still holds back, so that after Ok nothing is.
     fn flush(&mut self) -> Result<(), Failed>
         ensures settled { OnOk result (settled self.new) }
         ensures kept { written self.new ≡ written self.old }
         ensures quiet { OnOk result (faults self.new ≡ faults self.old) }
-        ensures counted { OnErr result (Rose (faults self.old) (faults self.new)) }
-        ensures never_falls { faults self.old ≤ faults self.new };
+        ensures counted { OnErr result (Rose (faults self.old) (faults self.new)) };
 
     /// Writes all of `bytes`. After [`Failed`] some beginning of them was taken.
     final fn write_all(&mut self, bytes: &[u8]) -> Result<(), Failed>
@@ -43,7 +41,6 @@ pub trait Sink {
         ensures broken { OnErr result (AppendedSome (written self.old) (written self.new) bytes.now) }
         ensures quiet { OnOk result (faults self.new ≡ faults self.old) }
         ensures counted { OnErr result (Rose (faults self.old) (faults self.new)) }
-        ensures never_falls { faults self.old ≤ faults self.new }
     {
         let mut at = 0;
         while at < bytes.len() {
@@ -61,7 +58,6 @@ pub trait Sink {
         ensures broken { OnErr result (AppendedSome (written self.old) (written self.new) (flat_map (λ piece. piece.now) pieces.now)) }
         ensures quiet { OnOk result (faults self.new ≡ faults self.old) }
         ensures counted { OnErr result (Rose (faults self.old) (faults self.new)) }
-        ensures never_falls { faults self.old ≤ faults self.new }
     {
         for piece in pieces {
             match self.write_all(piece) {

@@ -22,6 +22,5 @@ pub trait Source {
         ensures end { IfOk result (λ n. n ≡ 0 → 0 < length buf.new → IsExhausted (left self.new)) }
         ensures kept { OnErr result (left self.new ≡ left self.old) }
         ensures quiet { OnOk result (faults self.new ≡ faults self.old) }
-        ensures counted { OnErr result (Rose (faults self.old) (faults self.new)) }
-        ensures never_falls { faults self.old ≤ faults self.new };
+        ensures counted { OnErr result (Rose (faults self.old) (faults self.new)) };
 }

@@ -167,21 +167,3 @@ pub body-filled : (copy tail rest : List ℕ) (n k : ℕ) → length copy ≡ n 
 body-filled copy tail rest n k c t =
     ap (λ l. l ++ (rest ++ post_of n k (copy ++ tail))) (take_at copy tail n c)
     ∙ ap (λ l. copy ++ (rest ++ drop k l)) (drop_at copy tail n c) ∙ ap (λ l. copy ++ (rest ++ l)) (drop_all k tail t) ∙ ap (λ l. copy ++ l) (append-nil rest)
-
-rose-later : (f f' f'' : ℕ) → f ≤ f' → f' ≤ f'' → Rose f' f'' → Rose f f''
-rose-later f f' f'' p q h below =
-    elim (eq-zero-or-pos (last_count - f')) [ inl z ↦ omega (arith, below, p, q, z) | inr room ↦ let more : f' < f'' = h (omega (arith, room)) in omega (arith, p, more) ]
-
--- faults that were counted since a later moment were counted since an earlier one
-pub reads-later : (bytes : List ℕ) (answer : Result (Option Req) ReqNo) (kept : List ℕ) (left : Option (List ℕ)) (f f' f'' : ℕ)
-    → f ≤ f' → f' ≤ f'' → ReadsNext bytes answer kept left f' f'' → ReadsNext bytes answer kept left f f''
-reads-later bytes (Ok (Some req)) kept left f f' f'' p q h = h
-reads-later bytes (Ok None) kept left f f' f'' p q h = h
-reads-later bytes (Err ReadFault) kept left f f' f'' p q h = (rose-later f f' f'' p q h.0, h.1)
-reads-later bytes (Err Memory) kept left f f' f'' p q h = h
-reads-later bytes (Err CutShort) kept left f f' f'' p q h = h
-reads-later bytes (Err Malformed) kept left f f' f'' p q h = h
-reads-later bytes (Err HeadTooLong) kept left f f' f'' p q h = h
-reads-later bytes (Err TooManyHeaders) kept left f f' f'' p q h = h
-reads-later bytes (Err BodyTooLong) kept left f f' f'' p q h = h
-reads-later bytes (Err NeedsLength) kept left f f' f'' p q h = h

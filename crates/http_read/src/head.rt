@@ -65,7 +65,6 @@ pub(crate) fn read_head<S: Source>(
         × ReadsHead kept.new spans.new (S.left source.new) (S.faults source.old) (S.faults source.new) result }
     ensures idle { (IsUnfinished kept.old → ⊥) → (kept.new ≡ kept.old) × (source.new ≡ source.old) }
     ensures quiet { UnlessFault result (S.faults source.new ≡ S.faults source.old) }
-    ensures never_falls { S.faults source.old ≤ S.faults source.new }
 {
     loop {
         match look(kept.bytes(), spans) {

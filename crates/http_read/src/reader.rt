@@ -26,7 +26,6 @@ fn read_rest<S: Source>(source: &mut S, body: &mut [u8]) -> Result<(), ReqNo>
         × FillsBody taken body.new [] (S.left source.new) (S.faults source.old) (S.faults source.new) result }
     ensures idle { length body.old ≡ 0 → source.new ≡ source.old }
     ensures quiet { UnlessFault result (S.faults source.new ≡ S.faults source.old) }
-    ensures never_falls { S.faults source.old ≤ S.faults source.new }
 {
     let mut at = 0;
     while at < body.len() {
@@ -46,7 +45,6 @@ fn read_body<S: Source>(kept: &mut Unread, source: &mut S, body: &mut [u8]) -> R
         × (length body.old ≤ length kept.old → taken ≡ []) }
     ensures idle { length body.old ≤ length kept.old → source.new ≡ source.old }
     ensures quiet { UnlessFault result (S.faults source.new ≡ S.faults source.old) }
-    ensures never_falls { S.faults source.old ≤ S.faults source.new }
 {
     let n = kept.bytes().len().min(body.len());
     body[..n].copy_from_slice(&kept.bytes()[..n]);
@@ -95,7 +93,6 @@ fn read_found<S: Source>(
         × ((IsUnfinished kept.old → ⊥) → taken ≡ []) }
     ensures idle { (IsUnfinished kept.old → ⊥) → source.new ≡ source.old }
     ensures quiet { UnlessFault result (S.faults source.new ≡ S.faults source.old) }
-    ensures never_falls { S.faults source.old ≤ S.faults source.new }
 {
     let alloc = kept.allocator();
     let length = match announced(kept.bytes(), spans, found) {
@@ -163,7 +160,6 @@ fn read_next<S: Source>(
         × ((IsUnfinished kept.old → ⊥) → taken ≡ []) }
     ensures idle { (IsUnfinished kept.old → ⊥) → source.new ≡ source.old }
     ensures quiet { UnlessFault result (S.faults source.new ≡ S.faults source.old) }
-    ensures never_falls { S.faults source.old ≤ S.faults source.new }
 {
     if spans.resize(MOST_FIELDS, EMPTY_HEADER_SPAN).is_err() {
         return Err(ReqNo::Memory);
@@ -220,7 +216,6 @@ impl Reader {
             (S.faults source.old) (S.faults source.new) result }
         ensures idle { (IsUnfinished self.old.kept → ⊥) → source.new ≡ source.old }
         ensures quiet { UnlessFault result (S.faults source.new ≡ S.faults source.old) }
-        ensures never_falls { S.faults source.old ≤ S.faults source.new }
     {
         if let Some(why) = self.refusal {
             return Err(why);

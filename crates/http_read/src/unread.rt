@@ -151,7 +151,6 @@ impl Unread {
         ensures kept { OnErr result ((self.new ≡ self.old) × (S.left source.new ≡ S.left source.old)) }
         ensures quiet { OnOk result (S.faults source.new ≡ S.faults source.old) }
         ensures counted { IfErr result (λ why. FillsNot why (S.faults source.old) (S.faults source.new)) }
-        ensures never_falls { S.faults source.old ≤ S.faults source.new }
     {
         let (start, end) = match make_room(&mut self.buffer, self.start, self.end) {
             Ok(place) => place,

@@ -6,7 +6,7 @@ mod hexadecimal;
 mod pieces;
 mod replies;
 
-pub use pieces::{SendNo, part, parts};
+pub use pieces::{part, parts};
 pub use replies::{
     ContentType, begin_chunk, begin_reply, begin_stream, begin_typed_reply, end_chunk, end_stream,
     send_chunk,

@@ -1,44 +1,21 @@
 //! Pieces that are written one after the other.
 
-ghost use Rattle.std.specs.Prelude.{◌≡◌, ◌≤◌, OnOk, OnErr};
 ghost use Rattle.std.specs.List.{flat_map};
-ghost use Rattle.edge_io.specs.Told.{appended, AppendedSome};
-ghost use Rattle.edge_io.specs.Counts.{Rose};
+ghost use Rattle.edge_io.specs.Sent.{Writes, sent_through};
 
-use edge_io::Sink;
-
-/// Why a text wasn't written whole. What was written is then a beginning of it.
-#[derive(Clone, Copy, Debug, PartialEq, Eq)]
-pub enum SendNo {
-    /// The sink failed, and its count of faults rose.
-    WriteFault,
-}
+use edge_io::{Failed, Sink};
 
 /// Writes exactly these bytes: a piece of a body or of a chunk. Pieces are written one after the other and never
 /// joined.
-pub fn part<K: Sink>(sink: &mut K, bytes: &[u8]) -> Result<(), SendNo>
-    ensures sent { OnOk result (K.written sink.new ≡ appended (K.written sink.old) bytes.now) }
-    ensures broken { OnErr result (AppendedSome (K.written sink.old) (K.written sink.new) bytes.now) }
-    ensures quiet { OnOk result (K.faults sink.new ≡ K.faults sink.old) }
-    ensures counted { OnErr result (Rose (K.faults sink.old) (K.faults sink.new)) }
-    ensures never_falls { K.faults sink.old ≤ K.faults sink.new }
+pub fn part<K: Sink>(sink: &mut K, bytes: &[u8]) -> Result<(), Failed>
+    ensures { Writes result bytes.now (sent_through K.written K.settled K.faults sink.old sink.new) }
 {
-    match sink.write_all(bytes) {
-        Ok(()) => Ok(()),
-        Err(_) => Err(SendNo::WriteFault),
-    }
+    sink.write_all(bytes)
 }
 
 /// Writes these pieces, one after the other.
-pub fn parts<K: Sink>(sink: &mut K, pieces: &[&[u8]]) -> Result<(), SendNo>
-    ensures sent { OnOk result (K.written sink.new ≡ appended (K.written sink.old) (flat_map (λ piece. piece.now) pieces.now)) }
-    ensures broken { OnErr result (AppendedSome (K.written sink.old) (K.written sink.new) (flat_map (λ piece. piece.now) pieces.now)) }
-    ensures quiet { OnOk result (K.faults sink.new ≡ K.faults sink.old) }
-    ensures counted { OnErr result (Rose (K.faults sink.old) (K.faults sink.new)) }
-    ensures never_falls { K.faults sink.old ≤ K.faults sink.new }
+pub fn parts<K: Sink>(sink: &mut K, pieces: &[&[u8]]) -> Result<(), Failed>
+    ensures { Writes result (flat_map (λ piece. piece.now) pieces.now) (sent_through K.written K.settled K.faults sink.old sink.new) }
 {
-    match sink.write_pieces(pieces) {
-        Ok(()) => Ok(()),
-        Err(_) => Err(SendNo::WriteFault),
-    }
+    sink.write_pieces(pieces)
 }

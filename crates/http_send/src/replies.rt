@@ -1,15 +1,14 @@
 //! The heads of replies and streams, and chunks.
 
-ghost use Rattle.std.specs.Prelude.{◌≡◌, ◌<◌, ◌≤◌, ◌^◌, OnOk, OnErr, length};
+ghost use Rattle.std.specs.Prelude.{◌≡◌, ◌<◌, ◌≤◌, ◌^◌, length};
 ghost use Rattle.std.specs.List.{flat_map};
-ghost use Rattle.edge_io.specs.Told.{appended, AppendedSome};
-ghost use Rattle.edge_io.specs.Counts.{Rose};
 ghost use Rattle.http_send.specs.Replies as lines;
 ghost use Rattle.http_send.specs.Replies.{reply_head_text, typed_head_text, stream_head_text, chunk_head_text, chunk_text, stream_end_text, crlf, text_where, phrase};
+ghost use Rattle.edge_io.specs.Sent.{Writes, sent_through};
 
 use crate::hexadecimal::hexadecimal_text;
-use crate::pieces::{SendNo, part, parts};
-use edge_io::{Sink, length_of};
+use crate::pieces::{part, parts};
+use edge_io::{Failed, Sink, length_of};
 use http::StatusCode;
 use itoa::Buffer;
 
@@ -62,12 +61,8 @@ pub fn begin_reply<K: Sink>(
     retry: bool,
     close: bool,
     length: u64,
-) -> Result<(), SendNo>
-    ensures sent { OnOk result (K.written sink.new ≡ appended (K.written sink.old) (reply_head_text code retry close length)) }
-    ensures broken { OnErr result (AppendedSome (K.written sink.old) (K.written sink.new) (reply_head_text code retry close length)) }
-    ensures quiet { OnOk result (K.faults sink.new ≡ K.faults sink.old) }
-    ensures counted { OnErr result (Rose (K.faults sink.old) (K.faults sink.new)) }
-    ensures never_falls { K.faults sink.old ≤ K.faults sink.new }
+) -> Result<(), Failed>
+    ensures { Writes result (reply_head_text code retry close length) (sent_through K.written K.settled K.faults sink.old sink.new) }
 {
     begin_typed_reply(sink, ContentType::Json, code, retry, close, length)
 }
@@ -80,12 +75,8 @@ pub fn begin_typed_reply<K: Sink>(
     retry: bool,
     close: bool,
     length: u64,
-) -> Result<(), SendNo>
-    ensures sent { OnOk result (K.written sink.new ≡ appended (K.written sink.old) (typed_head_text kind code retry close length)) }
-    ensures broken { OnErr result (AppendedSome (K.written sink.old) (K.written sink.new) (typed_head_text kind code retry close length)) }
-    ensures quiet { OnOk result (K.faults sink.new ≡ K.faults sink.old) }
-    ensures counted { OnErr result (Rose (K.faults sink.old) (K.faults sink.new)) }
-    ensures never_falls { K.faults sink.old ≤ K.faults sink.new }
+) -> Result<(), Failed>
+    ensures { Writes result (typed_head_text kind code retry close length) (sent_through K.written K.settled K.faults sink.old sink.new) }
 {
     let mut code_digits = Buffer::new();
     let mut length_digits = Buffer::new();
@@ -105,12 +96,8 @@ pub fn begin_typed_reply<K: Sink>(
 }
 
 /// Writes the head of a reply whose body comes in chunks.
-pub fn begin_stream<K: Sink>(sink: &mut K) -> Result<(), SendNo>
-    ensures sent { OnOk result (K.written sink.new ≡ appended (K.written sink.old) stream_head_text) }
-    ensures broken { OnErr result (AppendedSome (K.written sink.old) (K.written sink.new) stream_head_text) }
-    ensures quiet { OnOk result (K.faults sink.new ≡ K.faults sink.old) }
-    ensures counted { OnErr result (Rose (K.faults sink.old) (K.faults sink.new)) }
-    ensures never_falls { K.faults sink.old ≤ K.faults sink.new }
+pub fn begin_stream<K: Sink>(sink: &mut K) -> Result<(), Failed>
+    ensures { Writes result stream_head_text (sent_through K.written K.settled K.faults sink.old sink.new) }
 {
     part(
         sink,
@@ -119,14 +106,10 @@ pub fn begin_stream<K: Sink>(sink: &mut K) -> Result<(), SendNo>
 }
 
 /// Writes the size of a chunk of `length` bytes. A chunk has some: one of none would end the stream.
-pub fn begin_chunk<K: Sink>(sink: &mut K, length: u64) -> Result<(), SendNo>
+pub fn begin_chunk<K: Sink>(sink: &mut K, length: u64) -> Result<(), Failed>
     requires some { 1 ≤ length }
     requires told { length < 2 ^ 63 }
-    ensures sent { OnOk result (K.written sink.new ≡ appended (K.written sink.old) (chunk_head_text length)) }
-    ensures broken { OnErr result (AppendedSome (K.written sink.old) (K.written sink.new) (chunk_head_text length)) }
-    ensures quiet { OnOk result (K.faults sink.new ≡ K.faults sink.old) }
-    ensures counted { OnErr result (Rose (K.faults sink.old) (K.faults sink.new)) }
-    ensures never_falls { K.faults sink.old ≤ K.faults sink.new }
+    ensures { Writes result (chunk_head_text length) (sent_through K.written K.settled K.faults sink.old sink.new) }
 {
     let mut digits = [0; 64];
     let pieces: [&[u8]; 2] = [hexadecimal_text(length, &mut digits), b"\r\n"];
@@ -134,25 +117,17 @@ pub fn begin_chunk<K: Sink>(sink: &mut K, length: u64) -> Result<(), SendNo>
 }
 
 /// Ends a chunk.
-pub fn end_chunk<K: Sink>(sink: &mut K) -> Result<(), SendNo>
-    ensures sent { OnOk result (K.written sink.new ≡ appended (K.written sink.old) crlf) }
-    ensures broken { OnErr result (AppendedSome (K.written sink.old) (K.written sink.new) crlf) }
-    ensures quiet { OnOk result (K.faults sink.new ≡ K.faults sink.old) }
-    ensures counted { OnErr result (Rose (K.faults sink.old) (K.faults sink.new)) }
-    ensures never_falls { K.faults sink.old ≤ K.faults sink.new }
+pub fn end_chunk<K: Sink>(sink: &mut K) -> Result<(), Failed>
+    ensures { Writes result crlf (sent_through K.written K.settled K.faults sink.old sink.new) }
 {
     part(sink, b"\r\n")
 }
 
 /// Writes a whole chunk: its size, these pieces, one after the other, and its end.
-pub fn send_chunk<K: Sink>(sink: &mut K, pieces: &[&[u8]]) -> Result<(), SendNo>
+pub fn send_chunk<K: Sink>(sink: &mut K, pieces: &[&[u8]]) -> Result<(), Failed>
     requires some { 1 ≤ length (flat_map (λ piece. piece.now) pieces.now) }
     requires told { length (flat_map (λ piece. piece.now) pieces.now) < 2 ^ 63 }
-    ensures sent { OnOk result (K.written sink.new ≡ appended (K.written sink.old) (chunk_text (flat_map (λ piece. piece.now) pieces.now))) }
-    ensures broken { OnErr result (AppendedSome (K.written sink.old) (K.written sink.new) (chunk_text (flat_map (λ piece. piece.now) pieces.now))) }
-    ensures quiet { OnOk result (K.faults sink.new ≡ K.faults sink.old) }
-    ensures counted { OnErr result (Rose (K.faults sink.old) (K.faults sink.new)) }
-    ensures never_falls { K.faults sink.old ≤ K.faults sink.new }
+    ensures { Writes result (chunk_text (flat_map (λ piece. piece.now) pieces.now)) (sent_through K.written K.settled K.faults sink.old sink.new) }
 {
     begin_chunk(sink, length_of(pieces))?;
     parts(sink, pieces)?;
@@ -160,12 +135,8 @@ pub fn send_chunk<K: Sink>(sink: &mut K, pieces: &[&[u8]]) -> Result<(), SendNo>
 }
 
 /// Ends the chunks of a stream.
-pub fn end_stream<K: Sink>(sink: &mut K) -> Result<(), SendNo>
-    ensures sent { OnOk result (K.written sink.new ≡ appended (K.written sink.old) stream_end_text) }
-    ensures broken { OnErr result (AppendedSome (K.written sink.old) (K.written sink.new) stream_end_text) }
-    ensures quiet { OnOk result (K.faults sink.new ≡ K.faults sink.old) }
-    ensures counted { OnErr result (Rose (K.faults sink.old) (K.faults sink.new)) }
-    ensures never_falls { K.faults sink.old ≤ K.faults sink.new }
+pub fn end_stream<K: Sink>(sink: &mut K) -> Result<(), Failed>
+    ensures { Writes result stream_end_text (sent_through K.written K.settled K.faults sink.old sink.new) }
 {
     part(sink, b"0\r\n\r\n")
 }

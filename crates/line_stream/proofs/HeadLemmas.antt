@@ -11,7 +11,7 @@ use Rattle.http_read.specs.Heads.{FieldText, most_head, most_fields, is_named, v
 use Rattle.http_read.specs.Requests.{front}
 use Rattle.http_read.proofs.HeadLemmas.{front-short}
 use Rattle.http_read.proofs.ScanLemmas.{filter-step, filter-around}
-use Rattle.line_stream.specs.Heads.{HasResponse, at_body, only, is_chunks, is_chunked, IsOpenHead, IsNoHead, RefusesHead}
+use Rattle.line_stream.specs.Heads.{HasResponse, at_body, only, is_chunks, is_chunked, IsOpenHead, IsNoHead, RefusesResponse}
 use Rattle.line_stream.specs.HeadSteps.{FindsHead, BeginsAt, FindsBody}
 use Rattle.line_stream.proofs.LookLemmas.{front-stands}
 use Rattle.line_stream.specs.Readers.{LinesData}
@@ -77,9 +77,9 @@ chunked-of bytes buf fields spans found f e s =
     ap (λ l. is_chunks (only (values_of (codes "transfer-encoding") l))) (ap (λ b. map (header_bytes b) fields) e ∙ ap (map (header_bytes (front bytes))) s ∙ f.at.fields)
 
 -- a look at a head whose body doesn't begin is a refusal
-pub refuses-body : (bytes : List ℕ) (left : Option (List ℕ)) (why : LineNo) → BeginsAt bytes (Err why) → RefusesHead bytes left why
-refuses-body bytes left why (inl x) = subst (RefusesHead bytes left) (sym x.0) (inr x.1)
-refuses-body bytes left why (inr x) = subst (RefusesHead bytes left) (sym x.1) x.2
+pub refuses-body : (bytes : List ℕ) (left : Option (List ℕ)) (why : LineNo) → BeginsAt bytes (Err why) → RefusesResponse bytes left why
+refuses-body bytes left why (inl x) = subst (RefusesResponse bytes left) (sym x.0) (inr x.1)
+refuses-body bytes left why (inr x) = subst (RefusesResponse bytes left) (sym x.1) x.2
 
 pub finds-body : (bytes : List ℕ) (left : Option (List ℕ)) (answer : Result ℕ LineNo) → BeginsAt bytes answer → FindsBody bytes left answer
 finds-body bytes left (Ok start) x = x

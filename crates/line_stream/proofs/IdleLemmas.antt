@@ -6,7 +6,7 @@ use Rattle.std.proofs.lemmas.List.{drop_at}
 use Rattle.std.proofs.lemmas.List.Elements.{All-drop, All-head, All-same}
 use Rattle.std.proofs.lemmas.List.Concat.{flat_map-append}
 use Rattle.httparse.specs.Ascii.{crlf_bytes}
-use Rattle.line_stream.specs.Chunks.{Piece, sized, byte, ended, piece_bytes, piece_data, Follows, Leads, IsOpenAt, MayBecomeEnd, most_size}
+use Rattle.line_stream.specs.Chunks.{ChunkPiece, sized, byte, ended, piece_bytes, piece_data, Follows, Leads, IsOpenAt, MayBecomeEnd, most_size}
 use Rattle.line_stream.specs.Readers.{ReaderData, IsWithinLine, GoesOn, EndsLine, HoldsLine}
 use Rattle.line_stream.proofs.PieceLemmas.{first-piece, pieces-agree, IsBehind}
 use Rattle.line_stream.specs.declared.place.Place.{Place}
@@ -29,7 +29,7 @@ open-few Over bytes x = absurd x
 end_short : (bytes rest : List ℕ) → MayBecomeEnd bytes → bytes ≡ crlf_bytes ++ rest → ⊥
 end_short bytes rest x e = omega (arith, x.1, ap length x.2, length-append bytes x.0, ap length e)
 
-pub open-none : (place : Place) (bytes : List ℕ) (piece : Piece) (to : Place) (rest : List ℕ) → IsOpenAt place bytes → Follows place piece to → bytes ≡ piece_bytes piece ++ rest → ⊥
+pub open-none : (place : Place) (bytes : List ℕ) (piece : ChunkPiece) (to : Place) (rest : List ℕ) → IsOpenAt place bytes → Follows place piece to → bytes ≡ piece_bytes piece ++ rest → ⊥
 open-none AtSize bytes (sized l) to rest x f e = x.1 l rest (f.0, e)
 open-none AtSize bytes (byte b) to rest x f e = f
 open-none AtSize bytes ended to rest x f e = f
@@ -45,12 +45,12 @@ open-none Over bytes piece to rest x f e = f
 
 -- the second went on where the first stands
 pub record IsAhead (first second : ReaderData) (content whole : List ℕ) : Type 0 where
-  pub more : List Piece
+  pub more : List ChunkPiece
   pub leads : Leads first.place more second.place
   pub bytes : first.kept ≡ flat_map piece_bytes more ++ second.kept
   pub rest : whole ≡ content ++ flat_map piece_data more
 
-is_ahead : (ps qs : List Piece) (first second : ReaderData) (content whole : List ℕ) → IsBehind ps first.place first.kept qs second.place second.kept
+is_ahead : (ps qs : List ChunkPiece) (first second : ReaderData) (content whole : List ℕ) → IsBehind ps first.place first.kept qs second.place second.kept
     → content ≡ flat_map piece_data ps → whole ≡ flat_map piece_data qs → IsAhead first second content whole
 is_ahead ps qs first second content whole b c w = record {
   more = b.more;
@@ -86,13 +86,13 @@ pub at-feed : (old new : ReaderData) → EndsLine old new → AtFeed old.place o
 at-feed old new x = (x.left, new.kept, x.inside, x.feed)
 
 -- the piece that stands there is the line feed
-feed_piece : (place : Place) (bytes : List ℕ) (piece : Piece) (to : Place) (rest : List ℕ) → AtFeed place bytes → Follows place piece to → bytes ≡ piece_bytes piece ++ rest → piece ≡ byte 10
+feed_piece : (place : Place) (bytes : List ℕ) (piece : ChunkPiece) (to : Place) (rest : List ℕ) → AtFeed place bytes → Follows place piece to → bytes ≡ piece_bytes piece ++ rest → piece ≡ byte 10
 feed_piece place bytes piece to rest a f e =
     (first-piece (Inside (1 + a.0)) piece (byte 10) to (Inside a.0) rest a.1
     (subst (λ p. Follows p piece to) a.2 f) (a.0, omega arith, refl) (sym e ∙ a.3)).0
 
 -- so no pieces without a line feed lead over it
-pub feed-none : (place : Place) (bytes : List ℕ) (pieces : List Piece) (to : Place) (rest content before : List ℕ) → AtFeed place bytes → Leads place pieces to
+pub feed-none : (place : Place) (bytes : List ℕ) (pieces : List ChunkPiece) (to : Place) (rest content before : List ℕ) → AtFeed place bytes → Leads place pieces to
     → bytes ≡ flat_map piece_bytes pieces ++ rest → IsWithinLine content → content ≡ before ++ flat_map piece_data pieces → pieces ≡ []
 feed-none place bytes [] to rest content before a leads e w c = refl
 feed-none place bytes (piece ∷ pieces) to rest content before a leads e w c =
@@ -118,12 +118,12 @@ open-holds-none old mid x waits holds =
     stays : (place other : Place) (bytes more : List ℕ) → place ≡ other → bytes ≡ more → AtFeed place bytes → AtFeed other more
     stays place other bytes more p e a = (a.0, a.1, sym p ∙ a.2, sym e ∙ a.3)
 
-    ahead : (more : List Piece) → Leads mid.place more holds.2.before.place → mid.kept ≡ flat_map piece_bytes more ++ holds.2.before.kept → AtFeed holds.2.before.place holds.2.before.kept → ⊥
+    ahead : (more : List ChunkPiece) → Leads mid.place more holds.2.before.place → mid.kept ≡ flat_map piece_bytes more ++ holds.2.before.kept → AtFeed holds.2.before.place holds.2.before.kept → ⊥
     ahead [] leads e feed = open_no_feed mid.place mid.kept waits (stays holds.2.before.place mid.place holds.2.before.kept mid.kept (sym leads) (sym e) feed)
     ahead (piece ∷ more) leads e feed =
         open-none mid.place mid.kept piece leads.0 (flat_map piece_bytes more ++ holds.2.before.kept) waits leads.1 (e ∙ append_assoc (piece_bytes piece) (flat_map piece_bytes more) holds.2.before.kept)
 
-    behind : (more : List Piece) → Leads holds.2.before.place more mid.place → holds.2.before.kept ≡ flat_map piece_bytes more ++ mid.kept
+    behind : (more : List ChunkPiece) → Leads holds.2.before.place more mid.place → holds.2.before.kept ≡ flat_map piece_bytes more ++ mid.kept
         → x.content ≡ holds.2.goes.content ++ flat_map piece_data more → AtFeed holds.2.before.place holds.2.before.kept → ⊥
     behind more leads e c feed =
         let none = feed-none holds.2.before.place holds.2.before.kept more mid.place mid.kept x.content holds.2.goes.content feed leads e x.within c in

@@ -4,13 +4,13 @@ use Rattle.std.specs.List.{flat_map}
 use Rattle.std.proofs.lemmas.List.Concat.{flat_map-append}
 use Rattle.httparse.specs.Grammar.{print_chunk_line, chunk_size}
 use Rattle.httparse.proofs.ChunkLemmas.{chunk_line_unique}
-use Rattle.line_stream.specs.Chunks.{Piece, sized, byte, ended, piece_bytes, piece_data, place_behind, Follows, Leads, Carries}
+use Rattle.line_stream.specs.Chunks.{ChunkPiece, sized, byte, ended, piece_bytes, piece_data, place_behind, Follows, Leads, Carries}
 use Rattle.line_stream.specs.declared.place.Place.{Place}
 use Rattle.line_stream.specs.declared.place.Place.TheVariants.{AtSize, Inside, Last, Over}
 
 -- ---- what follows what
 
-pub leads-append : (from between to : Place) (first second : List Piece) → Leads from first between → Leads between second to → Leads from (first ++ second) to
+pub leads-append : (from between to : Place) (first second : List ChunkPiece) → Leads from first between → Leads between second to → Leads from (first ++ second) to
 leads-append from between to [] second x y = subst (λ p. Leads p second to) (sym x) y
 leads-append from between to (p ∷ first) second x y = (x.0, x.1, leads-append x.0 between to first second x.2 y)
 
@@ -26,7 +26,7 @@ carries-append from between to a b d e x y = record {
 }
 
 -- one piece
-pub carries-one : (from to : Place) (piece : Piece) → Follows from piece to → Carries from (piece_bytes piece) (piece_data piece) to
+pub carries-one : (from to : Place) (piece : ChunkPiece) → Follows from piece to → Carries from (piece_bytes piece) (piece_data piece) to
 carries-one from to piece x = record {
   pieces = piece ∷ [];
   leads = (to, x, refl);
@@ -52,7 +52,7 @@ head_or_none : List ℕ → ℕ
 head_or_none [] = 0
 head_or_none (b ∷ bytes) = b
 
-inside_first : (n : ℕ) (p q : Piece) (to end : Place) (r s : List ℕ) → Follows (Inside n) p to → Follows (Inside n) q end → piece_bytes p ++ r ≡ piece_bytes q ++ s
+inside_first : (n : ℕ) (p q : ChunkPiece) (to end : Place) (r s : List ℕ) → Follows (Inside n) p to → Follows (Inside n) q end → piece_bytes p ++ r ≡ piece_bytes q ++ s
     → (p ≡ q) × (to ≡ end) × (r ≡ s)
 unfolding tail head_or_none
 inside_first n (sized l) q to end r s x y e = absurd x
@@ -66,7 +66,7 @@ inside_first n ended (byte b) to end r s x y e = absurd (omega (arith, x.0, y.1)
 inside_first n ended ended to end r s x y e = (refl, x.1 ∙ sym y.1, ap (λ l. tail (tail l)) e)
 
 -- at most one piece stands at a place in front of some bytes
-pub first-piece : (from : Place) (p q : Piece) (to end : Place) (r s : List ℕ) → Follows from p to → Follows from q end → piece_bytes p ++ r ≡ piece_bytes q ++ s
+pub first-piece : (from : Place) (p q : ChunkPiece) (to end : Place) (r s : List ℕ) → Follows from p to → Follows from q end → piece_bytes p ++ r ≡ piece_bytes q ++ s
     → (p ≡ q) × (to ≡ end) × (r ≡ s)
 unfolding tail head_or_none
 first-piece AtSize (sized l) (sized k) to end r s x y e =
@@ -85,13 +85,13 @@ first-piece Last ended ended to end r s x y e = (refl, x ∙ sym y, ap (λ l. ta
 first-piece Over p q to end r s x y e = absurd x
 
 -- behind pieces that lead to a place and leave `rest` come others
-pub record IsBehind (pieces : List Piece) (to : Place) (rest : List ℕ) (all : List Piece) (end : Place) (left : List ℕ) : Type 0 where
-  pub more : List Piece
+pub record IsBehind (pieces : List ChunkPiece) (to : Place) (rest : List ℕ) (all : List ChunkPiece) (end : Place) (left : List ℕ) : Type 0 where
+  pub more : List ChunkPiece
   pub joined : all ≡ pieces ++ more
   pub leads : Leads to more end
   pub bytes : rest ≡ flat_map piece_bytes more ++ left
 
-next_behind : (from between : Place) (p : Piece) (pieces : List Piece) (to : Place) (rest : List ℕ) (q : Piece) (all : List Piece) (end : Place) (left : List ℕ) → p ≡ q
+next_behind : (from between : Place) (p : ChunkPiece) (pieces : List ChunkPiece) (to : Place) (rest : List ℕ) (q : ChunkPiece) (all : List ChunkPiece) (end : Place) (left : List ℕ) → p ≡ q
     → IsBehind pieces to rest all end left → IsBehind (p ∷ pieces) to rest (q ∷ all) end left
 next_behind from between p pieces to rest q all end left e x = record {
   more = x.more;
@@ -101,7 +101,7 @@ next_behind from between p pieces to rest q all end left e x = record {
 }
 
 -- of two lists of pieces in front of the same bytes one is a beginning of the other
-pub pieces-agree : (from : Place) (ps qs : List Piece) (to end : Place) (r s : List ℕ) → Leads from ps to → Leads from qs end
+pub pieces-agree : (from : Place) (ps qs : List ChunkPiece) (to end : Place) (r s : List ℕ) → Leads from ps to → Leads from qs end
     → flat_map piece_bytes ps ++ r ≡ flat_map piece_bytes qs ++ s → IsBehind ps to r qs end s ⊎ IsBehind qs end s ps to r
 pieces-agree from [] qs to end r s x y e =
     inl (record { more = qs; joined = refl; leads = subst (λ p. Leads p qs end) x y; bytes = e })

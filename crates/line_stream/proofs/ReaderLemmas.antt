@@ -3,7 +3,7 @@ use Rattle.std.proofs.Common.{◌≡◌, ◌==◌, ℕ, ◌+◌, ◌<◌, ◌≤
 use Rattle.std.specs.Prelude.{Option, ◌≢◌}
 use Rattle.std.proofs.lemmas.List.Elements.{All-nil, All-append}
 use Rattle.httparse.specs.Grammar.{chunk_size}
-use Rattle.line_stream.specs.Chunks.{Piece, sized, byte, ended, piece_bytes, piece_data, Follows, Carries, most_size}
+use Rattle.line_stream.specs.Chunks.{ChunkPiece, sized, byte, ended, piece_bytes, piece_data, Follows, Carries, most_size}
 use Rattle.line_stream.specs.Readers.{ReaderData, Spends, Passes, GoesOn, ReadsText}
 use Rattle.line_stream.specs.Looks.{IsFrame, IsData, IsFeed}
 use Rattle.line_stream.specs.Moves.{framing_left, steps_left, Moves}
@@ -94,7 +94,7 @@ inside_least n true e = (omega arith, omega arith)
 inside_least n false e = (omega arith, omega arith)
 
 -- a piece without data brings a byte of data nearer
-frame_nearer : (place : Place) (piece : Piece) (to : Place) → Follows place piece to → piece_data piece ≡ [] → framing_left to + length (piece_bytes piece) < framing_left place
+frame_nearer : (place : Place) (piece : ChunkPiece) (to : Place) → Follows place piece to → piece_data piece ≡ [] → framing_left to + length (piece_bytes piece) < framing_left place
 frame_nearer AtSize (sized l) to x none =
     omega (arith, x.1, ap framing_left x.2 ∙ framing_behind (chunk_size l) (chunk_size l == 0) refl)
 frame_nearer AtSize (byte b) to x none = absurd x

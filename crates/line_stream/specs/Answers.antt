@@ -2,7 +2,7 @@
 use Rattle.std.specs.Prelude.{◌≡◌, ◌≢◌, ℕ, List, [], Option, Some, Result, Ok, Err, ⊤}
 use Rattle.edge_io.specs.Told.{IsExhausted}
 use Rattle.edge_io.specs.Counts.{Rose}
-use Rattle.line_stream.specs.Readers.{ReaderData, LinesData, GoesOn, ReadsText, IsRefused, IsOpen}
+use Rattle.line_stream.specs.Readers.{ReaderData, LinesData, GoesOn, ReadsText, IsReaderRefused, IsOpen}
 use Rattle.line_stream.specs.declared.place.Place.TheVariants as place
 use Rattle.line_stream.specs.declared.lines.Step.{Step}
 use Rattle.line_stream.specs.declared.lines.Step.TheVariants.{Line, Over}
@@ -13,10 +13,10 @@ use Rattle.line_stream.specs.declared.refusal.LineNo.TheVariants.{BadHead, Refus
 abbrev pub Faults : ReaderData → Option (List ℕ) → LineNo → Type 0
 Faults reader left BadHead = ⊥
 Faults reader left (Refused code) = ⊥
-Faults reader left BadChunk = IsRefused reader BadChunk
-Faults reader left Overlong = IsRefused reader Overlong
-Faults reader left Unfinished = IsRefused reader Unfinished
-Faults reader left Spent = IsRefused reader Spent
+Faults reader left BadChunk = IsReaderRefused reader BadChunk
+Faults reader left Overlong = IsReaderRefused reader Overlong
+Faults reader left Unfinished = IsReaderRefused reader Unfinished
+Faults reader left Spent = IsReaderRefused reader Spent
 Faults reader left CutShort = IsOpen reader × IsExhausted left
 Faults reader left ReadFault = IsOpen reader
 Faults reader left Memory = ⊤

@@ -12,19 +12,19 @@ abbrev pub most_size : ℕ
 most_size = 64
 
 -- a piece of a chunked body: a chunk's line, a byte of its data, or the CR LF behind the data or behind the last line
-pub data Piece : Type 0 where
-  sized : ChunkLine → Piece
-  byte : ℕ → Piece
-  ended : Piece
+pub data ChunkPiece : Type 0 where
+  sized : ChunkLine → ChunkPiece
+  byte : ℕ → ChunkPiece
+  ended : ChunkPiece
 
 -- the bytes of a piece
-abbrev pub piece_bytes : Piece → List ℕ
+abbrev pub piece_bytes : ChunkPiece → List ℕ
 piece_bytes (sized l) = print_chunk_line l
 piece_bytes (byte b) = b ∷ []
 piece_bytes ended = crlf_bytes
 
 -- the data that a piece carries
-abbrev pub piece_data : Piece → List ℕ
+abbrev pub piece_data : ChunkPiece → List ℕ
 piece_data (sized l) = []
 piece_data (byte b) = b ∷ []
 piece_data ended = []
@@ -34,7 +34,7 @@ abbrev pub place_behind : ℕ → Place
 place_behind size = if size == 0 then Last else Inside size
 
 -- at this place that piece may stand, and this is the place behind it
-abbrev pub Follows : Place → Piece → Place → Type 0
+abbrev pub Follows : Place → ChunkPiece → Place → Type 0
 Follows AtSize (sized l) to = IsChunkLine l × (length (print_chunk_line l) ≤ most_size) × (to ≡ place_behind (chunk_size l))
 Follows AtSize (byte b) to = ⊥
 Follows AtSize ended to = ⊥
@@ -47,13 +47,13 @@ Follows Last ended to = to ≡ Over
 Follows Over piece to = ⊥
 
 -- pieces that follow each other lead from one place to another
-abbrev pub Leads : Place → List Piece → Place → Type 0
+abbrev pub Leads : Place → List ChunkPiece → Place → Type 0
 Leads from [] to = from ≡ to
 Leads from (piece ∷ pieces) to = (between : Place) × Follows from piece between × Leads between pieces to
 
 -- the bytes lead from one place to another, and carry this data
 pub record Carries (from : Place) (bytes content : List ℕ) (to : Place) : Type 0 where
-  pub pieces : List Piece
+  pub pieces : List ChunkPiece
   pub leads : Leads from pieces to
   pub bytes_are : bytes ≡ flat_map piece_bytes pieces
   pub content_are : content ≡ flat_map piece_data pieces

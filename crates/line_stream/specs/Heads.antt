@@ -58,16 +58,16 @@ HasCode bytes code =
     (h : ResponseHead) × (after : List ℕ) × HasResponse bytes h after × (status_code h ≡ code) × (code ≢ 200)
 
 -- why bytes begin no chunked body; `left` is what is still to come
-abbrev pub RefusesHead : List ℕ → Option (List ℕ) → LineNo → Type 0
-RefusesHead bytes left BadHead = IsNoHead bytes ⊎ IsUnchunked bytes
-RefusesHead bytes left (Refused code) = HasCode bytes code
-RefusesHead bytes left BadChunk = ⊥
-RefusesHead bytes left Overlong = ⊥
-RefusesHead bytes left Unfinished = ⊥
-RefusesHead bytes left Spent = ⊥
-RefusesHead bytes left CutShort = IsOpenHead bytes × IsExhausted left
-RefusesHead bytes left ReadFault = IsOpenHead bytes
-RefusesHead bytes left Memory = ⊤
+abbrev pub RefusesResponse : List ℕ → Option (List ℕ) → LineNo → Type 0
+RefusesResponse bytes left BadHead = IsNoHead bytes ⊎ IsUnchunked bytes
+RefusesResponse bytes left (Refused code) = HasCode bytes code
+RefusesResponse bytes left BadChunk = ⊥
+RefusesResponse bytes left Overlong = ⊥
+RefusesResponse bytes left Unfinished = ⊥
+RefusesResponse bytes left Spent = ⊥
+RefusesResponse bytes left CutShort = IsOpenHead bytes × IsExhausted left
+RefusesResponse bytes left ReadFault = IsOpenHead bytes
+RefusesResponse bytes left Memory = ⊤
 
 -- a reader at the beginning of a body, of which it keeps these bytes
 abbrev pub at_body : Option ℕ → List ℕ → ReaderData
@@ -79,4 +79,4 @@ abbrev pub AnswersHead : LinesData → List ℕ → LinesData → Option (List �
 AnswersHead old bytes new left (Ok u) =
     (after : List ℕ) × BeginsChunks bytes after × (new ≡ record old { at = at_body old.at.room after })
 AnswersHead old bytes new left (Err why) =
-    RefusesHead bytes left why × (new ≡ record old { at = record old.at { kept = bytes } })
+    RefusesResponse bytes left why × (new ≡ record old { at = record old.at { kept = bytes } })

@@ -1,7 +1,7 @@
 -- What a look at the bytes that a reader keeps finds.
 use Rattle.std.specs.Prelude.{◌≡◌, ◌≢◌, ℕ, ◌+◌, ◌<◌, ◌≤◌, List, [], ◌∷◌, ◌++◌, length, take, drop, Some, Result, Ok, Err}
-use Rattle.line_stream.specs.Chunks.{Piece, piece_bytes, piece_data, Follows, MayBecomeEnd, NeverHasEnd, IsOpenAt, IsRefusedAt}
-use Rattle.line_stream.specs.Readers.{ReaderData, most_line, IsWithinLine, FitsRoom, IsOpen, IsRefused}
+use Rattle.line_stream.specs.Chunks.{ChunkPiece, piece_bytes, piece_data, Follows, MayBecomeEnd, NeverHasEnd, IsOpenAt, IsRefusedAt}
+use Rattle.line_stream.specs.Readers.{ReaderData, most_line, IsWithinLine, FitsRoom, IsOpen, IsReaderRefused}
 use Rattle.httparse.specs.Ascii.{crlf_bytes}
 use Rattle.line_stream.specs.declared.place.Place.{Place}
 use Rattle.line_stream.specs.declared.place.Place.TheVariants.{Inside, Over}
@@ -28,7 +28,7 @@ frame_of to ending.Refused = frame.Refused
 
 -- a piece without data stands in front of the bytes, and leads to this place
 pub record IsFrame (place : Place) (bytes : List ℕ) (len : ℕ) (to : Place) : Type 0 where
-  pub piece : Piece
+  pub piece : ChunkPiece
   pub follows : Follows place piece to
   pub stands : bytes ≡ piece_bytes piece ++ drop len bytes
   pub len_is : len ≡ length (piece_bytes piece)
@@ -69,4 +69,4 @@ LooksAt reader (Ok (look.Data len left)) = IsData reader len left
 LooksAt reader (Ok (look.Feed left)) = IsFeed reader left
 LooksAt reader (Ok look.Over) = (reader.room ≢ Some 0) × (reader.place ≡ Over) × (reader.part ≡ [])
 LooksAt reader (Ok look.Open) = IsOpen reader
-LooksAt reader (Err why) = IsRefused reader why
+LooksAt reader (Err why) = IsReaderRefused reader why

@@ -87,16 +87,16 @@ pub record IsOverlong (reader : ReaderData) : Type 0 where
   pub long : most_line < length reader.part + length content
 
 -- what a reader keeps is refused with this number, whatever follows
-abbrev pub IsRefused : ReaderData → LineNo → Type 0
-IsRefused reader BadHead = ⊥
-IsRefused reader (Refused code) = ⊥
-IsRefused reader BadChunk = (reader.room ≢ Some 0) × IsRefusedAt reader.place reader.kept
-IsRefused reader Overlong = (reader.room ≢ Some 0) × IsOverlong reader
-IsRefused reader Unfinished = (reader.room ≢ Some 0) × (reader.place ≡ Over) × (0 < length reader.part)
-IsRefused reader Spent = reader.room ≡ Some 0
-IsRefused reader CutShort = ⊥
-IsRefused reader ReadFault = ⊥
-IsRefused reader Memory = ⊥
+abbrev pub IsReaderRefused : ReaderData → LineNo → Type 0
+IsReaderRefused reader BadHead = ⊥
+IsReaderRefused reader (Refused code) = ⊥
+IsReaderRefused reader BadChunk = (reader.room ≢ Some 0) × IsRefusedAt reader.place reader.kept
+IsReaderRefused reader Overlong = (reader.room ≢ Some 0) × IsOverlong reader
+IsReaderRefused reader Unfinished = (reader.room ≢ Some 0) × (reader.place ≡ Over) × (0 < length reader.part)
+IsReaderRefused reader Spent = reader.room ≡ Some 0
+IsReaderRefused reader CutShort = ⊥
+IsReaderRefused reader ReadFault = ⊥
+IsReaderRefused reader Memory = ⊥
 
 -- a reader has to read on: it may take data, and what it keeps is no whole piece yet
 abbrev pub IsOpen : ReaderData → Type 0

@@ -2,7 +2,7 @@
 use Rattle.std.specs.Prelude.{◌≡◌, ◌≢◌, ◌⊎◌, ℕ, ◌<◌, List, [], ◌++◌, length, Option, Some, Result, Ok, Err}
 use Rattle.edge_io.specs.Told.{prepended, IsExhausted}
 use Rattle.edge_io.specs.Counts.{Rose}
-use Rattle.line_stream.specs.Readers.{LinesData, ReadsText, IsRefused, IsOpen}
+use Rattle.line_stream.specs.Readers.{LinesData, ReadsText, IsReaderRefused, IsOpen}
 use Rattle.line_stream.specs.Moves.{Moves}
 use Rattle.line_stream.specs.declared.place.Place.TheVariants as place
 use Rattle.line_stream.specs.declared.lines.Advance.{Advance}
@@ -17,7 +17,7 @@ Advances old new (Ok advance.Line) = ReadsText old.at old.at.kept new.line new.a
 Advances old new (Ok advance.Over) =
     (new ≡ old) × (old.at.room ≢ Some 0) × (old.at.place ≡ place.Over) × (old.at.part ≡ [])
 Advances old new (Ok advance.Open) = (new ≡ old) × IsOpen old.at
-Advances old new (Err why) = (new ≡ old) × (IsRefused old.at why ⊎ (why ≡ Memory))
+Advances old new (Err why) = (new ≡ old) × (IsReaderRefused old.at why ⊎ (why ≡ Memory))
 
 -- what a reader holds after it took these bytes
 abbrev pub filled : LinesData → List ℕ → LinesData

@@ -81,7 +81,6 @@ fn find_head<S: Source>(
     ensures reads { (taken : List ℕ) × (S.left source.old ≡ prepended taken (S.left source.new)) × (kept.new ≡ kept.old ++ taken)
         × FindsSome kept.new spans.new (S.left source.new) result }
     ensures counted { Counts result (S.faults source.old) (S.faults source.new) }
-    ensures never_falls { S.faults source.old ≤ S.faults source.new }
 {
     loop {
         match look_at_head(kept.bytes(), spans) {
@@ -104,7 +103,6 @@ pub(crate) fn read_start<S: Source>(kept: &mut Unread, source: &mut S) -> Result
     ensures reads { (taken : List ℕ) × (S.left source.old ≡ prepended taken (S.left source.new)) × (kept.new ≡ kept.old ++ taken)
         × FindsBody kept.new (S.left source.new) result }
     ensures counted { Counts result (S.faults source.old) (S.faults source.new) }
-    ensures never_falls { S.faults source.old ≤ S.faults source.new }
 {
     let mut spans = [EMPTY_HEADER_SPAN; MOST_FIELDS];
     let found = match find_head(kept, source, &mut spans) {

@@ -109,7 +109,6 @@ impl LineReader {
         ensures reads { (taken : List ℕ) × (S.left source.old ≡ prepended taken (S.left source.new))
             × AnswersHead self.old (self.old.at.kept ++ taken) self.new (S.left source.new) result }
         ensures counted { Counts result (S.faults source.old) (S.faults source.new) }
-        ensures never_falls { S.faults source.old ≤ S.faults source.new }
     {
         let start = match read_start(&mut self.kept, source) {
             Ok(start) => start,
@@ -197,7 +196,6 @@ impl LineReader {
     fn fill<S: Source>(&mut self, source: &mut S) -> Result<(), LineNo>
         requires { length self.old.at.kept < most_head }
         ensures fills { Fills self.old self.new (S.left source.old) (S.left source.new) (S.faults source.old) (S.faults source.new) result }
-        ensures never_falls { S.faults source.old ≤ S.faults source.new }
     {
         match self.kept.fill(source) {
             Ok(0) => Err(LineNo::CutShort),
@@ -220,7 +218,6 @@ impl LineReader {
             × AnswersLine self.old (self.old.at.kept ++ taken) self.new (S.left source.new) result }
         ensures idle { HoldsLine self.old.at → source.new ≡ source.old }
         ensures counted { Counts result (S.faults source.old) (S.faults source.new) }
-        ensures never_falls { S.faults source.old ≤ S.faults source.new }
     {
         loop {
             match self.go_on() {

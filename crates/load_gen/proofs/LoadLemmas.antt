@@ -33,30 +33,30 @@ use Rattle.client_api.specs.Lists.{IsListed}
 use Rattle.local_client.specs.CachedLogs.{CachedLogData, IsNewLog, KnowsWhole, window_of}
 use Rattle.http_send.specs.declared.replies.ContentType.{ContentType}
 use Rattle.http_send.specs.declared.replies.ContentType.TheVariants.{Json, PlainText, MetricsText}
-use Rattle.sess_reply.specs.Contents.{Content, refusal, refused, content_type_of}
-use Rattle.sess_reply.specs.Replies.{Reply, unrouted, wrote, transacted, got, listed, operated, described, metered, unready, unwatched, bad_upgrade, content_of, form_of, text_of}
+use Rattle.sess_reply.specs.Contents.{Content, refusal_content, refused, content_type_of}
+use Rattle.sess_reply.specs.Replies.{Reply, unrouted, wrote, transacted, got, listed, operated, described, metered, unready, unwatched, bad_upgrade, content_of, form_of, content_text}
 use Rattle.sess_serve.specs.Answers.{Answer, replied, streamed, is_stream}
-use Rattle.sess_serve.specs.Ends.{Ended}
+use Rattle.sess_serve.specs.Ends.{Traffic, Ended}
 use Rattle.sess_serve.specs.Steps.{Exchange}
-use Rattle.sess_serve.specs.Texts.{answer_bytes, texts_of}
+use Rattle.sess_serve.specs.Texts.{answer_bytes, answer_texts}
 use Rattle.sess_serve.specs.declared.ends.SessionEnd.TheVariants.{Done}
 use Rattle.sess_turns.specs.Terms.{Terms, terms_of}
 use Rattle.load_gen.proofs.NewLogLemmas.{of_new_log}
-use Rattle.load_gen.specs.Loads.{IsServed, AreFigures, pods_of_load}
-use Rattle.load_gen.specs.NewLogs.{new_pass, terms}
+use Rattle.load_gen.specs.Loads.{IsLoadServed, AreFigures, pods_of_load}
+use Rattle.sess_serve.specs.NewLogs.{new_pass, terms}
 use Rattle.load_gen.specs.Tallies.{IsWholeList, IsWholeListed, AreTallies, IsTallied}
 use Rattle.load_gen.specs.declared.figures.Figures.{Figures}
-use Rattle.load_gen.specs.Replies.{code_in, code_of, codes_of, IsCode, AreReplies}
+use Rattle.load_gen.specs.Replies.{code_in, reply_code, codes_of, IsCode, AreReplies}
 
 -- ---- a session of a client of a new log
 
 served_new : (first : ℕ) (base : List RowData) (mirror : Bool) (facts : Facts) (log : CachedLogData) (settings : Settings)
     (session written : List ℕ) (q : Pass RevisionData) → first ≡ 1 → base ≡ [] → mirror ≡ false → settings ≡ usual →
     facts.window ≡ window_of log → facts.sole_history ≡ Some log.store.history → IsNewLog first settings log →
-    IsServed (terms_of base mirror facts settings) (KnowsWhole log) log.pass session written q →
-    IsServed (terms usual) (Unit {0}) (new_pass log.pass.seat) session written q
+    IsLoadServed (terms_of base mirror facts settings) (KnowsWhole log) log.pass session written q →
+    IsLoadServed (terms usual) (Unit {0}) (new_pass log.pass.seat) session written q
 served_new first base mirror facts log settings session written q first-is base-is own settings-are window-is alone-is new s =
-    let in-settings : IsServed (terms settings) (Unit {0}) (new_pass log.pass.seat) session written q =
+    let in-settings : IsLoadServed (terms settings) (Unit {0}) (new_pass log.pass.seat) session written q =
     record {
       taken = s.taken;
       left = s.left;
@@ -64,11 +64,11 @@ served_new first base mirror facts log settings session written q first-is base-
       parted = s.parted;
       served = of_new_log first base mirror facts log settings _ q Done first-is base-is own window-is alone-is new s.served;
     } in
-    subst (λ (x : Settings). IsServed (terms x) (Unit {0}) (new_pass log.pass.seat) session written q) settings-are in-settings
+    subst (λ (x : Settings). IsLoadServed (terms x) (Unit {0}) (new_pass log.pass.seat) session written q) settings-are in-settings
 
 -- ---- its replies
 
-of_told : (told : Option Failure) (c : Content) → refusal told ≡ Some c → IsCode c.code
+of_told : (told : Option Failure) (c : Content) → refusal_content told ≡ Some c → IsCode c.code
 of_told None c e = absurd (cc)
 of_told (Some told) c e =
     let same : refused told ≡ c = cc in
@@ -110,12 +110,12 @@ known_code form (bad_upgrade ask) c e = of_told (Some errors.bad_upgrade) c e
 
 -- one reply in front of others
 one_more : (close : Bool) (content : Option Content) (others : List ℕ) (text : List ℕ) → ((c : Content) → content ≡ Some c → IsCode c.code) →
-    AreReplies others text → AreReplies (code_in content ++ others) (text_of close content ++ text)
+    AreReplies others text → AreReplies (code_in content ++ others) (content_text close content ++ text)
 one_more close None others text known rest = rest
 one_more close (Some content) others text known rest =
-    (text_of close (Some content), text, refl, record { kind = content.kind; retry = content.retry; close = close; body = content.text ++ 10 ∷ []; text_is = refl; known = known content refl }, rest)
+    (content_text close (Some content), text, refl, record { kind = content.kind; retry = content.retry; close = close; body = content.text ++ 10 ∷ []; text_is = refl; known = known content refl }, rest)
 
-first_told : (t : Terms) (req : Req) (a : Answer) (others text : List ℕ) → is_stream a ≡ false → AreReplies others text → AreReplies (code_of req a ++ others) (answer_bytes t req a ++ text)
+first_told : (t : Terms) (req : Req) (a : Answer) (others text : List ℕ) → is_stream a ≡ false → AreReplies others text → AreReplies (reply_code req a ++ others) (answer_bytes t req a ++ text)
 first_told t req (replied reply) others text is rest =
     one_more req.close (content_of (form_of req) reply) others text (known_code (form_of req) reply) rest
 first_told t req (streamed ask stream) others text is rest = absurd (cc)
@@ -123,14 +123,14 @@ first_told t req (streamed ask stream) others text is rest = absurd (cc)
 abbrev ByReply : Exchange → Type 0
 ByReply e = is_stream e.answer ≡ false
 
-replies_in : (t : Terms) (es : List Exchange) → All ByReply es → AreReplies (codes_of es) (texts_of t es)
+replies_in : (t : Terms) (es : List Exchange) → All ByReply es → AreReplies (codes_of es) (answer_texts t es)
 replies_in t [] all = refl
 replies_in t (e ∷ es) all =
-    first_told t e.request e.answer (codes_of es) (texts_of t es) (All-head ByReply e es all) (replies_in t es (All-tail ByReply e es all))
+    first_told t e.request e.answer (codes_of es) (answer_texts t es) (All-head ByReply e es all) (replies_in t es (All-tail ByReply e es all))
 
 -- a session that came to its end was answered by replies
-all_replied : (t : Terms) (es : List Exchange) (rest written : List ℕ) (a b : Type 0) (left : Option (List ℕ)) → Ended t es rest written a b left Done → All ByReply es
-all_replied t es rest written a b left ended =
+all_replied : (t : Terms) (es : List Exchange) (rest : List ℕ) (traffic : Traffic) → Ended t es rest traffic Done → All ByReply es
+all_replied t es rest traffic ended =
     elim ended.1 as (λ _. All ByReply es) [
       | inl closed ↦
           subst (All ByReply) (sym closed.0.parted)
@@ -139,9 +139,10 @@ all_replied t es rest written a b left ended =
     ]
 
 -- what a session wrote that came to its end
-pub replies_told : (t : Terms) (W : Type 0) (p : Pass RevisionData) (session written : List ℕ) (q : Pass RevisionData) (s : IsServed t W p session written q) → AreReplies (codes_of s.served.exchanges) written
+pub replies_told : (t : Terms) (W : Type 0) (p : Pass RevisionData) (session written : List ℕ) (q : Pass RevisionData) (s : IsLoadServed t W p session written q) → AreReplies (codes_of s.served.exchanges) written
 replies_told t W p session written q s =
-    let all = all_replied t s.served.exchanges s.served.rest written ⊥ ⊥ (Some s.left) s.served.ended in
+    let traffic : Traffic = record { taken = s.taken; written = written; readings = s.readings; read_fault = ⊥; write_fault = ⊥; left = Some s.left } in
+    let all = all_replied t s.served.exchanges s.served.rest traffic s.served.ended in
     subst (AreReplies (codes_of s.served.exchanges)) (sym s.served.ended.0) (replies_in t s.served.exchanges all)
 
 -- ---- the list at the end
@@ -202,7 +203,7 @@ tallied requests played answered sink list f played-is answered-is tallies =
 
 -- of a session of a client of a new log, and of the list at its end
 figures_are : (base : List RowData) (seat : ℕ) (session : List ℕ) (requests : ℕ) (sink : SinkState) (list : ListedData) (p q : Pass RevisionData)
-    (f : Figures) → base ≡ [] → IsServed (terms usual) (Unit {0}) (new_pass seat) session sink.written p → HasSeenAll p →
+    (f : Figures) → base ≡ [] → IsLoadServed (terms usual) (Unit {0}) (new_pass seat) session sink.written p → HasSeenAll p →
     IsWholeListed base p list q → IsSoleRead p q → AreTallies requests sink.written list f → AreFigures session f
 figures_are base seat session requests sink list p q f base-is served seen whole sole tallies =
     let end = listed_end base p q whole.0 list base-is seen whole.1 whole.2 sole in
@@ -228,7 +229,7 @@ pub record IsPlayed (first : ℕ) (base : List RowData) (mirror : Bool) (facts :
   pub window_is : facts.window ≡ window_of log
   pub history_is : facts.sole_history ≡ Some log.store.history
   pub new : IsNewLog first settings log
-  pub served : IfOk played (λ sink. IsServed (terms_of base mirror facts settings) (KnowsWhole log) log.pass session sink.written after.pass)
+  pub served : IfOk played (λ sink. IsLoadServed (terms_of base mirror facts settings) (KnowsWhole log) log.pass session sink.written after.pass)
   pub kept : IfOk played (λ sink. KnowsWhole after)
   pub listed_all : IfOk answered (λ list. IsWholeListed base after.pass list q)
   pub sole : KnowsWhole after → IfOk answered (λ list. IsSoleRead after.pass q)

@@ -7,10 +7,11 @@ use Rattle.rev_log.specs.Changes.{RevisionData}
 use Rattle.up_api.specs.declared.settings.Settings.{Settings}
 use Rattle.client_api.specs.Facts.{Facts}
 use Rattle.local_client.specs.CachedLogs.{CachedLogData, IsNewLog, KnowsWhole, window_of}
-use Rattle.sess_serve.specs.Session.{Traffic, IsSession}
+use Rattle.sess_serve.specs.Ends.{Traffic}
+use Rattle.sess_serve.specs.Session.{IsSession}
 use Rattle.sess_serve.specs.declared.ends.SessionEnd.{SessionEnd}
 use Rattle.sess_turns.specs.Terms.{Terms, terms_of}
-use Rattle.load_gen.specs.NewLogs.{new_pass, terms}
+use Rattle.sess_serve.specs.NewLogs.{new_pass, terms}
 
 -- of a log that is known whole nothing is left to be asked
 known-whole : (t : Terms) (W : Type 0) (p : Pass RevisionData) (traffic : Traffic) (q : Pass RevisionData) (how : SessionEnd) →

@@ -3,6 +3,5 @@ pub mod Requests
 pub mod Heads
 pub mod Replies
 pub mod Figures
-pub mod NewLogs
 pub mod Loads
 pub mod Tallies

@@ -1,6 +1,6 @@
 -- What a load comes to: a session of a client of a new log over the drawn bytes, and the figures of it.
-use Rattle.std.specs.Prelude.{◌≡◌, ℕ, List, [], ◌++◌, length, Option, Some, Result, Ok, Err, codes, ⊤}
-use Rattle.edge_io.specs.Told.{appended, AppendedSome}
+use Rattle.std.specs.Prelude.{◌≡◌, ℕ, List, [], ◌++◌, length, Some, Result, Ok, Err, codes, ⊤}
+use Rattle.edge_io.specs.Sent.{Sent, IsSentOn, IsBrokenOff}
 use Rattle.edge_io.specs.declared.clock.Reading.{Reading}
 use Rattle.kube_meta.specs.Rows.{RowData}
 use Rattle.kube_meta.specs.declared.resources.Resource.TheVariants.{Pods}
@@ -13,8 +13,8 @@ use Rattle.up_api.specs.Settings.{usual}
 use Rattle.sess_turns.specs.Terms.{Terms}
 use Rattle.sess_serve.specs.Session.{IsSession}
 use Rattle.sess_serve.specs.declared.ends.SessionEnd.TheVariants.{Done}
-use Rattle.load_gen.specs.Figures.{lines_of}
-use Rattle.load_gen.specs.NewLogs.{new_pass, terms}
+use Rattle.load_gen.specs.Figures.{figure_lines}
+use Rattle.sess_serve.specs.NewLogs.{new_pass, terms}
 use Rattle.load_gen.specs.Replies.{codes_of, AreCounted}
 use Rattle.load_gen.specs.Requests.{session_text}
 use Rattle.load_gen.specs.declared.figures.Figures.{Figures}
@@ -22,7 +22,7 @@ use Rattle.load_gen.specs.declared.run.LoadNo.{LoadNo}
 use Rattle.load_gen.specs.declared.run.LoadNo.TheVariants.{WriteFault, Memory}
 
 -- a session over a source that has these bytes: it came to its end, and wrote those
-pub record IsServed (terms : Terms) (whole : Type 0) (p : Pass RevisionData) (session written : List ℕ) (q : Pass RevisionData) : Type 0 where
+pub record IsLoadServed (terms : Terms) (whole : Type 0) (p : Pass RevisionData) (session written : List ℕ) (q : Pass RevisionData) : Type 0 where
   pub taken : List ℕ
   pub left : List ℕ
   pub readings : List Reading
@@ -40,7 +40,7 @@ pub record AreFigures (session : List ℕ) (f : Figures) : Type 0 where
   pub seat : ℕ
   pub written : List ℕ
   pub last : Pass RevisionData
-  pub served : IsServed (terms usual) (Unit {0}) (new_pass seat) session written last
+  pub served : IsLoadServed (terms usual) (Unit {0}) (new_pass seat) session written last
   pub counted : AreCounted (codes_of served.served.exchanges) f.ok f.refused
   pub revision : f.revision ≡ end_from last.first last.seen
   pub rows : List RowData
@@ -52,18 +52,8 @@ pub record IsLoad (from requests : ℕ) (f : Figures) : Type 0 where
   pub requests_is : f.requests ≡ requests
   pub figures : AreFigures (session_text from requests) f
 
--- what went through the sink
-pub record Sent : Type 1 where
-  pub written_old : Option (List ℕ)
-  pub written_new : Option (List ℕ)
-  pub settled : Type 0
-  pub write_fault : Type 0
-
--- the lines are written and sent on; or the sink failed behind a beginning of them, or as they were to be sent on; or
--- there was no memory, and nothing is written
+-- the lines were sent on, or broken off; or there was no memory, and nothing was written
 abbrev pub IsTold : ℕ → ℕ → Sent → Result ⊤ LoadNo → Type 0
-IsTold from requests sent (Ok done) =
-    (f : Figures) × IsLoad from requests f × (sent.written_new ≡ appended sent.written_old (lines_of f)) × sent.settled
-IsTold from requests sent (Err WriteFault) =
-    ((f : Figures) × IsLoad from requests f × AppendedSome sent.written_old sent.written_new (lines_of f)) × sent.write_fault
+IsTold from requests sent (Ok done) = (f : Figures) × IsLoad from requests f × IsSentOn (figure_lines f) sent
+IsTold from requests sent (Err WriteFault) = (f : Figures) × IsLoad from requests f × IsBrokenOff (figure_lines f) sent
 IsTold from requests sent (Err Memory) = sent.written_new ≡ sent.written_old

@@ -17,13 +17,13 @@ code_in None = []
 code_in (Some content) = content.code ∷ []
 
 -- the status code of the reply to a request; a stream has none that counts
-abbrev pub code_of : Req → Answer → List ℕ
-code_of req (replied reply) = code_in (content_of (form_of req) reply)
-code_of req (streamed ask stream) = []
+abbrev pub reply_code : Req → Answer → List ℕ
+reply_code req (replied reply) = code_in (content_of (form_of req) reply)
+reply_code req (streamed ask stream) = []
 
 -- the codes of the replies, in order
 abbrev pub codes_of : List Exchange → List ℕ
-codes_of exchanges = flat_map (λ (e : Exchange). code_of e.request e.answer) exchanges
+codes_of exchanges = flat_map (λ (e : Exchange). reply_code e.request e.answer) exchanges
 
 -- the request wasn't refused
 abbrev pub is_ok : ℕ → Bool

@@ -62,10 +62,10 @@ unfoldable pub request_text : LoadRequest → List ℕ
 request_text r = text_for r.action r
 
 -- the last request of a load, which lists all pods of its namespace
-abbrev pub list_text : List ℕ
-list_text = start (codes "GET") ++ (host ++ codes "\r\n")
+abbrev pub list_request : List ℕ
+list_request = start (codes "GET") ++ (host ++ codes "\r\n")
 
 -- the session: so many requests, in order, and the last one
 unfoldable pub session_text : ℕ → ℕ → List ℕ
 session_text from requests =
-    flat_map (λ number. request_text (request_at from number)) (range_with_len 0 requests) ++ list_text
+    flat_map (λ number. request_text (request_at from number)) (range_with_len 0 requests) ++ list_request

@@ -1,11 +1,11 @@
 //! What a load comes to, and how it is told.
 
-ghost use Rattle.std.specs.Prelude.{◌≡◌, OnOk, OnErr};
-ghost use Rattle.edge_io.specs.Counts.{Rose};
-ghost use Rattle.edge_io.specs.Told.{appended, AppendedSome};
-ghost use Rattle.load_gen.specs.Figures.{lines_of};
+ghost use Rattle.std.specs.Prelude.{OnOk};
+ghost use Rattle.edge_io.specs.Sent.{Writes, sent_through};
+ghost use Rattle.load_gen.specs.Figures.{figure_lines};
 
 use edge_io::{Failed, Sink};
+use http_send::parts;
 use itoa::Buffer;
 
 /// The number of requests that are drawn, how many replies before the last have a code below 400 and how many another,
@@ -21,24 +21,17 @@ pub struct Figures {
 
 impl Figures {
     /// Writes them, one a line, and sends them on.
-    #[tactic(auto, unfolding(crate::specs::Figures::lines_of))]
     pub(crate) fn write<K: Sink>(&self, sink: &mut K) -> Result<(), Failed>
-        ensures sent { OnOk result (K.written sink.new ≡ appended (K.written sink.old) (lines_of self.now)) }
+        ensures writes { Writes result (figure_lines self.now) (sent_through K.written K.settled K.faults sink.old sink.new) }
         ensures settled { OnOk result (K.settled sink.new) }
-        ensures broken { OnErr result (AppendedSome (K.written sink.old) (K.written sink.new) (lines_of self.now)) }
-        ensures counted { OnErr result (Rose (K.faults sink.old) (K.faults sink.new)) }
     {
         self.put(sink)?;
         sink.flush()
     }
 
     // Writes them.
-    #[tactic(auto, unfolding(crate::specs::Figures::lines_of))]
     fn put<K: Sink>(&self, sink: &mut K) -> Result<(), Failed>
-        ensures sent { OnOk result (K.written sink.new ≡ appended (K.written sink.old) (lines_of self.now)) }
-        ensures broken { OnErr result (AppendedSome (K.written sink.old) (K.written sink.new) (lines_of self.now)) }
-        ensures quiet { OnOk result (K.faults sink.new ≡ K.faults sink.old) }
-        ensures counted { OnErr result (Rose (K.faults sink.old) (K.faults sink.new)) }
+        ensures { Writes result (figure_lines self.now) (sent_through K.written K.settled K.faults sink.old sink.new) }
     {
         let mut requests = Buffer::new();
         let mut ok = Buffer::new();
@@ -58,6 +51,6 @@ impl Figures {
             items.format(self.items).as_bytes(),
             b"\n",
         ];
-        sink.write_pieces(&pieces)
+        parts(sink, &pieces)
     }
 }

@@ -2,7 +2,7 @@
 
 ghost use Rattle.std.specs.Prelude.{◌≡◌, ◌++◌, OnOk, IfOk, codes};
 ghost use Rattle.load_gen.specs.Draws.{next, drawn};
-ghost use Rattle.load_gen.specs.Requests.{action_of, host, list_text, numbered, object_text, request_text, start, text_for, with_body};
+ghost use Rattle.load_gen.specs.Requests.{action_of, host, list_request, numbered, object_text, request_text, start, text_for, with_body};
 ghost use Rattle.load_gen.specs.declared.requests.Action.TheVariants as action;
 
 use crate::draws::Draws;
@@ -124,7 +124,7 @@ impl LoadRequest {
 
 /// Puts the request that lists all.
 pub(crate) fn put_list(bytes: &mut Vec<u8>) -> Result<(), Memory>
-    ensures { OnOk result (bytes.new.items ≡ bytes.old.items ++ list_text) }
+    ensures { OnOk result (bytes.new.items ≡ bytes.old.items ++ list_request) }
 {
     put_start(bytes, b"GET")?;
     put_bare(bytes)

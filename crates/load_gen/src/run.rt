@@ -2,10 +2,10 @@
 
 ghost use Rattle.std.specs.Prelude.{◌≡◌, ◌≤◌, ◌^◌, [], false, None, IfOk};
 ghost use Rattle.client_api.specs.Alone.{IsSoleRead};
-ghost use Rattle.edge_io.specs.Counts.{Rose};
+ghost use Rattle.edge_io.specs.Sent.{sent_through};
 ghost use Rattle.sess_turns.specs.Terms.{terms_of};
 ghost use Rattle.up_api.specs.Settings.{AreInRange, usual};
-ghost use Rattle.load_gen.specs.Loads.{AreFigures, IsServed, IsTold};
+ghost use Rattle.load_gen.specs.Loads.{AreFigures, IsLoadServed, IsTold};
 ghost use Rattle.load_gen.specs.Tallies.{IsTallied, IsWholeList, IsWholeListed};
 
 use crate::figures::Figures;
@@ -50,12 +50,7 @@ pub fn run_load<K: Sink>(
 ) -> Result<(), LoadNo>
     requires from { from ≤ 2 ^ 62 }
     requires requests { requests ≤ 100000 }
-    ensures { IsTold from requests (record {
-      written_old = K.written sink.old;
-      written_new = K.written sink.new;
-      settled = K.settled sink.new;
-      write_fault = Rose (K.faults sink.old) (K.faults sink.new);
-    }) result }
+    ensures { IsTold from requests (sent_through K.written K.settled K.faults sink.old sink.new) result }
 {
     let Ok(session) = make(alloc, from, requests) else {
         return Err(LoadNo::Memory);
@@ -109,7 +104,7 @@ fn play<C: Client>(
 ) -> Result<MemSink, Memory>
     requires idle { (C.facts client.old).watching ≡ None }
     requires settings { AreInRange settings.now }
-    ensures served { IfOk result (λ sink. IsServed (terms_of C.base C.mirror (C.facts client.old) settings.now)
+    ensures served { IfOk result (λ sink. IsLoadServed (terms_of C.base C.mirror (C.facts client.old) settings.now)
         (C.whole client.old) (C.pass client.old) session.items sink.written (C.pass client.new)) }
     ensures kept { C.whole client.old → IfOk result (λ sink. C.whole client.new) }
 {

@@ -2,9 +2,8 @@
 use Rattle.std.proofs.Common.{◌≡◌, ℕ, List, [], ◌++◌, Option, None, Ok, Err, ap, ◌∙◌, subst, inl}
 use Rattle.ask_watch.specs.Requests.{request_text}
 use Rattle.ask_watch.specs.declared.start.Start.TheVariants.{Revision}
-use Rattle.edge_io.specs.Told.{appended}
 use Rattle.kube_meta.specs.Rows.{RowData}
-use Rattle.line_stream.specs.Heads.{AnswersHead, BeginsChunks, RefusesHead, at_body}
+use Rattle.line_stream.specs.Heads.{AnswersHead, BeginsChunks, RefusesResponse, at_body}
 use Rattle.line_stream.specs.Readers.{LinesData}
 use Rattle.line_stream.specs.declared.refusal.LineNo.{LineNo}
 use Rattle.mirror_law.specs.Following.{Follows}
@@ -33,7 +32,7 @@ module _ (old new : LinesData) (taken : List ℕ) (left : Option (List ℕ)) (em
 
   -- none does
   pub begins_none : (fault : LineNo) (why : LinkNo) → why ≡ reading_refusal fault → AnswersHead old (old.at.kept ++ taken) new left (Err fault) → Begins taken left (Err why) new.at
-  begins_none fault why why_is answers = inl (fault, why_is, subst (λ (kept : List ℕ). RefusesHead (kept ++ taken) left fault) empty answers.0)
+  begins_none fault why why_is answers = inl (fault, why_is, subst (λ (kept : List ℕ). RefusesResponse (kept ++ taken) left fault) empty answers.0)
 
 -- ---- what a mirror follows
 
@@ -52,8 +51,8 @@ opened_is log b base items rows is base_is rows_are = is ∙ ap (λ n. opened_lo
 -- ---- the request
 
 -- it is that of the mirror as contracts see it
-pub request_is : (m : MirrorData) (ns : Option (List ℕ)) (from : ℕ) (label field : List ℕ) (old new : Option (List ℕ)) → ns ≡ m.selection.ns → from ≡ end_of m.log → label ≡ m.label → field ≡ m.field →
-    new ≡ appended old (request_text ns (Revision from) label field) → new ≡ appended old (resume_request m)
-request_is m ns from label field old new ns_is from_is label_is field_is sent =
-    sent ∙ ap (λ n. appended old (request_text n (Revision from) label field)) ns_is ∙ ap (λ n. appended old (request_text m.selection.ns (Revision n) label field)) from_is
-    ∙ ap (λ n. appended old (request_text m.selection.ns (Revision (end_of m.log)) n field)) label_is ∙ ap (λ n. appended old (request_text m.selection.ns (Revision (end_of m.log)) m.label n)) field_is
+pub request_is : (m : MirrorData) (ns : Option (List ℕ)) (from : ℕ) (label field : List ℕ) → ns ≡ m.selection.ns → from ≡ end_of m.log → label ≡ m.label → field ≡ m.field →
+    request_text ns (Revision from) label field ≡ resume_request m
+request_is m ns from label field ns_is from_is label_is field_is =
+    ap (λ n. request_text n (Revision from) label field) ns_is ∙ ap (λ n. request_text m.selection.ns (Revision n) label field) from_is
+    ∙ ap (λ n. request_text m.selection.ns (Revision (end_of m.log)) n field) label_is ∙ ap (λ n. request_text m.selection.ns (Revision (end_of m.log)) m.label n) field_is

@@ -19,7 +19,7 @@ use Rattle.watch_rules.specs.declared.ask.WatchAsk.{WatchAsk}
 use Rattle.watch_rules.specs.Bodies.{Line, Told, Bookmark, Closing, Lost, BeginsBody, told_by, told_in}
 use Rattle.watch_texts.specs.Texts.{line_text, type_of}
 use Rattle.watch_read.specs.Laws.{LinesReadBack, IsTold, as_read}
-use Rattle.watch_read.specs.Lines.{IsLine, Reads}
+use Rattle.watch_read.specs.Lines.{IsPeerLine, ReadsPeerLine}
 use Rattle.watch_read.specs.Stored.{IsStored}
 use Rattle.watch_read.specs.declared.peer_line.PeerLine.{PeerLine}
 use Rattle.watch_read.specs.declared.peer_line.PeerLine.TheVariants as peer
@@ -97,21 +97,21 @@ module _ (log : Log) (ask : WatchAsk) (log_floor low b from : ℕ) (lines : List
   mark_told at h = (omega (arith, (taken (Bookmark at) h).onward, begun (Bookmark at) h), omega (arith, reached (Bookmark at) h, h.good.log.ends))
 
   -- and is read as what it is
-  line_as : (line : Line) (found : PeerLine) → On line → IsTold Pods line → IsLine Pods text found → found ≡ as_read line
-  line_as line found h can read = (h.reads Pods line found can).0 (subst (λ (l : List ℕ). IsLine Pods l found) h.is read)
+  line_as : (line : Line) (found : PeerLine) → On line → IsTold Pods line → IsPeerLine Pods text found → found ≡ as_read line
+  line_as line found h can read = (h.reads Pods line found can).0 (subst (λ (l : List ℕ). IsPeerLine Pods l found) h.is read)
 
-  told_as : (t : TransitionData) (found : PeerLine) → On (Told t) → IsLine Pods text found → found ≡ peer.Told t.kind t.obj t.rev
+  told_as : (t : TransitionData) (found : PeerLine) → On (Told t) → IsPeerLine Pods text found → found ≡ peer.Told t.kind t.obj t.rev
   told_as t found h read = line_as (Told t) found h (event_told t h) read
 
-  mark_as : (at : ℕ) (found : PeerLine) → On (Bookmark at) → IsLine Pods text found → found ≡ peer.Bookmark at false
+  mark_as : (at : ℕ) (found : PeerLine) → On (Bookmark at) → IsPeerLine Pods text found → found ≡ peer.Bookmark at false
   mark_as at found h read = line_as (Bookmark at) found h (mark_told at h) read
 
-  found_as : (line : Line) (found : Option PeerLine) → On line → IsTold Pods line → Reads Pods text found → found ≡ Some (as_read line)
-  found_as line None h can none = absurd (none (as_read line) (subst (λ (l : List ℕ). IsLine Pods l (as_read line)) (sym h.is) ((h.reads Pods line (as_read line) can).1 refl)))
+  found_as : (line : Line) (found : Option PeerLine) → On line → IsTold Pods line → ReadsPeerLine Pods text found → found ≡ Some (as_read line)
+  found_as line None h can none = absurd (none (as_read line) (subst (λ (l : List ℕ). IsPeerLine Pods l (as_read line)) (sym h.is) ((h.reads Pods line (as_read line) can).1 refl)))
   found_as line (Some found) h can read = ap Some (line_as line found h can read)
 
   -- what is wrong with it is a gap
-  pub lawful_fault : (line : Line) (found : Option PeerLine) → On line → Reads Pods text found → (p : Pass RevisionData) → IsLawfulFault line (line_fault (record { selection = s; told = p; log = m; kept = kept }) found)
+  pub lawful_fault : (line : Line) (found : Option PeerLine) → On line → ReadsPeerLine Pods text found → (p : Pass RevisionData) → IsLawfulFault line (line_fault (record { selection = s; told = p; log = m; kept = kept }) found)
   lawful_fault (Told t) found h reads p =
       let at : MirrorLogData = record { selection = s; told = p; log = m; kept = kept } in
       let fits : IsAtMostGap (line_fault at (Some (as_read (Told t)))) = at_most (event_fault s m kept t) (taken_events_fit s m kept t h.pods (taken (Told t) h)) in
@@ -123,10 +123,10 @@ module _ (log : Log) (ask : WatchAsk) (log_floor low b from : ℕ) (lines : List
   lawful_fault (Closing to) found h reads p = absurd (taken (Closing to) h)
   lawful_fault (Lost to floor) found h reads p = tt
 
-  lost_no_event : (at floor : ℕ) (kind : Kind) (obj : Obj) (rev : ℕ) → On (Lost at floor) → IsLine Pods text (peer.Told kind obj rev) → ⊥
+  lost_no_event : (at floor : ℕ) (kind : Kind) (obj : Obj) (rev : ℕ) → On (Lost at floor) → IsPeerLine Pods text (peer.Told kind obj rev) → ⊥
   lost_no_event at floor kind obj rev h read = told_type kind (same-type (type_of kind) types.Error (object_json obj rev) (expired_text at floor) (sym read.2 ∙ h.is))
 
-  lost_no_mark : (at floor : ℕ) (mark : ℕ) → On (Lost at floor) → IsLine Pods text (peer.Bookmark mark false) → ⊥
+  lost_no_mark : (at floor : ℕ) (mark : ℕ) → On (Lost at floor) → IsPeerLine Pods text (peer.Bookmark mark false) → ⊥
   lost_no_mark at floor mark h read = let same : types.Bookmark ≡ types.Error = same-type types.Bookmark types.Error (bookmark_text (api_version_of Pods) (kind_of Pods) mark false) (expired_text at floor) (sym read.1 ∙ h.is) in cc
 
   -- ---- an event
@@ -142,7 +142,7 @@ module _ (log : Log) (ask : WatchAsk) (log_floor low b from : ℕ) (lines : List
     abbrev pub this : TransitionData
     this = record { kind = kind; obj = obj; rev = rev }
 
-    pub event_follows : (line : Line) → On line → IsLine Pods text (peer.Told kind obj rev) → AreToldBy Pods kept (end_of m) more → end_of (grown m more) ≡ rev - 1
+    pub event_follows : (line : Line) → On line → IsPeerLine Pods text (peer.Told kind obj rev) → AreToldBy Pods kept (end_of m) more → end_of (grown m more) ≡ rev - 1
         → Follows log s b from (lines ++ line ∷ []) (grown m more) (kept_after kept (Told this))
     event_follows (Told t) h read told end =
         let same : t ≡ this = one t kind obj rev (told_as t (peer.Told kind obj rev) h read) in
@@ -154,7 +154,7 @@ module _ (log : Log) (ask : WatchAsk) (log_floor low b from : ℕ) (lines : List
     event_follows (Closing at) h read told end = absurd (taken (Closing at) h)
     event_follows (Lost at floor) h read told end = absurd (lost_no_event at floor kind obj rev h read)
 
-    pub event_mirrors : (line : Line) → On line → IsLine Pods text (peer.Told kind obj rev) → AreToldBy Pods kept (end_of m) more → end_of (grown m more) ≤ rev - 1
+    pub event_mirrors : (line : Line) → On line → IsPeerLine Pods text (peer.Told kind obj rev) → AreToldBy Pods kept (end_of m) more → end_of (grown m more) ≤ rev - 1
         → IsMirrorOf log s b (grown m more)
     event_mirrors (Told t) h read told end =
         let same : t ≡ this = one t kind obj rev (told_as t (peer.Told kind obj rev) h read) in
@@ -168,7 +168,7 @@ module _ (log : Log) (ask : WatchAsk) (log_floor low b from : ℕ) (lines : List
   -- ---- a bookmark
 
   module _ (mark : ℕ) (more : List RevisionData) where
-    pub mark_follows : (line : Line) → On line → IsLine Pods text (peer.Bookmark mark false) → AreToldBy Pods kept (end_of m) more → end_of (grown m more) ≡ mark
+    pub mark_follows : (line : Line) → On line → IsPeerLine Pods text (peer.Bookmark mark false) → AreToldBy Pods kept (end_of m) more → end_of (grown m more) ≡ mark
         → Follows log s b from (lines ++ line ∷ []) (grown m more) (kept_after kept (Bookmark mark))
     mark_follows (Told t) h read told end = let same = told_as t (peer.Bookmark mark false) h read in absurd (cc)
     mark_follows (Bookmark at) h read told end =
@@ -179,7 +179,7 @@ module _ (log : Log) (ask : WatchAsk) (log_floor low b from : ℕ) (lines : List
     mark_follows (Closing at) h read told end = absurd (taken (Closing at) h)
     mark_follows (Lost at floor) h read told end = absurd (lost_no_mark at floor mark h read)
 
-    pub mark_mirrors : (line : Line) → On line → IsLine Pods text (peer.Bookmark mark false) → AreToldBy Pods kept (end_of m) more → end_of (grown m more) ≤ mark
+    pub mark_mirrors : (line : Line) → On line → IsPeerLine Pods text (peer.Bookmark mark false) → AreToldBy Pods kept (end_of m) more → end_of (grown m more) ≤ mark
         → IsMirrorOf log s b (grown m more)
     mark_mirrors (Told t) h read told end = let same = told_as t (peer.Bookmark mark false) h read in absurd (cc)
     mark_mirrors (Bookmark at) h read told end =

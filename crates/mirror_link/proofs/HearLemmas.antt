@@ -22,7 +22,7 @@ use Rattle.rev_log.specs.Logs.{Log, end_of, grown}
 use Rattle.select_all.specs.declared.selection.Selection.{Selection}
 use Rattle.select_all.specs.Streams.{TransitionData}
 use Rattle.watch_read.specs.Laws.{LinesReadBack, as_read}
-use Rattle.watch_read.specs.Lines.{IsLine, Reads}
+use Rattle.watch_read.specs.Lines.{IsPeerLine, ReadsPeerLine}
 use Rattle.watch_read.specs.declared.peer_line.PeerLine.{PeerLine}
 use Rattle.watch_read.specs.declared.peer_line.PeerLine.TheVariants as peer
 use Rattle.watch_rules.specs.declared.ask.WatchAsk.{WatchAsk}
@@ -80,7 +80,7 @@ module _ (old new : MirrorData) (text : List ℕ) (back : LinesReadBack) (mirror
   Met log ask log_floor low b from lines line = Premises log ask log_floor low b from lines line old.selection old.log old.kept text
 
   follows_whole : (log : Log) (ask : WatchAsk) (log_floor low b from : ℕ) (lines : List Line) (line heard : Line) → Met log ask log_floor low b from lines line
-      → IsLine Pods text (as_read heard) → line_fault (log_part old) (Some (as_read heard)) ≡ None → Takes (log_part old) heard (log_part new) → FollowsIn log b from (lines ++ line ∷ []) new
+      → IsPeerLine Pods text (as_read heard) → line_fault (log_part old) (Some (as_read heard)) ≡ None → Takes (log_part old) heard (log_part new) → FollowsIn log b from (lines ++ line ∷ []) new
   follows_whole log ask log_floor low b from lines line (Told t) met read good takes =
       let at : Follows log old.selection b from (lines ++ line ∷ []) (grown old.log takes.grows.more) (kept_after old.kept (Told t)) =
       event_follows log ask log_floor low b from lines old.selection old.log old.kept text t.kind t.obj t.rev takes.grows.more line met read takes.grows.told_by (sym (ap end_of takes.grows.log_is) ∙ takes.reached) in
@@ -93,7 +93,7 @@ module _ (old new : MirrorData) (text : List ℕ) (back : LinesReadBack) (mirror
   follows_whole log ask log_floor low b from lines line (Lost at floor) met read good takes = absurd (cc)
 
   mirrors_some : (log : Log) (ask : WatchAsk) (log_floor low b from : ℕ) (lines : List Line) (line heard : Line) → Met log ask log_floor low b from lines line
-      → IsLine Pods text (as_read heard) → line_fault (log_part old) (Some (as_read heard)) ≡ None → TakesSome (log_part old) heard (log_part new) → IsMirrorOf log old.selection b new.log
+      → IsPeerLine Pods text (as_read heard) → line_fault (log_part old) (Some (as_read heard)) ≡ None → TakesSome (log_part old) heard (log_part new) → IsMirrorOf log old.selection b new.log
   mirrors_some log ask log_floor low b from lines line (Told t) met read good takes =
       subst (λ (l : Log). IsMirrorOf log old.selection b l) (sym takes.grows.log_is)
       (event_mirrors log ask log_floor low b from lines old.selection old.log old.kept text t.kind t.obj t.rev takes.grows.more line met read takes.grows.told_by (omega (arith, ap end_of takes.grows.log_is, takes.within)))
@@ -104,9 +104,9 @@ module _ (old new : MirrorData) (text : List ℕ) (back : LinesReadBack) (mirror
   mirrors_some log ask log_floor low b from lines line (Lost at floor) met read good takes = absurd (cc)
 
   module _ (taken : List ℕ) (left : Option (List ℕ)) (read : ReadsText old.reading (old.reading.kept ++ taken) text new.reading) where
-    whole : (to : ℕ) (found : Option PeerLine) → Reads Pods text found → (takes : TakesRead (log_part old) found (log_part new)) → to ≡ end_of new.log → HearsLine old taken to new
+    whole : (to : ℕ) (found : Option PeerLine) → ReadsPeerLine Pods text found → (takes : TakesRead (log_part old) found (log_part new)) → to ≡ end_of new.log → HearsLine old taken to new
     whole to found reads takes to_is =
-        let is_line : IsLine Pods text (as_read takes.line) = subst (Reads Pods text) takes.is reads in
+        let is_line : IsPeerLine Pods text (as_read takes.line) = subst (ReadsPeerLine Pods text) takes.is reads in
         let good : line_fault (log_part old) (Some (as_read takes.line)) ≡ None = subst (λ (f : Option PeerLine). line_fault (log_part old) f ≡ None) takes.is takes.no_fault in
         record {
           reads = record {
@@ -123,9 +123,9 @@ module _ (old new : MirrorData) (text : List ℕ) (back : LinesReadBack) (mirror
           to_is = to_is;
         }
 
-    partly : (why : LinkNo) (found : Option PeerLine) → Reads Pods text found → (takes : TakesSomeRead (log_part old) found (log_part new)) → HearsSome old taken why new
+    partly : (why : LinkNo) (found : Option PeerLine) → ReadsPeerLine Pods text found → (takes : TakesSomeRead (log_part old) found (log_part new)) → HearsSome old taken why new
     partly why found reads takes =
-        let is_line : IsLine Pods text (as_read takes.line) = subst (Reads Pods text) takes.is reads in
+        let is_line : IsPeerLine Pods text (as_read takes.line) = subst (ReadsPeerLine Pods text) takes.is reads in
         let good : line_fault (log_part old) (Some (as_read takes.line)) ≡ None = subst (λ (f : Option PeerLine). line_fault (log_part old) f ≡ None) takes.is takes.no_fault in
         record {
           reads = record {
@@ -140,7 +140,7 @@ module _ (old new : MirrorData) (text : List ℕ) (back : LinesReadBack) (mirror
           takes = takes.takes;
         }
 
-    refused : (why : LinkNo) (found : Option PeerLine) → Reads Pods text found → line_fault (log_part old) found ≡ Some why → HasBadLine old taken why new
+    refused : (why : LinkNo) (found : Option PeerLine) → ReadsPeerLine Pods text found → line_fault (log_part old) found ≡ Some why → HasBadLine old taken why new
     refused why found reads fault = record { text = text; read = read; found = found; reads = reads; fault = fault }
 
     -- what is heard of the line

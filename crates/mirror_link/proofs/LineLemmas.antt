@@ -19,13 +19,13 @@ use Rattle.rev_log.specs.Changes.{RevisionData}
 use Rattle.rev_log.specs.Logs.{Log, end_of, grown}
 use Rattle.select_all.specs.Streams.{TransitionData}
 use Rattle.watch_read.specs.Laws.{as_read}
-use Rattle.watch_read.specs.Lines.{Reads}
+use Rattle.watch_read.specs.Lines.{ReadsPeerLine}
 use Rattle.watch_read.specs.declared.peer_line.PeerLine.{PeerLine}
 use Rattle.watch_read.specs.declared.peer_line.PeerLine.TheVariants as peer
 use Rattle.watch_rules.specs.Bodies.{Line, Bookmark}
 
 -- what is read of a text is within bounds
-pub bounded : (text : List ℕ) (found : Option PeerLine) → Reads Pods text found → IfSome found IsBounded
+pub bounded : (text : List ℕ) (found : Option PeerLine) → ReadsPeerLine Pods text found → IfSome found IsBounded
 bounded text None reads = tt
 bounded text (Some (peer.Told kind obj rev)) reads = reads.1.1
 bounded text (Some (peer.Bookmark at closing)) reads = reads.0.1

@@ -1,6 +1,6 @@
 -- How a mirror begins anew from an opening.
 use Rattle.std.proofs.Common.{◌≡◌, ℕ, ◌≤◌, List, [], Option, None, Some, Result, Ok, Err, IfSome, refl, sym, ap, ◌∙◌, subst}
-use Rattle.edge_io.specs.Told.{appended}
+use Rattle.edge_io.specs.Sent.{Sent, IsSentOn}
 use Rattle.kube_meta.specs.Names.{IsNamespace}
 use Rattle.kube_meta.specs.Rows.{RowData}
 use Rattle.kube_meta.specs.declared.resources.Resource.{Resource}
@@ -8,7 +8,7 @@ use Rattle.kube_meta.specs.declared.resources.Resource.TheVariants.{Pods}
 use Rattle.line_stream.specs.Readers.{ReaderData}
 use Rattle.mirror_law.proofs.FollowLemmas.{followings_begin_anew}
 use Rattle.mirror_link.specs.Refusals.{rebasing_refusal}
-use Rattle.mirror_link.specs.Reopening.{IsAnew, IsAsBefore, IsNotTaken, HasNone}
+use Rattle.mirror_link.specs.Reopening.{IsAnew, IsAsBefore, IsNotTaken, HasNone, TakesOpening}
 use Rattle.mirror_link.specs.Views.{MirrorData, IsMirror}
 use Rattle.mirror_link.specs.declared.heard.Heard.{Heard}
 use Rattle.mirror_link.proofs.CallLemmas.{view}
@@ -18,6 +18,7 @@ use Rattle.mirror_opening.specs.Asking.{IsAsked}
 use Rattle.mirror_opening.specs.Openings.{OpeningData, opened_lines}
 use Rattle.mirror_opening.specs.Reading.{HasNoOpening}
 use Rattle.mirror_opening.specs.declared.refusal.LinkNo.{LinkNo}
+use Rattle.mirror_opening.specs.declared.refusal.LinkNo.TheVariants.{WriteFault}
 use Rattle.mirror_store.specs.MirrorLogs.{MirrorLogData, Rests}
 use Rattle.mirror_store.specs.Rebasing.{IsRebased, Rebases}
 use Rattle.mirror_store.specs.declared.refusal.RebaseNo.{RebaseNo}
@@ -27,10 +28,19 @@ use Rattle.rev_log.specs.States.{IsStateAt}
 use Rattle.select_all.specs.Reading.{IsRead}
 use Rattle.select_all.specs.declared.selection.Selection.{Selection}
 
--- a request that was written whole was asked, whatever comes of it
-pub asked_whole : (text : List ℕ) (result : Result (Unit {0}) LinkNo) (old new : Option (List ℕ)) → new ≡ appended old text → IsAsked text result old new
-asked_whole text (Ok answer) old new sent = sent
-asked_whole text (Err why) old new sent = asked (Unit {0}) text why old new sent
+-- a request that was sent on was asked, whatever comes of its opening
+pub asked_whole : (old : MirrorData) (opening : OpeningData) (result : Result (Unit {0}) LinkNo) (new : MirrorData) (text : List ℕ) (sent : Sent)
+    → TakesOpening old opening result new → IsSentOn text sent → IsAsked result text sent
+asked_whole old opening (Ok u) new text sent takes is = is
+asked_whole old opening (Err why) new text sent takes is =
+    asked (Unit {0}) why text sent (λ fault. not_written (end_of old.log) opening.base takes.1.0 (sym takes.1.1 ∙ fault)) is
+  where
+    not_written : (to base : ℕ) (fault : RebaseNo) → ¬ (rebasing_refusal to base fault ≡ WriteFault)
+    not_written to base (rebase.Behind end) is = cc
+    not_written to base rebase.OtherLog is = cc
+    not_written to base rebase.TooFar is = cc
+    not_written to base (rebase.Passed at) is = cc
+    not_written to base rebase.Memory is = cc
 
 -- a log that doesn't begin anew rests
 pub rebase_rests : (old : MirrorLogData) (rows : List RowData) (base : ℕ) (why : RebaseNo) (new : MirrorLogData) → Rebases old rows base (Err why) new → Rests old new

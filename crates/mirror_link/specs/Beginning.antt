@@ -2,7 +2,7 @@
 use Rattle.std.specs.Prelude.{◌≡◌, ◌⊎◌, ℕ, List, [], Option, None, Result, Ok, Err}
 use Rattle.ask_watch.specs.Requests.{request_text}
 use Rattle.ask_watch.specs.declared.start.Start.TheVariants.{Revision}
-use Rattle.line_stream.specs.Heads.{BeginsChunks, RefusesHead, at_body}
+use Rattle.line_stream.specs.Heads.{BeginsChunks, RefusesResponse, at_body}
 use Rattle.line_stream.specs.Readers.{ReaderData}
 use Rattle.line_stream.specs.declared.refusal.LineNo.{LineNo}
 use Rattle.mirror_law.specs.Mirrors.{opened_log}
@@ -30,7 +30,7 @@ resume_request m = request_text m.selection.ns (Revision (end_of m.log)) m.label
 -- the bytes begin no chunked body, for this reason; or none was asked for, and nothing was taken
 abbrev pub BeginsNone : List ℕ → Option (List ℕ) → LinkNo → Type 0
 BeginsNone bytes left why =
-    ((fault : LineNo) × (why ≡ reading_refusal fault) × RefusesHead bytes left fault)
+    ((fault : LineNo) × (why ≡ reading_refusal fault) × RefusesResponse bytes left fault)
     ⊎ (((why ≡ WriteFault) ⊎ (why ≡ Memory)) × (bytes ≡ []))
 
 -- what a mirror's reading is once it has asked: at the beginning of a chunked body, without a bound

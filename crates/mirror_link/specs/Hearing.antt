@@ -11,7 +11,7 @@ use Rattle.line_stream.specs.Answers.{Faults}
 use Rattle.line_stream.specs.declared.refusal.LineNo.{LineNo}
 use Rattle.line_stream.specs.declared.place.Place.TheVariants as place
 use Rattle.watch_read.specs.Laws.{as_read}
-use Rattle.watch_read.specs.Lines.{Reads}
+use Rattle.watch_read.specs.Lines.{ReadsPeerLine}
 use Rattle.watch_read.specs.declared.peer_line.PeerLine.{PeerLine}
 use Rattle.mirror_law.specs.Mirrors.{IsMirrorOf}
 use Rattle.mirror_law.specs.Following.{Follows}
@@ -44,7 +44,7 @@ pub record ReadsLine (old : MirrorData) (taken : List ℕ) (result : Result Hear
 
 -- what was read is this line of a body, and nothing is wrong with it
 pub record IsHeardAs (old : MirrorData) (text : List ℕ) (line : Line) : Type 0 where
-  pub reads : Reads Pods text (Some (as_read line))
+  pub reads : ReadsPeerLine Pods text (Some (as_read line))
   pub no_fault : line_fault (log_part old) (Some (as_read line)) ≡ None
 
 -- it was heard whole
@@ -80,7 +80,7 @@ pub record HasBadLine (old : MirrorData) (taken : List ℕ) (why : LinkNo) (new 
   pub text : List ℕ
   pub read : ReadsText old.reading (old.reading.kept ++ taken) text new.reading
   pub found : Option PeerLine
-  pub reads : Reads Pods text found
+  pub reads : ReadsPeerLine Pods text found
   pub fault : line_fault (log_part old) found ≡ Some why
 
 -- the line feed stands behind a whole line, but there was no memory for what it tells

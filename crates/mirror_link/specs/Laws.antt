@@ -6,7 +6,7 @@ use Rattle.rev_log.specs.Logs.{Log}
 use Rattle.watch_rules.specs.declared.ask.WatchAsk.{WatchAsk}
 use Rattle.watch_rules.specs.Bodies.{Line, Told, Bookmark, Closing, Lost, BeginsBody}
 use Rattle.watch_texts.specs.Texts.{line_text}
-use Rattle.watch_read.specs.Lines.{Reads}
+use Rattle.watch_read.specs.Lines.{ReadsPeerLine}
 use Rattle.watch_read.specs.declared.peer_line.PeerLine.{PeerLine}
 use Rattle.mirror_link.specs.Hearing.{FollowsIn}
 use Rattle.mirror_link.specs.Lines.{line_fault}
@@ -32,5 +32,5 @@ IsLawfulFault (Lost at floor) fault = Unit {0}
 abbrev pub LawfulLinesAreHeard : Type 0
 LawfulLinesAreHeard =
     (peer : Log) (ask : WatchAsk) (log_floor low b from : ℕ) (lines : List Line) (line : Line) (m : MirrorData) (text : List ℕ) (found : Option PeerLine) →
-    IsMirror m → text ≡ line_text Whole Pods line → Reads Pods text found → IsPeer peer m.selection → IsAskOf m.selection ask from lines →
+    IsMirror m → text ≡ line_text Whole Pods line → ReadsPeerLine Pods text found → IsPeer peer m.selection → IsAskOf m.selection ask from lines →
     FollowsIn peer b from lines m → BeginsBody peer log_floor low ask from (lines ++ line ∷ []) → IsLawfulFault line (line_fault (log_part m) found)

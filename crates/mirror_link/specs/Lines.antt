@@ -3,7 +3,7 @@ use Rattle.std.specs.Prelude.{◌≡◌, ℕ, ◌^◌, ◌<◌, ◌≤◌, ◌�
 use Rattle.kube_meta.specs.declared.resources.Resource.TheVariants.{Pods}
 use Rattle.rev_log.specs.Logs.{end_of}
 use Rattle.watch_read.specs.Laws.{as_read}
-use Rattle.watch_read.specs.Lines.{Reads}
+use Rattle.watch_read.specs.Lines.{ReadsPeerLine}
 use Rattle.watch_read.specs.declared.peer_line.PeerLine.{PeerLine}
 use Rattle.watch_read.specs.declared.peer_line.PeerLine.TheVariants as peer
 use Rattle.watch_rules.specs.Bodies.{Line}
@@ -51,7 +51,7 @@ HearsRead old read (Err why) new = (line_fault old read ≡ Some why) × (new �
 
 -- and to its text
 abbrev pub HearsText : MirrorLogData → List ℕ → Result Heard LinkNo → MirrorLogData → Type 0
-HearsText old text (Ok (heard.Line to)) new = (found : Option PeerLine) × Reads Pods text found × HearsRead old found (Ok to) new
+HearsText old text (Ok (heard.Line to)) new = (found : Option PeerLine) × ReadsPeerLine Pods text found × HearsRead old found (Ok to) new
 HearsText old text (Ok (heard.Ended to)) new = ⊥
 HearsText old text (Err why) new =
-    ((why ≡ no.Memory) × (new ≡ old)) ⊎ ((found : Option PeerLine) × Reads Pods text found × HearsRead old found (Err why) new)
+    ((why ≡ no.Memory) × (new ≡ old)) ⊎ ((found : Option PeerLine) × ReadsPeerLine Pods text found × HearsRead old found (Err why) new)

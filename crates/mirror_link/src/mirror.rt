@@ -1,6 +1,8 @@
 //! Mirrors.
 
 ghost use Rattle.std.specs.Prelude.{◌≡◌, ◌++◌, ℕ, ◌≤◌, List, [], IsNone, IfOk, IfSome, OnOk, None, true};
+ghost use Rattle.ask_watch.specs.Answers.{Asks};
+ghost use Rattle.edge_io.specs.Sent.{sent_through};
 ghost use Rattle.edge_io.specs.Told.{prepended};
 ghost use Rattle.line_stream.specs.Readers.{HoldsLine};
 ghost use Rattle.mirror_law.specs.Mirrors.{IsMirrorOf};
@@ -10,7 +12,7 @@ ghost use Rattle.mirror_link.specs.Peers.{IsAskOf, IsPeer};
 ghost use Rattle.mirror_link.specs.Refusals as refusals;
 ghost use Rattle.mirror_link.specs.Reopening.{Reopens, TakesOpening, opening_request};
 ghost use Rattle.mirror_link.specs.Views.{IsMoved};
-ghost use Rattle.mirror_opening.specs.Asking.{CountsReads, CountsWrites, IsAsked};
+ghost use Rattle.mirror_opening.specs.Asking.{CountsReads, IsAsked};
 ghost use Rattle.mirror_opening.specs.Openings.{IsOpeningOf, opened_lines};
 ghost use Rattle.mirror_opening.specs.Reading.{Opens};
 ghost use Rattle.rev_log.specs.Changes.{RevisionData};
@@ -22,7 +24,7 @@ ghost use Rattle.watch_rules.specs.declared.ask.WatchAsk.{WatchAsk as Ask};
 use crate::Heard;
 use crate::lines::take_line;
 use crate::refusals::{kept_answer, rebasing_refusal};
-use ask_watch::{Start, ask_watch};
+use ask_watch::{AskNo, Start, ask_watch};
 use edge_io::{Sink, Source};
 use kube_meta::{Memory, Text};
 use line_stream::{LineReader, Step};
@@ -136,7 +138,6 @@ impl<N: LogFacts, R: Wait + Copy> Mirror<N, R> {
         ensures idle { HoldsLine self.old.reading → source.new ≡ source.old }
         ensures moved { IsMoved self.old self.new }
         ensures counted { CountsReads result (S.faults source.old) (S.faults source.new) }
-        ensures never_falls { S.faults source.old ≤ S.faults source.new }
     {
         lines_read_back();
         match self.reader.next_line(source) {
@@ -156,7 +157,6 @@ impl<N: LogFacts, R: Wait + Copy> Mirror<N, R> {
         ensures idle { HoldsLine self.old.reading → source.new ≡ source.old }
         ensures onward { (more : List RevisionData) × (self.new.log ≡ grown self.old.log more) }
         ensures counted { IsNone self.old.answer → CountsReads result (S.faults source.old) (S.faults source.new) }
-        ensures never_falls { S.faults source.old ≤ S.faults source.new }
     {
         if let Some(answer) = self.answer {
             return answer;
@@ -166,26 +166,31 @@ impl<N: LogFacts, R: Wait + Copy> Mirror<N, R> {
         heard
     }
 
-    // Asks for the stream again, and reads up to its body.
-    fn ask<S: Source, K: Sink>(&mut self, source: &mut S, sink: &mut K) -> Result<(), LinkNo>
-        requires kept { (self.old.reading.kept ≡ []) × (self.old.reading.room ≡ None) }
-        ensures asks { IsAsked (resume_request self.old) result (K.written sink.old) (K.written sink.new) }
-        ensures settled { OnOk result (K.settled sink.new) }
-        ensures reads { (taken : List ℕ) × (S.left source.old ≡ prepended taken (S.left source.new))
-            × Begins taken (S.left source.new) result self.new.reading }
-        ensures rest { self.new ≡ record self.old { reading = self.new.reading } }
-        ensures read_faults { CountsReads result (S.faults source.old) (S.faults source.new) }
-        ensures write_faults { CountsWrites result (K.faults sink.old) (K.faults sink.new) }
+    // Writes the request for what follows the log.
+    fn send_request<K: Sink>(&self, sink: &mut K) -> Result<(), AskNo>
+        ensures { Asks result (resume_request self.now) (sent_through K.written K.settled K.faults sink.old sink.new) }
     {
         let start = Start::Revision(self.log.to());
-        match ask_watch(
+        ask_watch(
             self.alloc,
             &self.log.selection().ns,
             start,
             self.label.as_str(),
             self.field.as_str(),
             sink,
-        ) {
+        )
+    }
+
+    // Asks for the stream again, and reads up to its body.
+    fn ask<S: Source, K: Sink>(&mut self, source: &mut S, sink: &mut K) -> Result<(), LinkNo>
+        requires kept { (self.old.reading.kept ≡ []) × (self.old.reading.room ≡ None) }
+        ensures asks { IsAsked result (resume_request self.old) (sent_through K.written K.settled K.faults sink.old sink.new) }
+        ensures reads { (taken : List ℕ) × (S.left source.old ≡ prepended taken (S.left source.new))
+            × Begins taken (S.left source.new) result self.new.reading }
+        ensures rest { self.new ≡ record self.old { reading = self.new.reading } }
+        ensures read_faults { CountsReads result (S.faults source.old) (S.faults source.new) }
+    {
+        match self.send_request(sink) {
             Ok(()) => {}
             Err(fault) => return Err(LinkNo::from(fault)),
         }
@@ -199,8 +204,7 @@ impl<N: LogFacts, R: Wait + Copy> Mirror<N, R> {
     /// Asks for the stream again over a new connection: a watch from the end of the mirror's log. What was read beyond,
     /// an unfinished line and the lines that are kept are forgotten, since the peer sends what is above that end again.
     pub fn resume<S: Source, K: Sink>(&mut self, source: &mut S, sink: &mut K) -> Result<(), LinkNo>
-        ensures asks { IsAsked (resume_request self.old) result (K.written sink.old) (K.written sink.new) }
-        ensures settled { OnOk result (K.settled sink.new) }
+        ensures asks { IsAsked result (resume_request self.old) (sent_through K.written K.settled K.faults sink.old sink.new) }
         ensures reads { (taken : List ℕ) × (S.left source.old ≡ prepended taken (S.left source.new))
             × Begins taken (S.left source.new) result self.new.reading }
         ensures log { self.new.log ≡ self.old.log }
@@ -211,7 +215,6 @@ impl<N: LogFacts, R: Wait + Copy> Mirror<N, R> {
         ensures follows { OnOk result ((peer : Log) (b : ℕ) → IsMirrorOf peer self.old.selection b self.old.log →
             FollowsIn peer b (end_of self.old.log) [] self.new) }
         ensures read_faults { CountsReads result (S.faults source.old) (S.faults source.new) }
-        ensures write_faults { CountsWrites result (K.faults sink.old) (K.faults sink.new) }
     {
         self.log.forget();
         self.reader = LineReader::open(self.alloc, 0);
@@ -230,13 +233,11 @@ impl<N: LogFacts, R: Wait + Copy> Mirror<N, R> {
         source: &mut S,
         sink: &mut K,
     ) -> Result<Opening, LinkNo>
-        ensures asks { IsAsked (opening_request self.now) result (K.written sink.old) (K.written sink.new) }
-        ensures settled { OnOk result (K.settled sink.new) }
+        ensures asks { IsAsked result (opening_request self.now) (sent_through K.written K.settled K.faults sink.old sink.new) }
         ensures reads { (taken : List ℕ) × (S.left source.old ≡ prepended taken (S.left source.new))
             × Opens self.now.selection taken (S.left source.new) result }
         ensures kept { IfOk result (λ o. o.selection ≡ self.now.selection) }
         ensures read_faults { CountsReads result (S.faults source.old) (S.faults source.new) }
-        ensures write_faults { CountsWrites result (K.faults sink.old) (K.faults sink.new) }
     {
         let Ok(selection) = self.log.selection().copy(self.alloc) else {
             return Err(LinkNo::Memory);
@@ -277,14 +278,12 @@ impl<N: LogFacts, R: Wait + Copy> Mirror<N, R> {
     /// any more. An opening that is behind the log's end, or doesn't fit what stands there, is of another log:
     /// [`LinkNo::OtherLog`].
     pub fn reopen<S: Source, K: Sink>(&mut self, source: &mut S, sink: &mut K) -> Result<(), LinkNo>
-        ensures asks { IsAsked (opening_request self.old) result (K.written sink.old) (K.written sink.new) }
-        ensures settled { OnOk result (K.settled sink.new) }
+        ensures asks { IsAsked result (opening_request self.old) (sent_through K.written K.settled K.faults sink.old sink.new) }
         ensures reads { (taken : List ℕ) × (S.left source.old ≡ prepended taken (S.left source.new))
             × Reopens self.old taken (S.left source.new) result self.new }
         ensures learns { Learns self.old.told self.new.told }
         ensures answer { self.new.answer ≡ refusals.asked_answer result }
         ensures read_faults { CountsReads result (S.faults source.old) (S.faults source.new) }
-        ensures write_faults { CountsWrites result (K.faults sink.old) (K.faults sink.new) }
     {
         match self.read_opening(source, sink) {
             Ok(opening) => self.take_opening(opening),

@@ -1,8 +1,7 @@
--- Answers, by the counts of faults and what was written.
+-- Answers, by the counts of faults and what was sent.
 use Rattle.std.proofs.Common.{◌≡◌, ℕ, List, [], Bool, true, false, Option, None, Some, Result, Ok, Err, refl, sym, ◌∙◌, inl, inr}
 use Rattle.std.specs.Prelude.{◌&&◌, if◌then◌else◌}
-use Rattle.edge_io.proofs.ToldLemmas.{AppendedSome-whole}
-use Rattle.edge_io.specs.Told.{appended}
+use Rattle.edge_io.specs.Sent.{Sent, IsSentOn}
 use Rattle.kube_meta.specs.Rows.{RowData}
 use Rattle.line_stream.specs.Answers.{Counts}
 use Rattle.line_stream.specs.declared.refusal.LineNo.{LineNo}
@@ -12,10 +11,11 @@ use Rattle.select_all.specs.declared.selection.Selection.{Selection}
 use Rattle.select_all.specs.Selecting.{selects}
 use Rattle.watch_read.specs.declared.peer_line.PeerLine.{PeerLine}
 use Rattle.watch_read.specs.declared.peer_line.PeerLine.TheVariants as peer
+use Rattle.ask_watch.specs.Answers.{Asks}
 use Rattle.ask_watch.specs.declared.asking.AskNo.{AskNo}
 use Rattle.ask_watch.specs.declared.asking.AskNo.TheVariants as ask
-use Rattle.mirror_opening.specs.Asking.{IsAsked, CountsReads, CountsWrites}
-use Rattle.mirror_opening.specs.Reading.{Adds, HasNoRows, HasNoOpening, opening_fault, is_next, are_upto}
+use Rattle.mirror_opening.specs.Asking.{IsAsked, CountsReads}
+use Rattle.mirror_opening.specs.Reading.{Adds, HasNoRows, HasNoOpening, opening_fault, is_above_last, are_upto}
 use Rattle.mirror_opening.specs.Refusals.{reading_refusal, asking_refusal}
 use Rattle.mirror_opening.specs.declared.refusal.LinkNo.{LinkNo}
 use Rattle.mirror_opening.specs.declared.refusal.LinkNo.TheVariants.{BadHead, BadChunk, BadLine, Order, Gap, Refused, Told, CutShort, ReadFault, WriteFault, TooLong, OtherLog, Passed, Memory}
@@ -49,39 +49,27 @@ quiet A OtherLog old new other same = same
 quiet A (Passed to at) old new other same = same
 quiet A Memory old new other same = same
 
--- a sink that was written to, and counted no fault
-pub quiet_sink : (A : Type 0) (why : LinkNo) (old new : ℕ) → ¬ (why ≡ WriteFault) → new ≡ old → CountsWrites {A = A} (Err why) old new
-quiet_sink A BadHead old new other same = same
-quiet_sink A BadChunk old new other same = same
-quiet_sink A BadLine old new other same = same
-quiet_sink A (Order last got) old new other same = same
-quiet_sink A (Gap last got) old new other same = same
-quiet_sink A (Refused code) old new other same = same
-quiet_sink A (Told code) old new other same = same
-quiet_sink A CutShort old new other same = same
-quiet_sink A ReadFault old new other same = same
-quiet_sink A WriteFault old new other same = absurd (other refl)
-quiet_sink A TooLong old new other same = same
-quiet_sink A OtherLog old new other same = same
-quiet_sink A (Passed to at) old new other same = same
-quiet_sink A Memory old new other same = same
+-- a request that was sent on
+pub asked : (A : Type 0) (why : LinkNo) (text : List ℕ) (sent : Sent) → ¬ (why ≡ WriteFault) → IsSentOn text sent → IsAsked {A = A} (Err why) text sent
+asked A BadHead text sent other is = is
+asked A BadChunk text sent other is = is
+asked A BadLine text sent other is = is
+asked A (Order last got) text sent other is = is
+asked A (Gap last got) text sent other is = is
+asked A (Refused code) text sent other is = is
+asked A (Told code) text sent other is = is
+asked A CutShort text sent other is = is
+asked A ReadFault text sent other is = is
+asked A WriteFault text sent other is = absurd (other refl)
+asked A TooLong text sent other is = is
+asked A OtherLog text sent other is = is
+asked A (Passed to at) text sent other is = is
+asked A Memory text sent other is = inr is
 
--- a request that was written whole
-pub asked : (A : Type 0) (text : List ℕ) (why : LinkNo) (old new : Option (List ℕ)) → new ≡ appended old text → IsAsked {A = A} text (Err why) old new
-asked A text BadHead old new sent = sent
-asked A text BadChunk old new sent = sent
-asked A text BadLine old new sent = sent
-asked A text (Order last got) old new sent = sent
-asked A text (Gap last got) old new sent = sent
-asked A text (Refused code) old new sent = sent
-asked A text (Told code) old new sent = sent
-asked A text CutShort old new sent = sent
-asked A text ReadFault old new sent = sent
-asked A text WriteFault old new sent = AppendedSome-whole old new text sent
-asked A text TooLong old new sent = sent
-asked A text OtherLog old new sent = sent
-asked A text (Passed to at) old new sent = sent
-asked A text Memory old new sent = AppendedSome-whole old new text sent
+-- and one that wasn't
+pub not_asked : (A : Type 0) (fault : AskNo) (text : List ℕ) (sent : Sent) → Asks (Err fault) text sent → IsAsked {A = A} (Err (asking_refusal fault)) text sent
+not_asked A ask.WriteFault text sent is = is
+not_asked A ask.Memory text sent is = inl is
 
 -- ---- what is wrong with a line is no fault of the ends
 
@@ -91,7 +79,7 @@ either false why is = cc
 
 pub bad : (s : Selection) (rows : List RowData) (found : Option PeerLine) (why : LinkNo) → opening_fault s rows found ≡ Some why → ¬ (why ≡ ReadFault)
 bad s rows None why is fault = cc
-bad s rows (Some (peer.Told Added obj rev)) why is fault = let bad_line = either (selects s obj && is_next rows obj.key) why is in cc
+bad s rows (Some (peer.Told Added obj rev)) why is fault = let bad_line = either (selects s obj && is_above_last rows obj.key) why is in cc
 bad s rows (Some (peer.Told Modified obj rev)) why is fault = cc
 bad s rows (Some (peer.Told Deleted obj rev)) why is fault = cc
 bad s rows (Some (peer.Bookmark at closing)) why is fault = let bad_line = either (closing && are_upto rows at) why is in cc
@@ -106,7 +94,7 @@ adds_quietly s rows found (Err why) later old new adds same =
 
 -- ---- a request that wasn't asked is no fault of what was read
 
-no_write : (fault : LineNo) → ¬ (reading_refusal fault ≡ WriteFault)
+pub no_write : (fault : LineNo) → ¬ (reading_refusal fault ≡ WriteFault)
 no_write line.BadHead is = cc
 no_write (line.Refused code) is = cc
 no_write line.BadChunk is = cc
@@ -119,7 +107,7 @@ no_write line.Memory is = cc
 
 bad_line : (s : Selection) (rows : List RowData) (found : Option PeerLine) (why : LinkNo) → opening_fault s rows found ≡ Some why → ¬ (why ≡ WriteFault)
 bad_line s rows None why is fault = cc
-bad_line s rows (Some (peer.Told Added obj rev)) why is fault = let that = either (selects s obj && is_next rows obj.key) why is in cc
+bad_line s rows (Some (peer.Told Added obj rev)) why is fault = let that = either (selects s obj && is_above_last rows obj.key) why is in cc
 bad_line s rows (Some (peer.Told Modified obj rev)) why is fault = cc
 bad_line s rows (Some (peer.Told Deleted obj rev)) why is fault = cc
 bad_line s rows (Some (peer.Bookmark at closing)) why is fault = let that = either (closing && are_upto rows at) why is in cc

@@ -12,7 +12,7 @@ use Rattle.std.proofs.lemmas.Cmp.{nat_list_cmp_total}
 use Rattle.std.proofs.lemmas.List.Elements.{All-from_recursion}
 use Rattle.std.proofs.lemmas.Bool.Decides.{nat_tests}
 use Rattle.kube_meta.specs.Rows.{RowData, key_of, AreRising}
-use Rattle.mirror_opening.specs.Reading.{is_next, are_upto}
+use Rattle.mirror_opening.specs.Reading.{is_above_last, are_upto}
 
 less : (o : Ordering) → is_lt o ≡ true → o ≡ Less
 less Less is = refl
@@ -25,7 +25,7 @@ last_of_more x y rows =
     ap (slice_get (x ∷ y ∷ rows)) n
 
 -- if a key is above that of the last row, it is above all
-above_all : (rows : List RowData) (key : List ℕ) → AreRising rows → is_next rows key ≡ true → AllByRecursion (λ (k : List ℕ). slice_cmp nat_cmp k key ≡ Less) (map key_of rows)
+above_all : (rows : List RowData) (key : List ℕ) → AreRising rows → is_above_last rows key ≡ true → AllByRecursion (λ (k : List ℕ). slice_cmp nat_cmp k key ≡ Less) (map key_of rows)
 unfolding IsStrictlySortedBy
 above_all [] key rising next = tt
 above_all (x ∷ []) key rising next = (less (slice_cmp nat_cmp (key_of x) key) next, tt)
@@ -48,7 +48,7 @@ map_push f [] x = refl
 map_push f (y ∷ xs) x = ap (λ rest. f y ∷ rest) (map_push f xs x)
 
 -- then the rows go on rising
-pub rising_push : (rows : List RowData) (row : RowData) → AreRising rows → is_next rows (key_of row) ≡ true → AreRising (rows ++ row ∷ [])
+pub rising_push : (rows : List RowData) (row : RowData) → AreRising rows → is_above_last rows (key_of row) ≡ true → AreRising (rows ++ row ∷ [])
 rising_push rows row rising next =
     subst (IsStrictlySortedBy (slice_cmp nat_cmp)) (sym (map_push key_of rows row)) (push_sorted (map key_of rows) (key_of row) rising (above_all rows (key_of row) rising next))
 

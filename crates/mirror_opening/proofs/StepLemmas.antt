@@ -8,14 +8,14 @@ use Rattle.kube_meta.specs.Rows.{RowData}
 use Rattle.line_stream.proofs.StandLemmas.{bodies-begin, parts-go-on, lines-go-on}
 use Rattle.edge_io.specs.Told.{prepended}
 use Rattle.edge_io.proofs.ToldLemmas.{prepended-prepended}
-use Rattle.line_stream.specs.Heads.{AnswersHead, BeginsChunks, RefusesHead, at_body}
+use Rattle.line_stream.specs.Heads.{AnswersHead, BeginsChunks, RefusesResponse, at_body}
 use Rattle.line_stream.specs.declared.refusal.LineNo.{LineNo}
 use Rattle.mirror_opening.specs.Refusals.{reading_refusal}
 use Rattle.line_stream.specs.Readers.{LinesData, ReaderData, ReadsText, Spends}
 use Rattle.select_all.specs.declared.selection.Selection.{Selection}
 use Rattle.select_all.specs.Selecting.{selects}
 use Rattle.watch_read.specs.Laws.{as_read}
-use Rattle.watch_read.specs.Lines.{IsLine, Reads}
+use Rattle.watch_read.specs.Lines.{IsPeerLine, ReadsPeerLine}
 use Rattle.watch_read.specs.Stored.{IsStored}
 use Rattle.watch_read.specs.declared.peer_line.PeerLine.{PeerLine}
 use Rattle.watch_rules.specs.Bodies.{Told, Closing, initial, initial_lines}
@@ -25,11 +25,11 @@ use Rattle.mirror_opening.proofs.RowLemmas.{rising_push, all_upto, map_push, zip
 
 -- a line that was read, and what it makes of the rows
 pub stepped : (s : Selection) (rows : List RowData) (old : ReaderData) (bytes : List ℕ) (left : Option (List ℕ)) (text : List ℕ) (new : ReaderData) (found : Option PeerLine)
-    (result : Result (Option ℕ) LinkNo) (later : List RowData) → ReadsText old bytes text new → Reads Pods text found → Adds s rows found result later → Steps s rows old bytes left result later new
+    (result : Result (Option ℕ) LinkNo) (later : List RowData) → ReadsText old bytes text new → ReadsPeerLine Pods text found → Adds s rows found result later → Steps s rows old bytes left result later new
 stepped s rows old bytes left text new found (Ok None) later read reads adds =
-    (text, adds.0, read, subst (Reads Pods text) adds.1 reads, adds.2, adds.3, adds.4)
+    (text, adds.0, read, subst (ReadsPeerLine Pods text) adds.1 reads, adds.2, adds.3, adds.4)
 stepped s rows old bytes left text new found (Ok (Some base)) later read reads adds =
-    (text, read, subst (Reads Pods text) adds.0 reads, adds.1, adds.2)
+    (text, read, subst (ReadsPeerLine Pods text) adds.0 reads, adds.1, adds.2)
 stepped s rows old bytes left text new found (Err why) later read reads adds = elim adds [
   | inl memory ↦ inl memory
   | inr fault ↦ inr (inr (record { text = text; read = read; found = found; reads = reads; fault = fault }))
@@ -52,7 +52,7 @@ module _ (s : Selection) (bytes taken : List ℕ) (left : Option (List ℕ)) (ro
     texts = has.texts ++ text ∷ [];
     stands = lines-go-on (Some most_opening) bytes taken text has.texts old new has.stands read;
     texts_are = subst (AreTexts (has.texts ++ text ∷ [])) (sym (map_push (λ row. Told (initial row)) rows row))
-        (zip_push (λ t line. IsLine Pods t (as_read line)) has.texts (initial_lines rows) text (Told (initial row)) has.texts_are is);
+        (zip_push (λ t line. IsPeerLine Pods t (as_read line)) has.texts (initial_lines rows) text (Told (initial row)) has.texts_are is);
     rows_are = record {
       rising = rising_push rows row has.rows_are.rising next;
       selected = All-push (λ r. IsTrue (selects s r.obj)) rows row has.rows_are.selected selected;
@@ -65,7 +65,7 @@ module _ (s : Selection) (bytes taken : List ℕ) (left : Option (List ℕ)) (ro
   rows_end base later new (text, read, is, later_is, upto) = subst (λ (l : List RowData). HasRowsAt s (bytes ++ taken) l base new) (sym later_is) (record {
     texts = has.texts ++ text ∷ [];
     stands = lines-go-on (Some most_opening) bytes taken text has.texts old new has.stands read;
-    texts_are = zip_push (λ t line. IsLine Pods t (as_read line)) has.texts (initial_lines rows) text (Closing base) has.texts_are is;
+    texts_are = zip_push (λ t line. IsPeerLine Pods t (as_read line)) has.texts (initial_lines rows) text (Closing base) has.texts_are is;
     rows_are = has.rows_are;
     old = all_upto rows base upto;
     told = is.0;
@@ -128,7 +128,7 @@ begun s old new taken left rows u empty room none (after, begins, is) =
 pub headless : (s : Selection) (old new : LinesData) (taken : List ℕ) (left : Option (List ℕ)) (fault : LineNo) (why : LinkNo) →
     old.at.kept ≡ [] → why ≡ reading_refusal fault → AnswersHead old (old.at.kept ++ taken) new left (Err fault) → HasNoRows s taken left why
 headless s old new taken left fault why empty why_is answers =
-    inr (inl (record { fault = fault; why_is = why_is; refused = subst (λ (kept : List ℕ). RefusesHead (kept ++ taken) left fault) empty answers.0 }))
+    inr (inl (record { fault = fault; why_is = why_is; refused = subst (λ (kept : List ℕ). RefusesResponse (kept ++ taken) left fault) empty answers.0 }))
 
 -- what was taken by two calls, one after the other
 pub taken_on : (first second : List ℕ) (a b c : Option (List ℕ)) → a ≡ prepended first b → b ≡ prepended second c → a ≡ prepended (first ++ second) c

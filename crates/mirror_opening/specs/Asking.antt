@@ -1,24 +1,20 @@
--- What was written of a request, and which faults were counted.
-use Rattle.std.specs.Prelude.{◌≡◌, ℕ, List, Option, Result, Ok, Err}
+-- What came of a request, and which faults were counted.
+use Rattle.std.specs.Prelude.{◌≡◌, ◌⊎◌, ℕ, List, [], Result, Ok, Err}
 use Rattle.edge_io.specs.Counts.{Rose}
-use Rattle.edge_io.specs.Told.{appended, AppendedSome}
+use Rattle.edge_io.specs.Sent.{Sent, IsWrittenOut, IsSentOn, IsBrokenOff}
 use Rattle.mirror_opening.specs.declared.refusal.LinkNo.{LinkNo}
 use Rattle.mirror_opening.specs.declared.refusal.LinkNo.TheVariants.{ReadFault, WriteFault, Memory}
 
--- all of it was written; where writing failed, or memory was wanting, a beginning of it
-abbrev pub IsAsked : {A : Type 0} → List ℕ → Result A LinkNo → Option (List ℕ) → Option (List ℕ) → Type 0
-IsAsked text (Ok answer) old new = new ≡ appended old text
-IsAsked text (Err WriteFault) old new = AppendedSome old new text
-IsAsked text (Err Memory) old new = AppendedSome old new text
-IsAsked text (Err why) old new = new ≡ appended old text
+-- the request was sent on; but where the sink failed it was broken off, and where memory was wanting, maybe nothing was
+-- written
+abbrev pub IsAsked : {A : Type 0} → Result A LinkNo → List ℕ → Sent → Type 0
+IsAsked (Ok answer) text sent = IsSentOn text sent
+IsAsked (Err WriteFault) text sent = IsBrokenOff text sent
+IsAsked (Err Memory) text sent = IsWrittenOut [] sent ⊎ IsSentOn text sent
+IsAsked (Err why) text sent = IsSentOn text sent
 
--- the source's count of faults rose where the answer says so, and else stayed; and the sink's
+-- the source's count of faults rose where the answer says so, and else stayed
 abbrev pub CountsReads : {A : Type 0} → Result A LinkNo → ℕ → ℕ → Type 0
 CountsReads (Ok answer) old new = new ≡ old
 CountsReads (Err ReadFault) old new = Rose old new
 CountsReads (Err why) old new = new ≡ old
-
-abbrev pub CountsWrites : {A : Type 0} → Result A LinkNo → ℕ → ℕ → Type 0
-CountsWrites (Ok answer) old new = new ≡ old
-CountsWrites (Err WriteFault) old new = Rose old new
-CountsWrites (Err why) old new = new ≡ old

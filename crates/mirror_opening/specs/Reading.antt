@@ -7,7 +7,7 @@ use Rattle.std.specs.Ordering.{nat_cmp, is_lt}
 use Rattle.kube_meta.specs.declared.resources.Resource.TheVariants.{Pods}
 use Rattle.kube_meta.specs.Rows.{RowData, key_of}
 use Rattle.line_stream.specs.Answers.{Faults}
-use Rattle.line_stream.specs.Heads.{RefusesHead}
+use Rattle.line_stream.specs.Heads.{RefusesResponse}
 use Rattle.line_stream.specs.Readers.{ReaderData, GoesOn, ReadsText}
 use Rattle.line_stream.specs.Standing.{Stands}
 use Rattle.line_stream.specs.declared.place.Place.TheVariants as place
@@ -16,7 +16,7 @@ use Rattle.select_all.specs.declared.selection.Kind.TheVariants.{Added, Modified
 use Rattle.select_all.specs.declared.selection.Selection.{Selection}
 use Rattle.select_all.specs.Selecting.{selects}
 use Rattle.watch_read.specs.Laws.{as_read}
-use Rattle.watch_read.specs.Lines.{IsLine, Reads}
+use Rattle.watch_read.specs.Lines.{IsPeerLine, ReadsPeerLine}
 use Rattle.watch_read.specs.Stored.{IsToldAt}
 use Rattle.watch_read.specs.declared.peer_line.PeerLine.{PeerLine}
 use Rattle.watch_read.specs.declared.peer_line.PeerLine.TheVariants as peer
@@ -32,13 +32,13 @@ most_opening = 1073741824
 
 -- each text is that of its line
 abbrev pub AreTexts : List (List ℕ) → List Line → Type 0
-AreTexts texts lines = AllZip (λ text line. IsLine Pods text (as_read line)) texts lines
+AreTexts texts lines = AllZip (λ text line. IsPeerLine Pods text (as_read line)) texts lines
 
 -- ---- the next line
 
 -- the key is above that of the last row
-abbrev pub is_next : List RowData → List ℕ → Bool
-is_next rows key = option_map_or (λ row. is_lt (slice_cmp nat_cmp (key_of row) key)) (slice_get rows (length rows - 1)) true
+abbrev pub is_above_last : List RowData → List ℕ → Bool
+is_above_last rows key = option_map_or (λ row. is_lt (slice_cmp nat_cmp (key_of row) key)) (slice_get rows (length rows - 1)) true
 
 -- none of the rows is younger than a revision
 abbrev pub are_upto : List RowData → ℕ → Bool
@@ -48,7 +48,7 @@ are_upto rows at = list_all (λ row. nat_le row.rev at) rows
 -- selected object whose key is above that of the last row, or the bookmark that ends them, above which none is
 abbrev pub opening_fault : Selection → List RowData → Option PeerLine → Option LinkNo
 opening_fault s rows None = Some no.BadLine
-opening_fault s rows (Some (peer.Told Added obj rev)) = if selects s obj && is_next rows obj.key then None else Some no.BadLine
+opening_fault s rows (Some (peer.Told Added obj rev)) = if selects s obj && is_above_last rows obj.key then None else Some no.BadLine
 opening_fault s rows (Some (peer.Told Modified obj rev)) = Some no.BadLine
 opening_fault s rows (Some (peer.Told Deleted obj rev)) = Some no.BadLine
 opening_fault s rows (Some (peer.Bookmark at closing)) = if closing && are_upto rows at then None else Some no.BadLine
@@ -65,7 +65,7 @@ pub record HasBadNext (s : Selection) (rows : List RowData) (old : ReaderData) (
   pub text : List ℕ
   pub read : ReadsText old bytes text new
   pub found : Option PeerLine
-  pub reads : Reads Pods text found
+  pub reads : ReadsPeerLine Pods text found
   pub fault : opening_fault s rows found ≡ Some why
 
 -- ---- a step
@@ -74,7 +74,7 @@ pub record HasBadNext (s : Selection) (rows : List RowData) (old : ReaderData) (
 abbrev pub Adds : Selection → List RowData → Option PeerLine → Result (Option ℕ) LinkNo → List RowData → Type 0
 Adds s rows found (Ok None) later =
     (row : RowData) × (found ≡ Some (as_read (Told (initial row)))) × (later ≡ rows ++ row ∷ [])
-    × IsTrue (selects s row.obj) × (is_next rows (key_of row) ≡ true)
+    × IsTrue (selects s row.obj) × (is_above_last rows (key_of row) ≡ true)
 Adds s rows found (Ok (Some base)) later = (found ≡ Some (as_read (Closing base))) × (later ≡ rows) × (are_upto rows base ≡ true)
 Adds s rows found (Err why) later = (why ≡ no.Memory) ⊎ (opening_fault s rows found ≡ Some why)
 
@@ -82,10 +82,10 @@ Adds s rows found (Err why) later = (why ≡ no.Memory) ⊎ (opening_fault s row
 -- neither
 abbrev pub Steps : Selection → List RowData → ReaderData → List ℕ → Option (List ℕ) → Result (Option ℕ) LinkNo → List RowData → ReaderData → Type 0
 Steps s rows old bytes left (Ok None) later new =
-    (text : List ℕ) × (row : RowData) × ReadsText old bytes text new × IsLine Pods text (as_read (Told (initial row)))
-    × (later ≡ rows ++ row ∷ []) × IsTrue (selects s row.obj) × (is_next rows (key_of row) ≡ true)
+    (text : List ℕ) × (row : RowData) × ReadsText old bytes text new × IsPeerLine Pods text (as_read (Told (initial row)))
+    × (later ≡ rows ++ row ∷ []) × IsTrue (selects s row.obj) × (is_above_last rows (key_of row) ≡ true)
 Steps s rows old bytes left (Ok (Some base)) later new =
-    (text : List ℕ) × ReadsText old bytes text new × IsLine Pods text (as_read (Closing base)) × (later ≡ rows) × (are_upto rows base ≡ true)
+    (text : List ℕ) × ReadsText old bytes text new × IsPeerLine Pods text (as_read (Closing base)) × (later ≡ rows) × (are_upto rows base ≡ true)
 Steps s rows old bytes left (Err why) later new =
     (why ≡ no.Memory) ⊎ (HasNoNext old bytes left why new ⊎ HasBadNext s rows old bytes why new)
 
@@ -124,7 +124,7 @@ pub record HasBadLine (s : Selection) (bytes : List ℕ) (why : LinkNo) : Type 0
   pub texts_are : AreTexts texts (initial_lines rows)
   pub rows_are : AreOpened s rows
   pub found : Option PeerLine
-  pub reads : Reads Pods text found
+  pub reads : ReadsPeerLine Pods text found
   pub fault : opening_fault s rows found ≡ Some why
 
 -- the rows that the bytes have, and the base at which they stand
@@ -140,7 +140,7 @@ pub record HasRowsAt (s : Selection) (bytes : List ℕ) (rows : List RowData) (b
 pub record HasNoHead (bytes : List ℕ) (left : Option (List ℕ)) (why : LinkNo) : Type 0 where
   pub fault : LineNo
   pub why_is : why ≡ reading_refusal fault
-  pub refused : RefusesHead bytes left fault
+  pub refused : RefusesResponse bytes left fault
 
 -- why the bytes, all that were taken, have no rows at a base: there was no memory; there is no head; behind some rows
 -- no line stands, or one that may not stand there

@@ -25,18 +25,18 @@ asking_refusal ask.WriteFault = WriteFault
 asking_refusal ask.Memory = Memory
 
 -- the bare name of a refusal, as it is printed
-abbrev pub name_of : LinkNo → List ℕ
-name_of BadHead = codes "BadHead"
-name_of BadChunk = codes "BadChunk"
-name_of BadLine = codes "BadLine"
-name_of (Order last got) = codes "Order"
-name_of (Gap last got) = codes "Gap"
-name_of (Refused code) = codes "Refused"
-name_of (Told code) = codes "Told"
-name_of CutShort = codes "CutShort"
-name_of ReadFault = codes "ReadFault"
-name_of WriteFault = codes "WriteFault"
-name_of TooLong = codes "TooLong"
-name_of OtherLog = codes "OtherLog"
-name_of (Passed to at) = codes "Passed"
-name_of Memory = codes "Memory"
+abbrev pub refusal_name : LinkNo → List ℕ
+refusal_name BadHead = codes "BadHead"
+refusal_name BadChunk = codes "BadChunk"
+refusal_name BadLine = codes "BadLine"
+refusal_name (Order last got) = codes "Order"
+refusal_name (Gap last got) = codes "Gap"
+refusal_name (Refused code) = codes "Refused"
+refusal_name (Told code) = codes "Told"
+refusal_name CutShort = codes "CutShort"
+refusal_name ReadFault = codes "ReadFault"
+refusal_name WriteFault = codes "WriteFault"
+refusal_name TooLong = codes "TooLong"
+refusal_name OtherLog = codes "OtherLog"
+refusal_name (Passed to at) = codes "Passed"
+refusal_name Memory = codes "Memory"

@@ -19,7 +19,7 @@ use watch_read::{PeerLine, read_line};
 
 // Whether the key is above that of the last row.
 fn is_next(rows: &[Row], key: &Key) -> bool
-    ensures { result ≡ reading.is_next rows.now key.now }
+    ensures { result ≡ reading.is_above_last rows.now key.now }
 {
     match rows.last() {
         Some(row) => row.obj.key < *key,
@@ -115,7 +115,6 @@ fn next_row<S: Source>(
     ensures reads { (taken : List ℕ) × (S.left source.old ≡ prepended taken (S.left source.new))
         × Steps selection.now rows.old.items reader.old.at (reader.old.at.kept ++ taken) (S.left source.new) result rows.new.items reader.new.at }
     ensures counted { CountsReads result (S.faults source.old) (S.faults source.new) }
-    ensures never_falls { S.faults source.old ≤ S.faults source.new }
 {
     match reader.next_line(source) {
         Ok(Step::Line) => {}
@@ -141,7 +140,6 @@ pub(crate) fn read_rows<S: Source>(
     ensures reads { (taken : List ℕ) × (S.left source.old ≡ prepended taken (S.left source.new))
         × ReadsRows selection.now taken (S.left source.new) result rows.new.items reader.new.at }
     ensures counted { CountsReads result (S.faults source.old) (S.faults source.new) }
-    ensures never_falls { S.faults source.old ≤ S.faults source.new }
 {
     match reader.read_head(source) {
         Ok(()) => {}

@@ -1,12 +1,13 @@
 //! Openings.
 
-ghost use Rattle.std.specs.Prelude.{◌≡◌, ◌++◌, ℕ, List, [], ◌≤◌, IfOk, IfSome, OnOk};
+ghost use Rattle.std.specs.Prelude.{◌≡◌, ◌++◌, ℕ, List, [], ◌≤◌, IfOk, IfSome};
+ghost use Rattle.edge_io.specs.Sent.{sent_through};
 ghost use Rattle.edge_io.specs.Told.{prepended};
 ghost use Rattle.kube_meta.specs.Names.{IsNamespace};
 ghost use Rattle.kube_meta.specs.declared.resources.Resource.TheVariants.{Pods};
 ghost use Rattle.select_all.specs.Reading.{IsRead};
 ghost use Rattle.ask_watch.specs.Requests.{request_text};
-ghost use Rattle.mirror_opening.specs.Asking.{CountsReads, CountsWrites, IsAsked};
+ghost use Rattle.mirror_opening.specs.Asking.{CountsReads, IsAsked};
 ghost use Rattle.mirror_opening.specs.Openings.{IsOpeningOf};
 ghost use Rattle.mirror_opening.specs.Reading.{Opens};
 
@@ -72,15 +73,12 @@ impl Opening {
         requires pods { selection.resource ≡ Pods }
         requires read { IsRead Pods selection.ns label.now field.now selection }
         requires namespace { IfSome selection.ns IsNamespace }
-        ensures asks { IsAsked (request_text selection.ns Start.State label.now field.now) result (K.written sink.old) (K.written sink.new) }
-        ensures settled { OnOk result (K.settled sink.new) }
+        ensures asks { IsAsked result (request_text selection.ns Start.State label.now field.now)
+            (sent_through K.written K.settled K.faults sink.old sink.new) }
         ensures reads { (taken : List ℕ) × (S.left source.old ≡ prepended taken (S.left source.new))
             × Opens selection taken (S.left source.new) result }
         ensures kept { IfOk result (λ o. (o.selection ≡ selection) × (o.label ≡ label.now) × (o.field ≡ field.now)) }
         ensures read_faults { CountsReads result (S.faults source.old) (S.faults source.new) }
-        ensures write_faults { CountsWrites result (K.faults sink.old) (K.faults sink.new) }
-        ensures source_never_falls { S.faults source.old ≤ S.faults source.new }
-        ensures sink_never_falls { K.faults sink.old ≤ K.faults sink.new }
     {
         let Ok(kept_label) = Text::new(alloc, label) else {
             return Err(LinkNo::Memory);

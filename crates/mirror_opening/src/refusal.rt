@@ -43,7 +43,7 @@ pub enum LinkNo {
 impl LinkNo {
     /// The bare name, as it is printed.
     pub fn name(self) -> &'static str
-        ensures { result.now ≡ refusals.name_of self }
+        ensures { result.now ≡ refusals.refusal_name self }
     {
         match self {
             LinkNo::BadHead => "BadHead",

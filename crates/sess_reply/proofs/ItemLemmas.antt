@@ -1,10 +1,12 @@
 -- The items of a list, one after the other.
-use Rattle.std.proofs.Common.{◌≡◌, ℕ, suc, ◌+◌, ◌<◌, List, [], ◌∷◌, ◌++◌, length, map, take, drop, get_or, refl, sym, ap, ◌∙◌, length-append, arith, None, Some}
+use Rattle.std.proofs.Common.{◌≡◌, ℕ, suc, ◌+◌, ◌<◌, List, [], ◌∷◌, ◌++◌, length, map, take, drop, get_or, refl, sym, ap, subst, ◌∙◌, length-append, arith, None, Some}
 use Rattle.std.specs.List.{flat_map}
 use Rattle.std.specs.Option.{SomeIff, IfSome}
 use Rattle.std.specs.Prelude.{Option}
-use Rattle.edge_io.specs.Told.{appended, AppendedSome}
 use Rattle.edge_io.proofs.PieceLemmas.{AppendedSome-inside, flat_map-at}
+use Rattle.edge_io.specs.Counts.{Rose}
+use Rattle.edge_io.specs.Sent.{IsWrittenOut, IsBrokenOff}
+use Rattle.edge_io.proofs.SentLemmas.{bytes_of}
 use Rattle.json_obj.specs.Replies.{later_items, list_front, list_back}
 use Rattle.kube_meta.specs.Rows.{RowData}
 use Rattle.kube_meta.specs.declared.resources.Resource.{Resource}
@@ -40,14 +42,16 @@ module _ {X : Type 0} (form : Form) (row : X → RowData) (items : List X) (firs
       let whole = ap length rows_text-cons ∙ length-append text (flat_map (λ x. 44 ∷ shown_row form (row x)) later) in
       omega (arith, whole)
 
--- a beginning of one item is one of all
-pub item_broken : {X : Type 0} (f : X → List ℕ) (items : List X) (i : ℕ) (item : X) (old mid new : Option (List ℕ)) (text : List ℕ)
+-- where one item is broken off, all are
+pub item-broken : {X : Type 0} (f : X → List ℕ) (items : List X) (i : ℕ) (item : X) (a b c : Option (List ℕ)) (k l m : ℕ) (text : List ℕ)
     → i < length items → item ≡ get_or items i item → text ≡ f item
-    → mid ≡ appended old (flat_map f (take i items)) → AppendedSome mid new text → AppendedSome old new (flat_map f items)
-item_broken f items i item old mid new text h is shows e p =
-    AppendedSome-inside old mid new (flat_map f (take i items)) text (flat_map f (drop (suc i) items)) (flat_map f items) e p
-    (flat_map-at f items i item h
-    ∙ ap (λ t. flat_map f (take i items) ++ (t ++ flat_map f (drop (suc i) items))) (sym (ap f is) ∙ sym shows))
+    → IsWrittenOut (flat_map f (take i items)) (bytes_of a b k l) → IsBrokenOff text (bytes_of b c l m) → IsBrokenOff (flat_map f items) (bytes_of a c k m)
+item-broken f items i item a b c k l m text h is shows before p = (
+  AppendedSome-inside a b c (flat_map f (take i items)) text (flat_map f (drop (suc i) items)) (flat_map f items) before.0 p.0
+      (flat_map-at f items i item h
+      ∙ ap (λ t. flat_map f (take i items) ++ (t ++ flat_map f (drop (suc i) items))) (sym (ap f is) ∙ sym shows)),
+  subst (λ n. Rose n m) before.1 p.1,
+)
 
 -- a list, from what stands before its items and what stands after them
 pub listed_text : (form : Form) (resource : Resource) (listed : ListedData) (front back : List ℕ)

@@ -1,79 +1,107 @@
--- A reply's head, and then its body.
-use Rattle.std.proofs.Common.{◌≡◌, ℕ, List, [], ◌∷◌, ◌++◌, Bool, length, sym, ap, ◌∙◌, subst, Ok, Err, Some}
-use Rattle.std.specs.Prelude.{Option, Result, OnOk, OnErr}
-use Rattle.edge_io.specs.Told.{appended, AppendedSome}
-use Rattle.edge_io.proofs.ToldLemmas.{AppendedSome-first, AppendedSome-second, appended-appended}
-use Rattle.http_send.specs.Replies.{typed_head_text, typed_reply_text}
+-- What calls come to that emit a text or send it, one after another.
+use Rattle.std.proofs.Common.{◌≡◌, ◌≤◌, ℕ, List, [], ◌∷◌, ◌++◌, Bool, refl, sym, ap, ◌∙◌, subst, append-nil, Ok, Err, Some}
+use Rattle.std.specs.Prelude.{Option, Result, OnOk, IsErrAnd}
+use Rattle.edge_io.specs.Counts.{Rose}
+use Rattle.edge_io.proofs.ToldLemmas.{AppendedSome-second, AppendedSome-first, AppendedSome-nil, appended-nil}
+use Rattle.http_send.specs.Replies.{typed_reply_text}
+use Rattle.edge_io.specs.Sent.{Sent, IsWrittenOut, IsBrokenOff}
 use Rattle.http_send.specs.declared.replies.ContentType.{ContentType}
+use Rattle.edge_io.proofs.SentLemmas.{sent_of, bytes_of, written-behind, broken-behind}
 use Rattle.api_errors.specs.declared.failures.Failure.{Failure}
-use Rattle.sess_reply.specs.Contents.{Content, refusal}
-use Rattle.sess_reply.specs.Replies.{text_of}
+use Rattle.sess_reply.specs.Contents.{Content, refusal_content}
+use Rattle.sess_reply.specs.Replies.{content_text}
+use Rattle.sess_reply.specs.Sending.{Emits, Sends}
+use Rattle.sess_reply.specs.declared.broken.Broken.{Broken}
+use Rattle.sess_reply.specs.declared.broken.Broken.TheVariants.{Fault, Memory}
 
--- two texts went out, one after the other
-pub both_sent : {A E : Type 0} (r : Result A E) (old mid new : Option (List ℕ)) (first second : List ℕ)
-    → mid ≡ appended old first → OnOk r (new ≡ appended mid second) → OnOk r (new ≡ appended old (first ++ second))
-both_sent (Ok v) old mid new first second e f = f ∙ ap (λ m. appended m second) e ∙ appended-appended old first second
-both_sent (Err x) old mid new first second e f = tt
+-- ---- one text
 
--- a text in two parts
-module _ (old : Option (List ℕ)) (whole first second : List ℕ) (parts : whole ≡ first ++ second) where
-  pub first_broken : (new : Option (List ℕ)) → AppendedSome old new first → AppendedSome old new whole
-  first_broken new p = subst (AppendedSome old new) (sym parts) (AppendedSome-first old new first second p)
+-- what is held back was sent on, or that failed
+pub flushed : (a b : Option (List ℕ)) (f g : ℕ) → b ≡ a → g ≡ f → IsWrittenOut [] (bytes_of a b f g)
+flushed a b f g kept quiet = (kept ∙ sym (appended-nil a), quiet)
 
-  pub second_sent : {A E : Type 0} (r : Result A E) (mid new : Option (List ℕ)) → mid ≡ appended old first → OnOk r (new ≡ appended mid second)
-      → OnOk r (new ≡ appended old whole)
-  second_sent (Ok v) mid new e f = f ∙ ap (λ m. appended m second) e ∙ appended-appended old first second ∙ ap (appended old) (sym parts)
-  second_sent (Err x) mid new e f = tt
+pub flush-broken : (a b : Option (List ℕ)) (f g : ℕ) → b ≡ a → Rose f g → IsBrokenOff [] (bytes_of a b f g)
+flush-broken a b f g kept rose = (([], [], refl, kept ∙ sym (appended-nil a)), rose)
 
-  pub second_broken : {A E : Type 0} (r : Result A E) (mid new : Option (List ℕ)) → mid ≡ appended old first
-      → OnErr r (AppendedSome mid new second) → OnErr r (AppendedSome old new whole)
-  second_broken (Ok v) mid new e p = tt
-  second_broken (Err x) mid new e p = subst (AppendedSome old new) (sym parts) (AppendedSome-second old mid new first second e p)
+-- a call that the sink failed broke its text off
+pub emits-broken : {A : Type 0} (r : Result A Broken) (text : List ℕ) (sent : Sent)
+    → IsErrAnd r (λ why. why ≡ Fault) → IsBrokenOff text sent → Emits r text sent
+emits-broken (Ok v) text sent failed p = absurd failed
+emits-broken (Err Fault) text sent failed p = p
+emits-broken (Err Memory) text sent failed p = absurd (cc)
 
--- a reply's head, and then its body
-module _ (kind : ContentType) (code : ℕ) (retry close : Bool) (n : ℕ) (body : List ℕ) (counted : n ≡ length body) (old : Option (List ℕ)) where
-  pub head_broken : (new : Option (List ℕ)) → AppendedSome old new (typed_head_text kind code retry close n) → AppendedSome old new (typed_reply_text kind code retry close body)
-  head_broken new p =
-      AppendedSome-first old new (typed_head_text kind code retry close (length body)) body
-      (subst (λ m. AppendedSome old new (typed_head_text kind code retry close m)) counted p)
+pub sends-broken : {A : Type 0} (r : Result A Broken) (text : List ℕ) (sent : Sent)
+    → IsErrAnd r (λ why. why ≡ Fault) → IsBrokenOff text sent → Sends r text sent
+sends-broken (Ok v) text sent failed p = absurd failed
+sends-broken (Err Fault) text sent failed p = (p, tt)
+sends-broken (Err Memory) text sent failed p = absurd (cc)
 
-  pub body_sent : {A E : Type 0} (r : Result A E) (mid new : Option (List ℕ)) → mid ≡ appended old (typed_head_text kind code retry close n)
-      → OnOk r (new ≡ appended mid body) → OnOk r (new ≡ appended old (typed_reply_text kind code retry close body))
-  body_sent r mid new e f =
-      both_sent r old mid new (typed_head_text kind code retry close (length body)) body
-      (e ∙ ap (λ m. appended old (typed_head_text kind code retry close m)) counted) f
+-- a call that had no memory before anything was written
+pub sends-nothing : {A : Type 0} (r : Result A Broken) (a : Option (List ℕ)) (s : Type 0) (f : ℕ) (text : List ℕ)
+    → IsErrAnd r (λ why. why ≡ Memory) → Sends r text (sent_of a a s s f f)
+sends-nothing (Ok v) a s f text failed = absurd failed
+sends-nothing (Err Fault) a s f text failed = absurd (cc)
+sends-nothing (Err Memory) a s f text failed = ((AppendedSome-nil a text, refl), tt)
 
-  pub body_broken : {A E : Type 0} (r : Result A E) (mid new : Option (List ℕ)) → mid ≡ appended old (typed_head_text kind code retry close n)
-      → OnErr r (AppendedSome mid new body) → OnErr r (AppendedSome old new (typed_reply_text kind code retry close body))
-  body_broken (Ok v) mid new e f = tt
-  body_broken (Err x) mid new e f =
-      AppendedSome-second old mid new (typed_head_text kind code retry close (length body)) body
-      (e ∙ ap (λ m. appended old (typed_head_text kind code retry close m)) counted) f
+-- a call that passes an error on
+pub emits-error : (A : Type 0) {B : Type 0} (r : Result B Broken) (why : Broken) (text : List ℕ) (sent : Sent)
+    → IsErrAnd r (λ e. e ≡ why) → Emits {A = A} (Err why) text sent → Emits r text sent
+emits-error A (Ok v) why text sent failed p = absurd failed
+emits-error A (Err Fault) Fault text sent failed p = p
+emits-error A (Err Fault) Memory text sent failed p = absurd (cc)
+emits-error A (Err Memory) Fault text sent failed p = absurd (cc)
+emits-error A (Err Memory) Memory text sent failed p = p
 
--- what was written is a content's text
-module _ (kind : ContentType) (code : ℕ) (retry close : Bool) (text : List ℕ) (content : Content) (kind_is : kind ≡ content.kind)
-    (code_is : code ≡ content.code) (retry_is : retry ≡ content.retry) (text_is : text ≡ content.text) where
-  text_same : typed_reply_text kind code retry close (text ++ 10 ∷ []) ≡ text_of close (Some content)
-  text_same =
-      ap (λ k. typed_reply_text k code retry close (text ++ 10 ∷ [])) kind_is
-      ∙ ap (λ c. typed_reply_text content.kind c retry close (text ++ 10 ∷ [])) code_is
-      ∙ ap (λ b. typed_reply_text content.kind content.code b close (text ++ 10 ∷ [])) retry_is
-      ∙ ap (λ t. typed_reply_text content.kind content.code content.retry close (t ++ 10 ∷ [])) text_is
+pub sends-error : (A : Type 0) {B : Type 0} (r : Result B Broken) (why : Broken) (text : List ℕ) (sent : Sent)
+    → IsErrAnd r (λ e. e ≡ why) → Emits {A = A} (Err why) text sent → Sends r text sent
+sends-error A (Ok v) why text sent failed p = absurd failed
+sends-error A {B} (Err e) why text sent failed p = (emits-error A {B = B} (Err e) why text sent failed p, tt)
 
-  pub content_sent : {A E : Type 0} (r : Result A E) (old new : Option (List ℕ))
-      → OnOk r (new ≡ appended old (typed_reply_text kind code retry close (text ++ 10 ∷ []))) → OnOk r (new ≡ appended old (text_of close (Some content)))
-  content_sent r old new p = subst (λ t. OnOk r (new ≡ appended old t)) text_same p
+-- the text is this one
+pub emits-as : {A : Type 0} (r : Result A Broken) (text other : List ℕ) (sent : Sent) → text ≡ other → Emits r text sent → Emits r other sent
+emits-as r text other sent same p = subst (λ t. Emits r t sent) same p
 
-  pub content_broken : {A E : Type 0} (r : Result A E) (old new : Option (List ℕ))
-      → OnErr r (AppendedSome old new (typed_reply_text kind code retry close (text ++ 10 ∷ []))) → OnErr r (AppendedSome old new (text_of close (Some content)))
-  content_broken r old new p = subst (λ t. OnErr r (AppendedSome old new t)) text_same p
+pub sends-as : {A : Type 0} (r : Result A Broken) (text other : List ℕ) (sent : Sent) → text ≡ other → Sends r text sent → Sends r other sent
+sends-as r text other sent same p = subst (λ t. Sends r t sent) same p
 
--- what was written is what is told
-module _ (close : Bool) (told other : Option Failure) (same : told ≡ other) where
-  pub told_sent : {A E : Type 0} (r : Result A E) (old new : Option (List ℕ))
-      → OnOk r (new ≡ appended old (text_of close (refusal told))) → OnOk r (new ≡ appended old (text_of close (refusal other)))
-  told_sent r old new p = subst (λ t. OnOk r (new ≡ appended old (text_of close (refusal t)))) same p
+-- ---- a text in two parts
 
-  pub told_broken : {A E : Type 0} (r : Result A E) (old new : Option (List ℕ))
-      → OnErr r (AppendedSome old new (text_of close (refusal told))) → OnErr r (AppendedSome old new (text_of close (refusal other)))
-  told_broken r old new p = subst (λ t. OnErr r (AppendedSome old new (text_of close (refusal t)))) same p
+-- a call that failed in the first part
+pub emits-first : (A : Type 0) (why : Broken) (first second : List ℕ) (sent : Sent) → Emits {A = A} (Err why) first sent → Emits {A = A} (Err why) (first ++ second) sent
+emits-first A why first second sent p = (AppendedSome-first sent.written_old sent.written_new first second p.0, p.1)
+
+-- a call in the second part, where the first is written out
+pub emits-behind : {A : Type 0} (r : Result A Broken) (a b c : Option (List ℕ)) (s t u : Type 0) (f g h : ℕ) (first second : List ℕ)
+    → IsWrittenOut first (bytes_of a b f g) → Emits r second (sent_of b c t u g h) → Emits r (first ++ second) (sent_of a c s u f h)
+emits-behind (Ok v) a b c s t u f g h first second before p = written-behind a b c f g h first second before p
+emits-behind (Err Fault) a b c s t u f g h first second before p = broken-behind a b c f g h first second before p
+emits-behind (Err Memory) a b c s t u f g h first second before p = (AppendedSome-second a b c first second before.0 p.0, p.1 ∙ before.1)
+
+pub sends-behind : {A : Type 0} (r : Result A Broken) (a b c : Option (List ℕ)) (s t u : Type 0) (f g h : ℕ) (first second : List ℕ)
+    → IsWrittenOut first (bytes_of a b f g) → Sends r second (sent_of b c t u g h) → Sends r (first ++ second) (sent_of a c s u f h)
+sends-behind r a b c s t u f g h first second before p = (emits-behind r a b c s t u f g h first second before p.0, p.1)
+
+-- what is written out is sent on
+pub sends-on : {A : Type 0} (r : Result A Broken) (a b c : Option (List ℕ)) (s t u : Type 0) (f g h : ℕ) (text : List ℕ)
+    → IsWrittenOut text (bytes_of a b f g) → Sends r [] (sent_of b c t u g h) → Sends r text (sent_of a c s u f h)
+sends-on r a b c s t u f g h text before p =
+    sends-as r (text ++ []) text (sent_of a c s u f h) (append-nil text) (sends-behind r a b c s t u f g h text [] before p)
+
+-- ---- replies
+
+-- what is sent is a content's text
+pub content-sends : {A : Type 0} (r : Result A Broken) (sent : Sent) (kind : ContentType) (code : ℕ) (retry close : Bool) (text : List ℕ) (content : Content)
+    → kind ≡ content.kind → code ≡ content.code → retry ≡ content.retry → text ≡ content.text
+    → Sends r (typed_reply_text kind code retry close (text ++ 10 ∷ [])) sent → Sends r (content_text close (Some content)) sent
+content-sends r sent kind code retry close text content kind_is code_is retry_is text_is p =
+    sends-as r (typed_reply_text kind code retry close (text ++ 10 ∷ [])) (content_text close (Some content)) sent
+    (ap (λ k. typed_reply_text k code retry close (text ++ 10 ∷ [])) kind_is
+    ∙ ap (λ c. typed_reply_text content.kind c retry close (text ++ 10 ∷ [])) code_is
+    ∙ ap (λ b. typed_reply_text content.kind content.code b close (text ++ 10 ∷ [])) retry_is
+    ∙ ap (λ t. typed_reply_text content.kind content.code content.retry close (t ++ 10 ∷ [])) text_is)
+    p
+
+-- what is sent is what is told
+pub told-sends : {A : Type 0} (r : Result A Broken) (sent : Sent) (close : Bool) (told other : Option Failure) → told ≡ other
+    → Sends r (content_text close (refusal_content told)) sent → Sends r (content_text close (refusal_content other)) sent
+told-sends r sent close told other same p = subst (λ t. Sends r (content_text close (refusal_content t)) sent) same p

@@ -21,7 +21,7 @@ use Rattle.up_store.specs.declared.transactions.TxWriteNo.{TxWriteNo}
 use Rattle.up_store.specs.declared.transactions.TxWriteNo.TheVariants as transaction
 use Rattle.up_store.specs.declared.operations.OpNo.{OpNo}
 use Rattle.api_errors.specs.Reasons.{code_of, is_too_large}
-use Rattle.api_errors.specs.Failures.{refusal_of, not_found, used_up, read_only, expired, too_large}
+use Rattle.api_errors.specs.Failures.{failure_status, not_found, revisions_used_up, read_only, expired, too_large}
 use Rattle.api_errors.specs.Writes.{write_told, operation_told}
 use Rattle.api_errors.specs.declared.failures.Failure.{Failure}
 use Rattle.meta_view.specs.Lines.{shown, version_in, list_kind_in}
@@ -46,19 +46,19 @@ said code json = Some (record { code = code; retry = false; kind = Json; text = 
 
 -- a refusal says its Status; a revision that isn't reached yet is to be asked for again
 abbrev pub refused : Failure → Content
-refused told = record { code = code_of told.reason; retry = is_too_large told.reason; kind = Json; text = status_text (refusal_of told) }
+refused told = record { code = code_of told.reason; retry = is_too_large told.reason; kind = Json; text = status_text (failure_status told) }
 
 -- what is said of a failure, if it is one that is told; of want of memory nothing is said
-abbrev pub refusal : Option Failure → Option Content
-refusal told = option_map refused told
+abbrev pub refusal_content : Option Failure → Option Content
+refusal_content told = option_map refused told
 
 -- an object in a form, at its row's revision
 abbrev pub shown_row : Form → RowData → List ℕ
 shown_row form row = shown form row.obj row.rev
 
 -- what says a number alone, as JSON, with 200
-abbrev pub number : ℕ → Option Content
-number value = said 200 (value_text value)
+abbrev pub number_content : ℕ → Option Content
+number_content value = said 200 (value_text value)
 
 -- ---- writes
 
@@ -75,33 +75,33 @@ fault_told ask fault = let target = target_of ask in write_told target.0 (name_o
 -- an accepted write says its object, whole: the new one, or the one that was removed
 abbrev pub written_content : WriteAsk → Result Written WriteNo → Option Content
 written_content ask (Ok written) = said (accepted_code ask) (shown_row Whole written.row)
-written_content ask (Err fault) = refusal (fault_told ask fault)
+written_content ask (Err fault) = refusal_content (fault_told ask fault)
 
 -- ---- transactions: an accepted one says its revision, which all its writes have
 
 -- the revision of an accepted transaction, which all its writes have; its first one tells it
-abbrev pub revision_of : List Written → ℕ
-revision_of [] = 0
-revision_of (written ∷ more) = written.rev
+abbrev pub written_revision : List Written → ℕ
+written_revision [] = 0
+written_revision (written ∷ more) = written.rev
 
 -- why a transaction is refused: where it is for a write, as that write would be by itself
-abbrev pub transaction_told : List WriteAsk → TxWriteNo → Option Failure
-transaction_told asks (transaction.Item index fault) = option_and_then (λ ask. fault_told ask fault) (slice_get asks index)
-transaction_told asks (transaction.UsedUp at) = Some used_up
-transaction_told asks (transaction.ReadOnly at) = Some read_only
-transaction_told asks transaction.Memory = None
+abbrev pub transaction_refusal : List WriteAsk → TxWriteNo → Option Failure
+transaction_refusal asks (transaction.Item index fault) = option_and_then (λ ask. fault_told ask fault) (slice_get asks index)
+transaction_refusal asks (transaction.UsedUp at) = Some revisions_used_up
+transaction_refusal asks (transaction.ReadOnly at) = Some read_only
+transaction_refusal asks transaction.Memory = None
 
 -- what is said of a transaction: the revision at which it was done, or why it is refused
 abbrev pub transacted_content : List WriteAsk → Result (List Written) TxWriteNo → Option Content
-transacted_content asks (Ok answers) = number (revision_of answers)
-transacted_content asks (Err fault) = refusal (transaction_told asks fault)
+transacted_content asks (Ok answers) = number_content (written_revision answers)
+transacted_content asks (Err fault) = refusal_content (transaction_refusal asks fault)
 
 -- ---- operations: an accepted one says a number
 
 -- what is said of an operation: the number that it gave, or why it is refused
 abbrev pub operated_content : Result ℕ OpNo → Option Content
-operated_content (Ok value) = number value
-operated_content (Err fault) = refusal (operation_told fault)
+operated_content (Ok value) = number_content value
+operated_content (Err fault) = refusal_content (operation_told fault)
 
 -- ---- lists, gets and watches
 
@@ -120,7 +120,7 @@ get_told ask fault = read_told fault
 -- what is said of a get: the object in the form that was asked for, or why it is refused
 abbrev pub got_content : Form → GetAsk → Result GotData ListNo → Option Content
 got_content form ask (Ok answer) = said 200 (shown_row form answer.row)
-got_content form ask (Err fault) = refusal (get_told ask fault)
+got_content form ask (Err fault) = refusal_content (get_told ask fault)
 
 -- the list of the rows, at the revision of the answer
 abbrev pub listed_json : Form → Resource → ListedData → List ℕ
@@ -130,7 +130,7 @@ listed_json form resource answer =
 -- what is said of a list: its page in the form that was asked for, or why it is refused
 abbrev pub listed_content : Form → ListAsk → Result ListedData ListNo → Option Content
 listed_content form ask (Ok answer) = said 200 (listed_json form ask.selection.resource answer)
-listed_content form ask (Err fault) = refusal (read_told fault)
+listed_content form ask (Err fault) = refusal_content (read_told fault)
 
 -- ---- what describes the server
 

@@ -23,7 +23,7 @@ use Rattle.meta_view.specs.declared.form.Form.TheVariants.{Whole, Metadata}
 use Rattle.client_api.specs.declared.answers.ListNo.{ListNo}
 use Rattle.client_api.specs.Answers.{GotData, ListedData}
 use Rattle.metrics.specs.declared.caches.Metrics.{Metrics}
-use Rattle.sess_reply.specs.Contents.{Content, refused, refusal, written_content, transacted_content, got_content, listed_content, operated_content, described_content, metered_content, unready_content, read_told}
+use Rattle.sess_reply.specs.Contents.{Content, refused, refusal_content, written_content, transacted_content, got_content, listed_content, operated_content, described_content, metered_content, unready_content, read_told}
 
 -- an answer that is a reply, with what was asked: the request has no route; what its write, transaction, get, list or
 -- operation came to; what describes the server; what a monitor is told; the server isn't ready; its watch is refused before
@@ -43,7 +43,7 @@ pub data Reply : Type 0 where
 
 -- what a reply says; objects are shown in the form that was asked for by gets and lists alone
 abbrev pub content_of : Form → Reply → Option Content
-content_of form (unrouted fault) = refusal (route_told fault)
+content_of form (unrouted fault) = refusal_content (route_told fault)
 content_of form (wrote ask answer) = written_content ask answer
 content_of form (transacted asks answer) = transacted_content asks answer
 content_of form (got ask answer) = got_content form ask answer
@@ -52,22 +52,22 @@ content_of form (operated ask answer) = operated_content answer
 content_of form (described document) = described_content document
 content_of form (metered told) = metered_content told
 content_of form unready = unready_content
-content_of form (unwatched ask fault) = refusal (read_told fault)
+content_of form (unwatched ask fault) = refusal_content (read_told fault)
 content_of form (bad_upgrade ask) = Some (refused errors.bad_upgrade)
 
 -- a whole reply that says this: its head, the text, and a line feed, which the length in the head counts; nothing where
 -- nothing is said
-abbrev pub text_of : Bool → Option Content → List ℕ
-text_of close None = []
-text_of close (Some content) = http.typed_reply_text content.kind content.code content.retry close (content.text ++ 10 ∷ [])
+abbrev pub content_text : Bool → Option Content → List ℕ
+content_text close None = []
+content_text close (Some content) = http.typed_reply_text content.kind content.code content.retry close (content.text ++ 10 ∷ [])
 
 -- the bytes of a reply; `close` says that the connection ends with it
 abbrev pub reply_text : Form → Bool → Reply → List ℕ
-reply_text form close reply = text_of close (content_of form reply)
+reply_text form close reply = content_text close (content_of form reply)
 
 -- the reply to bytes that are no request: the connection ends with it
 abbrev pub request_refusal_text : ReqNo → List ℕ
-request_refusal_text fault = text_of true (refusal (request_told fault))
+request_refusal_text fault = content_text true (refusal_content (request_told fault))
 
 -- ---- in which form a request wants objects: whole, unless its first Accept field asks for metadata alone
 

@@ -1,10 +1,10 @@
 //! Replies in pieces: the head, the pieces of the text, and the line feed.
 
-ghost use Rattle.std.specs.Prelude.{◌≡◌, ◌≤◌, [], ◌∷◌, ◌++◌, length, IfSome, OnOk, OnErr};
+ghost use Rattle.std.specs.Prelude.{◌≡◌, [], ◌∷◌, ◌++◌, length, IfSome};
 ghost use Rattle.std.specs.List.{flat_map};
-ghost use Rattle.edge_io.specs.Told.{appended, AppendedSome};
+ghost use Rattle.edge_io.specs.Sent.{sent_through};
 ghost use Rattle.http_send.specs.Replies.{reply_text, typed_reply_text};
-ghost use Rattle.sess_reply.specs.Sending.{Counts};
+ghost use Rattle.sess_reply.specs.Sending.{Sends};
 
 use crate::Broken;
 use edge_io::Sink;
@@ -29,13 +29,8 @@ pub(crate) fn send_pieces<K: Sink>(
     close: bool,
     pieces: &[&[u8]],
 ) -> Result<(), Broken>
-    ensures sent { OnOk result (K.written sink.new ≡ appended (K.written sink.old)
-        (reply_text code retry close (flat_map (λ piece. piece.now) pieces.now ++ 10 ∷ []))) }
-    ensures settled { OnOk result (K.settled sink.new) }
-    ensures broken { OnErr result (AppendedSome (K.written sink.old) (K.written sink.new)
-        (reply_text code retry close (flat_map (λ piece. piece.now) pieces.now ++ 10 ∷ []))) }
-    ensures counts { Counts result (K.faults sink.old) (K.faults sink.new) }
-    ensures never_falls { K.faults sink.old ≤ K.faults sink.new }
+    ensures { Sends result (reply_text code retry close (flat_map (λ piece. piece.now) pieces.now ++ 10 ∷ []))
+        (sent_through K.written K.settled K.faults sink.old sink.new) }
 {
     send_typed_pieces(sink, ContentType::Json, code, retry, close, pieces)
 }
@@ -49,13 +44,8 @@ pub(crate) fn send_typed_pieces<K: Sink>(
     close: bool,
     pieces: &[&[u8]],
 ) -> Result<(), Broken>
-    ensures sent { OnOk result (K.written sink.new ≡ appended (K.written sink.old)
-        (typed_reply_text kind code retry close (flat_map (λ piece. piece.now) pieces.now ++ 10 ∷ []))) }
-    ensures settled { OnOk result (K.settled sink.new) }
-    ensures broken { OnErr result (AppendedSome (K.written sink.old) (K.written sink.new)
-        (typed_reply_text kind code retry close (flat_map (λ piece. piece.now) pieces.now ++ 10 ∷ []))) }
-    ensures counts { Counts result (K.faults sink.old) (K.faults sink.new) }
-    ensures never_falls { K.faults sink.old ≤ K.faults sink.new }
+    ensures { Sends result (typed_reply_text kind code retry close (flat_map (λ piece. piece.now) pieces.now ++ 10 ∷ []))
+        (sent_through K.written K.settled K.faults sink.old sink.new) }
 {
     let Some(length) = body_length(pieces) else {
         return Err(Broken::Memory);
@@ -72,13 +62,7 @@ fn body_length(pieces: &[&[u8]]) -> Option<u64>
 }
 
 fn write_body<K: Sink>(sink: &mut K, pieces: &[&[u8]]) -> Result<(), Broken>
-    ensures sent { OnOk result (K.written sink.new ≡ appended (K.written sink.old)
-        (flat_map (λ piece. piece.now) pieces.now ++ 10 ∷ [])) }
-    ensures settled { OnOk result (K.settled sink.new) }
-    ensures broken { OnErr result (AppendedSome (K.written sink.old) (K.written sink.new)
-        (flat_map (λ piece. piece.now) pieces.now ++ 10 ∷ [])) }
-    ensures counts { Counts result (K.faults sink.old) (K.faults sink.new) }
-    ensures never_falls { K.faults sink.old ≤ K.faults sink.new }
+    ensures { Sends result (flat_map (λ piece. piece.now) pieces.now ++ 10 ∷ []) (sent_through K.written K.settled K.faults sink.old sink.new) }
 {
     parts(sink, pieces)?;
     end_reply(sink)
@@ -86,13 +70,18 @@ fn write_body<K: Sink>(sink: &mut K, pieces: &[&[u8]]) -> Result<(), Broken>
 
 /// Writes the line feed that ends a reply, and sends the reply on.
 pub(crate) fn end_reply<K: Sink>(sink: &mut K) -> Result<(), Broken>
-    ensures sent { OnOk result (K.written sink.new ≡ appended (K.written sink.old) (10 ∷ [])) }
-    ensures settled { OnOk result (K.settled sink.new) }
-    ensures broken { OnErr result (AppendedSome (K.written sink.old) (K.written sink.new) (10 ∷ [])) }
-    ensures counts { Counts result (K.faults sink.old) (K.faults sink.new) }
-    ensures never_falls { K.faults sink.old ≤ K.faults sink.new }
+    ensures { Sends result (10 ∷ []) (sent_through K.written K.settled K.faults sink.old sink.new) }
 {
     part(sink, b"\n")?;
-    sink.flush()?;
-    Ok(())
+    send_on(sink)
+}
+
+/// Sends on what the sink still holds back.
+pub fn send_on<K: Sink>(sink: &mut K) -> Result<(), Broken>
+    ensures { Sends result [] (sent_through K.written K.settled K.faults sink.old sink.new) }
+{
+    match sink.flush() {
+        Ok(()) => Ok(()),
+        Err(_) => Err(Broken::Fault),
+    }
 }

@@ -1,9 +1,7 @@
 //! Why a text isn't written whole.
 
 use edge_io::Failed;
-use http_send::SendNo;
 use kube_meta::Memory;
-use ws_watch::WsNo;
 
 /// Why a text isn't written whole and sent on.
 #[derive(Clone, Copy, Debug, PartialEq, Eq)]
@@ -12,28 +10,6 @@ pub enum Broken {
     Fault,
     /// There was no memory.
     Memory,
-}
-
-impl From<SendNo> for Broken {
-    ghost use Rattle.std.specs.Prelude.{◌≡◌};
-    ghost use Rattle.sess_reply.specs.declared.broken.Broken.TheVariants as causes;
-
-    ghost from_gives = { λ _ cause. cause ≡ causes.Fault };
-
-    fn from(_: SendNo) -> Broken {
-        Broken::Fault
-    }
-}
-
-impl From<WsNo> for Broken {
-    ghost use Rattle.std.specs.Prelude.{◌≡◌};
-    ghost use Rattle.sess_reply.specs.declared.broken.Broken.TheVariants as causes;
-
-    ghost from_gives = { λ _ cause. cause ≡ causes.Fault };
-
-    fn from(_: WsNo) -> Broken {
-        Broken::Fault
-    }
 }
 
 impl From<Failed> for Broken {

@@ -1,11 +1,11 @@
 //! Replies with what describes the server.
 
-ghost use Rattle.std.specs.Prelude.{◌≡◌, ◌≤◌, OnOk, OnErr};
-ghost use Rattle.edge_io.specs.Told.{appended, AppendedSome};
+ghost use Rattle.std.specs.Prelude.{◌≡◌};
+ghost use Rattle.edge_io.specs.Sent.{sent_through};
 ghost use Rattle.meta_view.specs.declared.form.Form.TheVariants.{Whole};
 ghost use Rattle.sess_reply.specs.Contents as contents;
 ghost use Rattle.sess_reply.specs.Replies.{reply_text, described};
-ghost use Rattle.sess_reply.specs.Sending.{Counts};
+ghost use Rattle.sess_reply.specs.Sending.{Sends};
 
 use crate::Broken;
 use crate::body::send_typed_pieces;
@@ -26,11 +26,7 @@ fn content_type_of(document: &Document) -> ContentType
 
 /// Replies with what describes the server.
 pub fn send_described<K: Sink>(sink: &mut K, close: bool, document: &Document) -> Result<(), Broken>
-    ensures sent { OnOk result (K.written sink.new ≡ appended (K.written sink.old) (reply_text Whole close (described document.now))) }
-    ensures settled { OnOk result (K.settled sink.new) }
-    ensures broken { OnErr result (AppendedSome (K.written sink.old) (K.written sink.new) (reply_text Whole close (described document.now))) }
-    ensures counts { Counts result (K.faults sink.old) (K.faults sink.new) }
-    ensures never_falls { K.faults sink.old ≤ K.faults sink.new }
+    ensures { Sends result (reply_text Whole close (described document.now)) (sent_through K.written K.settled K.faults sink.old sink.new) }
 {
     let pieces = document.pieces();
     send_typed_pieces(sink, content_type_of(document), 200, false, close, &pieces)

@@ -48,7 +48,7 @@ pub(crate) fn transaction_told(
     asks: &[WriteAsk],
     fault: TxWriteNo,
 ) -> Result<Option<Failure>, Memory>
-    ensures { IfOk result (λ told. told ≡ spec.transaction_told asks.now fault) }
+    ensures { IfOk result (λ told. told ≡ spec.transaction_refusal asks.now fault) }
 {
     match fault {
         TxWriteNo::Item { index, no } => match asks.get(index as usize) {

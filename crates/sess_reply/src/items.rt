@@ -1,16 +1,15 @@
 //! The items of a list, written as the pieces that their objects are kept in: nothing is copied or joined.
 
-ghost use Rattle.std.specs.Prelude.{◌≡◌, ◌≤◌, [], ◌∷◌, ◌++◌, length, map, IfSome, OnOk, OnErr};
+ghost use Rattle.std.specs.Prelude.{◌≡◌, [], ◌∷◌, ◌++◌, length, map, IfSome};
 ghost use Rattle.std.specs.List.{flat_map};
-ghost use Rattle.edge_io.specs.Told.{appended, AppendedSome};
-ghost use Rattle.edge_io.specs.Counts.{Rose};
+ghost use Rattle.edge_io.specs.Sent.{Writes, sent_through};
 ghost use Rattle.sess_reply.specs.Contents.{shown_row};
 ghost use Rattle.sess_reply.specs.Items.{rows_text, between};
 
 use crate::body::length_in;
-use edge_io::Sink;
+use edge_io::{Failed, Sink};
 use encode_once::Shown;
-use http_send::{SendNo, parts};
+use http_send::parts;
 use meta_view::{Form, shown_pieces};
 use std::sync::Arc;
 
@@ -78,14 +77,10 @@ pub(crate) fn write_list<K: Sink>(
     front: &[&[u8]],
     items: &[Arc<Shown>],
     back: &[&[u8]],
-) -> Result<(), SendNo>
-    ensures sent { OnOk result (K.written sink.new ≡ appended (K.written sink.old) (between (flat_map (λ piece. piece.now) front.now) form
-        (map (λ shown. shown.value) items.now) (flat_map (λ piece. piece.now) back.now))) }
-    ensures broken { OnErr result (AppendedSome (K.written sink.old) (K.written sink.new) (between (flat_map (λ piece. piece.now) front.now) form
-        (map (λ shown. shown.value) items.now) (flat_map (λ piece. piece.now) back.now))) }
-    ensures quiet { OnOk result (K.faults sink.new ≡ K.faults sink.old) }
-    ensures counted { OnErr result (Rose (K.faults sink.old) (K.faults sink.new)) }
-    ensures never_falls { K.faults sink.old ≤ K.faults sink.new }
+) -> Result<(), Failed>
+    ensures { Writes result (between (flat_map (λ piece. piece.now) front.now) form
+        (map (λ shown. shown.value) items.now) (flat_map (λ piece. piece.now) back.now))
+        (sent_through K.written K.settled K.faults sink.old sink.new) }
 {
     parts(sink, front)?;
     write_rest(sink, form, items, back)
@@ -97,25 +92,17 @@ fn write_rest<K: Sink>(
     form: Form,
     items: &[Arc<Shown>],
     back: &[&[u8]],
-) -> Result<(), SendNo>
-    ensures sent { OnOk result (K.written sink.new ≡ appended (K.written sink.old)
-        (rows_text form (map (λ shown. shown.value) items.now) ++ flat_map (λ piece. piece.now) back.now)) }
-    ensures broken { OnErr result (AppendedSome (K.written sink.old) (K.written sink.new)
-        (rows_text form (map (λ shown. shown.value) items.now) ++ flat_map (λ piece. piece.now) back.now)) }
-    ensures quiet { OnOk result (K.faults sink.new ≡ K.faults sink.old) }
-    ensures counted { OnErr result (Rose (K.faults sink.old) (K.faults sink.new)) }
-    ensures never_falls { K.faults sink.old ≤ K.faults sink.new }
+) -> Result<(), Failed>
+    ensures { Writes result (rows_text form (map (λ shown. shown.value) items.now) ++ flat_map (λ piece. piece.now) back.now)
+        (sent_through K.written K.settled K.faults sink.old sink.new) }
 {
     write_items(sink, form, items)?;
     parts(sink, back)
 }
 
-fn write_items<K: Sink>(sink: &mut K, form: Form, items: &[Arc<Shown>]) -> Result<(), SendNo>
-    ensures sent { OnOk result (K.written sink.new ≡ appended (K.written sink.old) (rows_text form (map (λ shown. shown.value) items.now))) }
-    ensures broken { OnErr result (AppendedSome (K.written sink.old) (K.written sink.new) (rows_text form (map (λ shown. shown.value) items.now))) }
-    ensures quiet { OnOk result (K.faults sink.new ≡ K.faults sink.old) }
-    ensures counted { OnErr result (Rose (K.faults sink.old) (K.faults sink.new)) }
-    ensures never_falls { K.faults sink.old ≤ K.faults sink.new }
+fn write_items<K: Sink>(sink: &mut K, form: Form, items: &[Arc<Shown>]) -> Result<(), Failed>
+    ensures { Writes result (rows_text form (map (λ shown. shown.value) items.now))
+        (sent_through K.written K.settled K.faults sink.old sink.new) }
 {
     let Some((first, later)) = items.split_first() else {
         return Ok(());
@@ -124,12 +111,9 @@ fn write_items<K: Sink>(sink: &mut K, form: Form, items: &[Arc<Shown>]) -> Resul
     write_later(sink, form, later)
 }
 
-fn write_later<K: Sink>(sink: &mut K, form: Form, later: &[Arc<Shown>]) -> Result<(), SendNo>
-    ensures sent { OnOk result (K.written sink.new ≡ appended (K.written sink.old) (flat_map (λ shown. 44 ∷ shown_row form shown.value) later.now)) }
-    ensures broken { OnErr result (AppendedSome (K.written sink.old) (K.written sink.new) (flat_map (λ shown. 44 ∷ shown_row form shown.value) later.now)) }
-    ensures quiet { OnOk result (K.faults sink.new ≡ K.faults sink.old) }
-    ensures counted { OnErr result (Rose (K.faults sink.old) (K.faults sink.new)) }
-    ensures never_falls { K.faults sink.old ≤ K.faults sink.new }
+fn write_later<K: Sink>(sink: &mut K, form: Form, later: &[Arc<Shown>]) -> Result<(), Failed>
+    ensures { Writes result (flat_map (λ shown. 44 ∷ shown_row form shown.value) later.now)
+        (sent_through K.written K.settled K.faults sink.old sink.new) }
 {
     for shown in later {
         parts(sink, &later_pieces(form, shown))?;

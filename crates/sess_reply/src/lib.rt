@@ -14,6 +14,7 @@ mod reads;
 mod refusals;
 mod writes;
 
+pub use body::send_on;
 pub use broken::Broken;
 pub use described::send_described;
 pub use form::form_of;

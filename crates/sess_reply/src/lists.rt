@@ -1,17 +1,17 @@
 //! Lists, written as the pieces that their objects are kept in: nothing is copied, and the length is summed before the
 //! head is written.
 
-ghost use Rattle.std.specs.Prelude.{◌≡◌, ◌≤◌, [], ◌∷◌, ◌++◌, decimal, false, map, option_map, OnOk, OnErr};
+ghost use Rattle.std.specs.Prelude.{◌≡◌, [], ◌∷◌, ◌++◌, decimal, false, map, option_map};
 ghost use Rattle.std.specs.List.{flat_map, list_all};
-ghost use Rattle.edge_io.specs.Told.{appended, AppendedSome};
+ghost use Rattle.edge_io.specs.Sent.{sent_through};
 ghost use Rattle.http_send.specs.Replies.{reply_text};
 ghost use Rattle.json_obj.specs.Plain.{is_plain_byte};
 ghost use Rattle.json_obj.specs.Replies.{list_back};
 ghost use Rattle.meta_view.specs.Lines.{list_kind_in};
 ghost use Rattle.sess_reply.specs.Contents.{listed_json, said};
 ghost use Rattle.sess_reply.specs.Items.{between};
-ghost use Rattle.sess_reply.specs.Replies.{text_of};
-ghost use Rattle.sess_reply.specs.Sending.{Counts};
+ghost use Rattle.sess_reply.specs.Replies.{content_text};
+ghost use Rattle.sess_reply.specs.Sending.{Sends};
 
 use crate::Broken;
 use crate::body::end_reply;
@@ -36,13 +36,7 @@ pub(crate) fn send_list<K: Sink>(
     resource: Resource,
     listed: &Listed,
 ) -> Result<(), Broken>
-    ensures sent { OnOk result (K.written sink.new ≡ appended (K.written sink.old)
-        (text_of close (said 200 (listed_json form resource listed.now)))) }
-    ensures settled { OnOk result (K.settled sink.new) }
-    ensures broken { OnErr result (AppendedSome (K.written sink.old) (K.written sink.new)
-        (text_of close (said 200 (listed_json form resource listed.now)))) }
-    ensures counts { Counts result (K.faults sink.old) (K.faults sink.new) }
-    ensures never_falls { K.faults sink.old ≤ K.faults sink.new }
+    ensures { Sends result (content_text close (said 200 (listed_json form resource listed.now))) (sent_through K.written K.settled K.faults sink.old sink.new) }
 {
     let mut digits = Buffer::new();
     let revision = digits.format(listed.rev).as_bytes();
@@ -76,13 +70,7 @@ fn send_page<K: Sink>(
     back: &[&[u8]],
 ) -> Result<(), Broken>
     requires { flat_map (λ piece. piece.now) back.now ≡ list_back (list_kind_in form resource) listed.now.rev listed.now.more }
-    ensures sent { OnOk result (K.written sink.new ≡ appended (K.written sink.old)
-        (text_of close (said 200 (listed_json form resource listed.now)))) }
-    ensures settled { OnOk result (K.settled sink.new) }
-    ensures broken { OnErr result (AppendedSome (K.written sink.old) (K.written sink.new)
-        (text_of close (said 200 (listed_json form resource listed.now)))) }
-    ensures counts { Counts result (K.faults sink.old) (K.faults sink.new) }
-    ensures never_falls { K.faults sink.old ≤ K.faults sink.new }
+    ensures { Sends result (content_text close (said 200 (listed_json form resource listed.now))) (sent_through K.written K.settled K.faults sink.old sink.new) }
 {
     let front = shown_list_front(form, resource);
     send_items(sink, form, close, &front, listed.items.as_slice(), back)
@@ -118,13 +106,8 @@ fn send_items<K: Sink>(
     items: &[Arc<Shown>],
     back: &[&[u8]],
 ) -> Result<(), Broken>
-    ensures sent { OnOk result (K.written sink.new ≡ appended (K.written sink.old)
-        (reply_text 200 false close (between (flat_map (λ piece. piece.now) front.now) form (map (λ shown. shown.value) items.now) (flat_map (λ piece. piece.now) back.now) ++ 10 ∷ []))) }
-    ensures settled { OnOk result (K.settled sink.new) }
-    ensures broken { OnErr result (AppendedSome (K.written sink.old) (K.written sink.new)
-        (reply_text 200 false close (between (flat_map (λ piece. piece.now) front.now) form (map (λ shown. shown.value) items.now) (flat_map (λ piece. piece.now) back.now) ++ 10 ∷ []))) }
-    ensures counts { Counts result (K.faults sink.old) (K.faults sink.new) }
-    ensures never_falls { K.faults sink.old ≤ K.faults sink.new }
+    ensures { Sends result (reply_text 200 false close (between (flat_map (λ piece. piece.now) front.now) form (map (λ shown. shown.value) items.now) (flat_map (λ piece. piece.now) back.now) ++ 10 ∷ []))
+        (sent_through K.written K.settled K.faults sink.old sink.new) }
 {
     let Some(length) = list_length(form, front, items, back) else {
         return Err(Broken::Memory);
@@ -141,13 +124,8 @@ fn write_body<K: Sink>(
     items: &[Arc<Shown>],
     back: &[&[u8]],
 ) -> Result<(), Broken>
-    ensures sent { OnOk result (K.written sink.new ≡ appended (K.written sink.old)
-        (between (flat_map (λ piece. piece.now) front.now) form (map (λ shown. shown.value) items.now) (flat_map (λ piece. piece.now) back.now) ++ 10 ∷ [])) }
-    ensures settled { OnOk result (K.settled sink.new) }
-    ensures broken { OnErr result (AppendedSome (K.written sink.old) (K.written sink.new)
-        (between (flat_map (λ piece. piece.now) front.now) form (map (λ shown. shown.value) items.now) (flat_map (λ piece. piece.now) back.now) ++ 10 ∷ [])) }
-    ensures counts { Counts result (K.faults sink.old) (K.faults sink.new) }
-    ensures never_falls { K.faults sink.old ≤ K.faults sink.new }
+    ensures { Sends result (between (flat_map (λ piece. piece.now) front.now) form (map (λ shown. shown.value) items.now) (flat_map (λ piece. piece.now) back.now) ++ 10 ∷ [])
+        (sent_through K.written K.settled K.faults sink.old sink.new) }
 {
     write_list(sink, form, front, items, back)?;
     end_reply(sink)

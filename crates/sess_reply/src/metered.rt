@@ -1,10 +1,9 @@
 //! Replies to a monitor, and that a server isn't ready.
 
-ghost use Rattle.std.specs.Prelude.{◌≡◌, ◌≤◌, OnOk, OnErr};
-ghost use Rattle.edge_io.specs.Told.{appended, AppendedSome};
+ghost use Rattle.edge_io.specs.Sent.{sent_through};
 ghost use Rattle.meta_view.specs.declared.form.Form.TheVariants.{Whole};
 ghost use Rattle.sess_reply.specs.Replies.{reply_text, metered, unready};
-ghost use Rattle.sess_reply.specs.Sending.{Counts};
+ghost use Rattle.sess_reply.specs.Sending.{Sends};
 
 use crate::Broken;
 use crate::body::send_typed_pieces;
@@ -23,11 +22,7 @@ pub fn send_metered<K: Sink>(
     close: bool,
     told: &Metrics,
 ) -> Result<(), Broken>
-    ensures sent { OnOk result (K.written sink.new ≡ appended (K.written sink.old) (reply_text Whole close (metered told.now))) }
-    ensures settled { OnOk result (K.settled sink.new) }
-    ensures broken { OnErr result (AppendedSome (K.written sink.old) (K.written sink.new) (reply_text Whole close (metered told.now))) }
-    ensures counts { Counts result (K.faults sink.old) (K.faults sink.new) }
-    ensures never_falls { K.faults sink.old ≤ K.faults sink.new }
+    ensures { Sends result (reply_text Whole close (metered told.now)) (sent_through K.written K.settled K.faults sink.old sink.new) }
 {
     let text = metrics_text(alloc, told)?;
     send_typed_pieces(
@@ -42,11 +37,7 @@ pub fn send_metered<K: Sink>(
 
 /// Replies to a probe that the server isn't ready, and may be in a second.
 pub fn send_unready<K: Sink>(sink: &mut K, close: bool) -> Result<(), Broken>
-    ensures sent { OnOk result (K.written sink.new ≡ appended (K.written sink.old) (reply_text Whole close unready)) }
-    ensures settled { OnOk result (K.settled sink.new) }
-    ensures broken { OnErr result (AppendedSome (K.written sink.old) (K.written sink.new) (reply_text Whole close unready)) }
-    ensures counts { Counts result (K.faults sink.old) (K.faults sink.new) }
-    ensures never_falls { K.faults sink.old ≤ K.faults sink.new }
+    ensures { Sends result (reply_text Whole close unready) (sent_through K.written K.settled K.faults sink.old sink.new) }
 {
     send_typed_pieces(sink, ContentType::PlainText, 503, true, close, &[UNREADY])
 }

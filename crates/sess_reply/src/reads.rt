@@ -1,11 +1,10 @@
 //! Replies to gets and lists, and to watches that are refused before they begin.
 
-ghost use Rattle.std.specs.Prelude.{◌≡◌, ◌≤◌, OnOk, OnErr};
-ghost use Rattle.edge_io.specs.Told.{appended, AppendedSome};
+ghost use Rattle.edge_io.specs.Sent.{sent_through};
 ghost use Rattle.meta_view.specs.declared.form.Form.TheVariants.{Whole};
 ghost use Rattle.sess_reply.specs.Contents as contents;
-ghost use Rattle.sess_reply.specs.Replies.{reply_text, text_of, got, listed, unwatched};
-ghost use Rattle.sess_reply.specs.Sending.{Counts};
+ghost use Rattle.sess_reply.specs.Replies.{reply_text, content_text, got, listed, unwatched};
+ghost use Rattle.sess_reply.specs.Sending.{Sends};
 
 use crate::Broken;
 use crate::body::send_pieces;
@@ -31,11 +30,7 @@ pub fn send_got<K: Sink>(
     ask: &GetAsk,
     answer: &Result<Got, ListNo>,
 ) -> Result<(), Broken>
-    ensures sent { OnOk result (K.written sink.new ≡ appended (K.written sink.old) (reply_text form close (got ask.now answer.now))) }
-    ensures settled { OnOk result (K.settled sink.new) }
-    ensures broken { OnErr result (AppendedSome (K.written sink.old) (K.written sink.new) (reply_text form close (got ask.now answer.now))) }
-    ensures counts { Counts result (K.faults sink.old) (K.faults sink.new) }
-    ensures never_falls { K.faults sink.old ≤ K.faults sink.new }
+    ensures { Sends result (reply_text form close (got ask.now answer.now)) (sent_through K.written K.settled K.faults sink.old sink.new) }
 {
     match answer {
         Ok(got) => send_shown(sink, form, close, &got.row),
@@ -53,13 +48,8 @@ fn send_shown<K: Sink>(
     close: bool,
     shown: &Arc<Shown>,
 ) -> Result<(), Broken>
-    ensures sent { OnOk result (K.written sink.new ≡ appended (K.written sink.old)
-        (text_of close (contents.said 200 (contents.shown_row form shown.now.value)))) }
-    ensures settled { OnOk result (K.settled sink.new) }
-    ensures broken { OnErr result (AppendedSome (K.written sink.old) (K.written sink.new)
-        (text_of close (contents.said 200 (contents.shown_row form shown.now.value)))) }
-    ensures counts { Counts result (K.faults sink.old) (K.faults sink.new) }
-    ensures never_falls { K.faults sink.old ≤ K.faults sink.new }
+    ensures { Sends result (content_text close (contents.said 200 (contents.shown_row form shown.now.value)))
+        (sent_through K.written K.settled K.faults sink.old sink.new) }
 {
     let pieces = item_pieces(form, shown);
     send_pieces(sink, 200, false, close, &pieces)
@@ -74,11 +64,7 @@ pub fn send_listed<K: Sink>(
     ask: &ListAsk,
     answer: &Result<Listed, ListNo>,
 ) -> Result<(), Broken>
-    ensures sent { OnOk result (K.written sink.new ≡ appended (K.written sink.old) (reply_text form close (listed ask.now answer.now))) }
-    ensures settled { OnOk result (K.settled sink.new) }
-    ensures broken { OnErr result (AppendedSome (K.written sink.old) (K.written sink.new) (reply_text form close (listed ask.now answer.now))) }
-    ensures counts { Counts result (K.faults sink.old) (K.faults sink.new) }
-    ensures never_falls { K.faults sink.old ≤ K.faults sink.new }
+    ensures { Sends result (reply_text form close (listed ask.now answer.now)) (sent_through K.written K.settled K.faults sink.old sink.new) }
 {
     match answer {
         Ok(listed) => send_list(alloc, sink, form, close, ask.selection.resource, listed),
@@ -97,11 +83,7 @@ pub fn send_unwatched<K: Sink>(
     ask: &WatchAsk,
     fault: ListNo,
 ) -> Result<(), Broken>
-    ensures sent { OnOk result (K.written sink.new ≡ appended (K.written sink.old) (reply_text Whole close (unwatched ask.now fault))) }
-    ensures settled { OnOk result (K.settled sink.new) }
-    ensures broken { OnErr result (AppendedSome (K.written sink.old) (K.written sink.new) (reply_text Whole close (unwatched ask.now fault))) }
-    ensures counts { Counts result (K.faults sink.old) (K.faults sink.new) }
-    ensures never_falls { K.faults sink.old ≤ K.faults sink.new }
+    ensures { Sends result (reply_text Whole close (unwatched ask.now fault)) (sent_through K.written K.settled K.faults sink.old sink.new) }
 {
     let _ = ask;
     let told = read_told(alloc, fault)?;

@@ -1,12 +1,11 @@
 //! Replies that are refusals: a Status.
 
-ghost use Rattle.std.specs.Prelude.{◌≡◌, ◌≤◌, OnOk, OnErr};
-ghost use Rattle.edge_io.specs.Told.{appended, AppendedSome};
+ghost use Rattle.edge_io.specs.Sent.{sent_through};
 ghost use Rattle.watch_rules.specs.declared.ask.WatchAsk.{WatchAsk as Ask};
 ghost use Rattle.meta_view.specs.declared.form.Form.TheVariants.{Whole};
-ghost use Rattle.sess_reply.specs.Contents.{refusal};
-ghost use Rattle.sess_reply.specs.Replies.{reply_text, request_refusal_text, text_of, unrouted, bad_upgrade};
-ghost use Rattle.sess_reply.specs.Sending.{Counts};
+ghost use Rattle.sess_reply.specs.Contents.{refusal_content};
+ghost use Rattle.sess_reply.specs.Replies.{reply_text, request_refusal_text, content_text, unrouted, bad_upgrade};
+ghost use Rattle.sess_reply.specs.Sending.{Sends};
 
 use crate::Broken;
 use crate::body::send_pieces;
@@ -25,11 +24,7 @@ pub(crate) fn send_told<K: Sink>(
     close: bool,
     told: Option<Failure>,
 ) -> Result<(), Broken>
-    ensures sent { OnOk result (K.written sink.new ≡ appended (K.written sink.old) (text_of close (refusal told))) }
-    ensures settled { OnOk result (K.settled sink.new) }
-    ensures broken { OnErr result (AppendedSome (K.written sink.old) (K.written sink.new) (text_of close (refusal told))) }
-    ensures counts { Counts result (K.faults sink.old) (K.faults sink.new) }
-    ensures never_falls { K.faults sink.old ≤ K.faults sink.new }
+    ensures { Sends result (content_text close (refusal_content told)) (sent_through K.written K.settled K.faults sink.old sink.new) }
 {
     let Some(told) = told else {
         return Err(Broken::Memory);
@@ -52,11 +47,7 @@ pub fn send_unrouted<K: Sink>(
     close: bool,
     fault: RouteNo,
 ) -> Result<(), Broken>
-    ensures sent { OnOk result (K.written sink.new ≡ appended (K.written sink.old) (reply_text Whole close (unrouted fault))) }
-    ensures settled { OnOk result (K.settled sink.new) }
-    ensures broken { OnErr result (AppendedSome (K.written sink.old) (K.written sink.new) (reply_text Whole close (unrouted fault))) }
-    ensures counts { Counts result (K.faults sink.old) (K.faults sink.new) }
-    ensures never_falls { K.faults sink.old ≤ K.faults sink.new }
+    ensures { Sends result (reply_text Whole close (unrouted fault)) (sent_through K.written K.settled K.faults sink.old sink.new) }
 {
     let told = route_told(alloc, fault)?;
     send_told(alloc, sink, close, told)
@@ -64,11 +55,7 @@ pub fn send_unrouted<K: Sink>(
 
 /// Replies to a watch that asks to go on as a WebSocket, where that isn't one.
 pub fn send_bad_upgrade<K: Sink>(alloc: Global, sink: &mut K, close: bool) -> Result<(), Broken>
-    ensures sent { (ask : Ask) → OnOk result (K.written sink.new ≡ appended (K.written sink.old) (reply_text Whole close (bad_upgrade ask))) }
-    ensures settled { OnOk result (K.settled sink.new) }
-    ensures broken { (ask : Ask) → OnErr result (AppendedSome (K.written sink.old) (K.written sink.new) (reply_text Whole close (bad_upgrade ask))) }
-    ensures counts { Counts result (K.faults sink.old) (K.faults sink.new) }
-    ensures never_falls { K.faults sink.old ≤ K.faults sink.new }
+    ensures { (ask : Ask) → Sends result (reply_text Whole close (bad_upgrade ask)) (sent_through K.written K.settled K.faults sink.old sink.new) }
 {
     let told = api_errors::bad_upgrade(alloc)?;
     send_told(alloc, sink, close, Some(told))
@@ -81,11 +68,7 @@ pub fn send_request_refusal<K: Sink>(
     sink: &mut K,
     fault: ReqNo,
 ) -> Result<(), Broken>
-    ensures sent { OnOk result (K.written sink.new ≡ appended (K.written sink.old) (request_refusal_text fault)) }
-    ensures settled { OnOk result (K.settled sink.new) }
-    ensures broken { OnErr result (AppendedSome (K.written sink.old) (K.written sink.new) (request_refusal_text fault)) }
-    ensures counts { Counts result (K.faults sink.old) (K.faults sink.new) }
-    ensures never_falls { K.faults sink.old ≤ K.faults sink.new }
+    ensures { Sends result (request_refusal_text fault) (sent_through K.written K.settled K.faults sink.old sink.new) }
 {
     let told = request_told(alloc, fault)?;
     send_told(alloc, sink, true, told)

@@ -1,12 +1,12 @@
 //! Replies to writes, transactions and operations.
 
-ghost use Rattle.std.specs.Prelude.{◌≡◌, ◌≤◌, OnOk, OnErr};
-ghost use Rattle.edge_io.specs.Told.{appended, AppendedSome};
+ghost use Rattle.std.specs.Prelude.{◌≡◌};
+ghost use Rattle.edge_io.specs.Sent.{sent_through};
 ghost use Rattle.meta_view.specs.declared.form.Form.TheVariants.{Whole};
 ghost use Rattle.up_store.specs.Transacting.{answers_in};
 ghost use Rattle.sess_reply.specs.Contents as contents;
-ghost use Rattle.sess_reply.specs.Replies.{reply_text, text_of, wrote, transacted, operated};
-ghost use Rattle.sess_reply.specs.Sending.{Counts};
+ghost use Rattle.sess_reply.specs.Replies.{reply_text, content_text, wrote, transacted, operated};
+ghost use Rattle.sess_reply.specs.Sending.{Sends};
 
 use crate::Broken;
 use crate::body::send_pieces;
@@ -29,11 +29,7 @@ pub fn send_written<K: Sink>(
     ask: &WriteAsk,
     answer: &Result<Written, WriteNo>,
 ) -> Result<(), Broken>
-    ensures sent { OnOk result (K.written sink.new ≡ appended (K.written sink.old) (reply_text Whole close (wrote ask.now answer.now))) }
-    ensures settled { OnOk result (K.settled sink.new) }
-    ensures broken { OnErr result (AppendedSome (K.written sink.old) (K.written sink.new) (reply_text Whole close (wrote ask.now answer.now))) }
-    ensures counts { Counts result (K.faults sink.old) (K.faults sink.new) }
-    ensures never_falls { K.faults sink.old ≤ K.faults sink.new }
+    ensures { Sends result (reply_text Whole close (wrote ask.now answer.now)) (sent_through K.written K.settled K.faults sink.old sink.new) }
 {
     match answer {
         Ok(written) => send_row(sink, close, ask, &written.row),
@@ -56,13 +52,8 @@ fn accepted_code(ask: &WriteAsk) -> u16
 
 // Replies to an accepted write with its row's object, whole.
 fn send_row<K: Sink>(sink: &mut K, close: bool, ask: &WriteAsk, row: &Row) -> Result<(), Broken>
-    ensures sent { OnOk result (K.written sink.new ≡ appended (K.written sink.old)
-        (text_of close (contents.said (contents.accepted_code ask.now) (contents.shown_row Whole row.now)))) }
-    ensures settled { OnOk result (K.settled sink.new) }
-    ensures broken { OnErr result (AppendedSome (K.written sink.old) (K.written sink.new)
-        (text_of close (contents.said (contents.accepted_code ask.now) (contents.shown_row Whole row.now)))) }
-    ensures counts { Counts result (K.faults sink.old) (K.faults sink.new) }
-    ensures never_falls { K.faults sink.old ≤ K.faults sink.new }
+    ensures { Sends result (content_text close (contents.said (contents.accepted_code ask.now) (contents.shown_row Whole row.now)))
+        (sent_through K.written K.settled K.faults sink.old sink.new) }
 {
     let mut digits = Buffer::new();
     let pieces = shown_pieces(Form::Whole, &row.obj, digits.format(row.rev).as_bytes());
@@ -77,11 +68,8 @@ pub fn send_transacted<K: Sink>(
     ask: &Transaction,
     answer: &Result<Vec<Written>, TxWriteNo>,
 ) -> Result<(), Broken>
-    ensures sent { OnOk result (K.written sink.new ≡ appended (K.written sink.old) (reply_text Whole close (transacted ask.now (answers_in answer.now)))) }
-    ensures settled { OnOk result (K.settled sink.new) }
-    ensures broken { OnErr result (AppendedSome (K.written sink.old) (K.written sink.new) (reply_text Whole close (transacted ask.now (answers_in answer.now)))) }
-    ensures counts { Counts result (K.faults sink.old) (K.faults sink.new) }
-    ensures never_falls { K.faults sink.old ≤ K.faults sink.new }
+    ensures { Sends result (reply_text Whole close (transacted ask.now (answers_in answer.now)))
+        (sent_through K.written K.settled K.faults sink.old sink.new) }
 {
     match answer {
         Ok(answers) => send_value(sink, close, revision_of(answers.as_slice())),
@@ -94,7 +82,7 @@ pub fn send_transacted<K: Sink>(
 
 // The revision of a transaction, which each of its answers has.
 fn revision_of(answers: &[Written]) -> u64
-    ensures { result ≡ contents.revision_of answers.now }
+    ensures { result ≡ contents.written_revision answers.now }
 {
     match answers.first() {
         Some(written) => written.rev,
@@ -110,11 +98,7 @@ pub fn send_operated<K: Sink>(
     ask: Operate,
     answer: Result<u64, OpNo>,
 ) -> Result<(), Broken>
-    ensures sent { OnOk result (K.written sink.new ≡ appended (K.written sink.old) (reply_text Whole close (operated ask answer))) }
-    ensures settled { OnOk result (K.settled sink.new) }
-    ensures broken { OnErr result (AppendedSome (K.written sink.old) (K.written sink.new) (reply_text Whole close (operated ask answer))) }
-    ensures counts { Counts result (K.faults sink.old) (K.faults sink.new) }
-    ensures never_falls { K.faults sink.old ≤ K.faults sink.new }
+    ensures { Sends result (reply_text Whole close (operated ask answer)) (sent_through K.written K.settled K.faults sink.old sink.new) }
 {
     let _ = ask;
     match answer {
@@ -128,11 +112,7 @@ pub fn send_operated<K: Sink>(
 
 // Replies with a number.
 fn send_value<K: Sink>(sink: &mut K, close: bool, value: u64) -> Result<(), Broken>
-    ensures sent { OnOk result (K.written sink.new ≡ appended (K.written sink.old) (text_of close (contents.number value))) }
-    ensures settled { OnOk result (K.settled sink.new) }
-    ensures broken { OnErr result (AppendedSome (K.written sink.old) (K.written sink.new) (text_of close (contents.number value))) }
-    ensures counts { Counts result (K.faults sink.old) (K.faults sink.new) }
-    ensures never_falls { K.faults sink.old ≤ K.faults sink.new }
+    ensures { Sends result (content_text close (contents.number_content value)) (sent_through K.written K.settled K.faults sink.old sink.new) }
 {
     let mut digits = Buffer::new();
     let pieces = value_pieces(digits.format(value).as_bytes());

@@ -6,7 +6,7 @@ use Rattle.std.proofs.lemmas.List.Elements.{All-head, All-tail}
 use Rattle.std.proofs.lemmas.List.Concat.{flat_map-append}
 use Rattle.httparse.proofs.GrammarLemmas.{response_prefix_free}
 use Rattle.httparse.specs.Grammar.{print_chunk_line, print_extension}
-use Rattle.line_stream.specs.Chunks.{Piece, sized, byte, ended, piece_bytes, piece_data, Follows, Leads}
+use Rattle.line_stream.specs.Chunks.{ChunkPiece, sized, byte, ended, piece_bytes, piece_data, Follows, Leads}
 use Rattle.line_stream.specs.Readers.{ReaderData, IsWithinLine}
 use Rattle.line_stream.specs.Standing.{IsLine, HoldsLines, lines_bytes, Stands}
 use Rattle.line_stream.proofs.PieceLemmas.{pieces-agree}
@@ -59,18 +59,18 @@ no_lines (line ∷ lines) part w e =
 -- ---- pieces
 
 -- a piece has bytes
-piece_some : (place : Place) (piece : Piece) (to : Place) → Follows place piece to → 0 < length (piece_bytes piece)
+piece_some : (place : Place) (piece : ChunkPiece) (to : Place) → Follows place piece to → 0 < length (piece_bytes piece)
 unfolding print_chunk_line
 piece_some place (sized l) to x = omega (arith, length-append (l.digits ++ l.pad ++ print_extension l.extension) (13 ∷ 10 ∷ []))
 piece_some place (byte b) to x = omega arith
 piece_some place ended to x = omega arith
 
 -- nothing comes behind the end of the body, nor out of no bytes
-pub nothing_over : (pieces : List Piece) (to : Place) → Leads Over pieces to → pieces ≡ []
+pub nothing_over : (pieces : List ChunkPiece) (to : Place) → Leads Over pieces to → pieces ≡ []
 nothing_over [] to x = refl
 nothing_over (piece ∷ pieces) to x = absurd x.1
 
-nothing_of_none : (place : Place) (pieces : List Piece) (to : Place) (rest : List ℕ) → Leads place pieces to → [] ≡ flat_map piece_bytes pieces ++ rest → pieces ≡ []
+nothing_of_none : (place : Place) (pieces : List ChunkPiece) (to : Place) (rest : List ℕ) → Leads place pieces to → [] ≡ flat_map piece_bytes pieces ++ rest → pieces ≡ []
 nothing_of_none place [] to rest x e = refl
 nothing_of_none place (piece ∷ pieces) to rest x e =
     absurd (omega (arith, piece_some place piece x.0 x.1, ap length e, length-append (piece_bytes piece ++ flat_map piece_bytes pieces) rest, length-append (piece_bytes piece) (flat_map piece_bytes pieces)))
@@ -83,10 +83,10 @@ module _ (lines read : List (List ℕ)) (room : Option ℕ) (bytes more : List �
   same_body : x.body ++ more ≡ y.body
   same_body = (response_prefix_free bytes more x.begins.0 y.begins.0 x.body y.body x.begins.1.reads y.begins.1.reads).1
 
-  p : List Piece
+  p : List ChunkPiece
   p = x.passes.carries.pieces
 
-  q : List Piece
+  q : List ChunkPiece
   q = y.passes.carries.pieces
 
   same_bytes : flat_map piece_bytes p ++ (reader.kept ++ more) ≡ flat_map piece_bytes q ++ []
@@ -97,7 +97,7 @@ module _ (lines read : List (List ℕ)) (room : Option ℕ) (bytes more : List �
       ∙ same_body ∙ y.passes.bytes_are ∙ ap (λ l. l ++ []) y.passes.carries.bytes_are
 
   -- what was read of the data is a beginning of it
-  read_first : (behind : List Piece) → q ≡ p ++ behind → (reader.place ≡ Over → behind ≡ []) → AreRead lines read reader
+  read_first : (behind : List ChunkPiece) → q ≡ p ++ behind → (reader.place ≡ Over → behind ≡ []) → AreRead lines read reader
   unfolding p q
   read_first behind e none =
       let more_data = flat_map piece_data behind in
@@ -127,7 +127,7 @@ streams-read-back lines read room bytes more reader all x e =
 -- ---- two readers
 
 -- more pieces have more data
-data_on : (pieces others behind : List Piece) (content other : List ℕ) → content ≡ flat_map piece_data pieces → other ≡ flat_map piece_data others → others ≡ pieces ++ behind
+data_on : (pieces others behind : List ChunkPiece) (content other : List ℕ) → content ≡ flat_map piece_data pieces → other ≡ flat_map piece_data others → others ≡ pieces ++ behind
     → other ≡ content ++ flat_map piece_data behind
 data_on pieces others behind content other one two e =
     two ∙ ap (flat_map piece_data) e ∙ flat_map-append piece_data pieces behind ∙ ap (λ l. l ++ flat_map piece_data behind) (sym one)
@@ -143,8 +143,8 @@ lines_on content other data_behind lines others part open_part x y e =
 pub readings-agree : ReadingsAgree
 readings-agree lines others room bound bytes more reader other x y =
     let body : x.body ++ more ≡ y.body = (response_prefix_free bytes more x.begins.0 y.begins.0 x.body y.body x.begins.1.reads y.begins.1.reads).1 in
-    let ps : List Piece = x.passes.carries.pieces in
-    let qs : List Piece = y.passes.carries.pieces in
+    let ps : List ChunkPiece = x.passes.carries.pieces in
+    let qs : List ChunkPiece = y.passes.carries.pieces in
     let same : flat_map piece_bytes ps ++ (reader.kept ++ more) ≡ flat_map piece_bytes qs ++ other.kept =
     sym (append_assoc (flat_map piece_bytes ps) reader.kept more)
     ∙ ap (λ l. (l ++ reader.kept) ++ more) (sym x.passes.carries.bytes_are) ∙ ap (λ l. l ++ more) (sym x.passes.bytes_are)

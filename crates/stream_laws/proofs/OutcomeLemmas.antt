@@ -8,7 +8,7 @@ use Rattle.std.proofs.lemmas.List.Elements.{All-head, All-same, All-drop}
 use Rattle.std.proofs.lemmas.List.Concat.{flat_map-append}
 use Rattle.std.proofs.Math.Seq.{take-append-add}
 use Rattle.httparse.specs.Grammar.{ChunkLine, IsChunkLine, print_chunk_line, HasNoChunkLine}
-use Rattle.line_stream.specs.Chunks.{Piece, sized, byte, ended, piece_bytes, piece_data, Follows, Leads, most_size, IsRefusedAt, NeverHasEnd}
+use Rattle.line_stream.specs.Chunks.{ChunkPiece, sized, byte, ended, piece_bytes, piece_data, Follows, Leads, most_size, IsRefusedAt, NeverHasEnd}
 use Rattle.line_stream.specs.Readers.{ReaderData, most_line, Spends, FitsRoom, GoesOn, EndsLine, IsOverlong}
 use Rattle.line_stream.proofs.PieceLemmas.{pieces-agree}
 use Rattle.line_stream.proofs.ReaderLemmas.{goes-more}
@@ -160,7 +160,7 @@ no_size bytes rest (inr none) l is short e =
           ∙ take-append-add (print_chunk_line l) rest (most_size - length (print_chunk_line l)),
     )
 
-refused_none : (place : Place) (bytes : List ℕ) (piece : Piece) (to : Place) (rest : List ℕ) → IsRefusedAt place bytes → Follows place piece to → bytes ≡ piece_bytes piece ++ rest → ⊥
+refused_none : (place : Place) (bytes : List ℕ) (piece : ChunkPiece) (to : Place) (rest : List ℕ) → IsRefusedAt place bytes → Follows place piece to → bytes ≡ piece_bytes piece ++ rest → ⊥
 refused_none AtSize bytes (sized l) to rest x f e = no_size bytes rest x l f.0 f.1 e
 refused_none AtSize bytes (byte b) to rest x f e = f
 refused_none AtSize bytes ended to rest x f e = f
@@ -172,7 +172,7 @@ refused_none Last bytes (byte b) to rest x f e = f
 refused_none Last bytes ended to rest x f e = x [] rest (append-nil bytes ∙ e)
 refused_none Over bytes piece to rest x f e = x
 
-refused_stays : (place : Place) (bytes : List ℕ) (pieces : List Piece) (to : Place) (rest : List ℕ) → IsRefusedAt place bytes → Leads place pieces to → bytes ≡ flat_map piece_bytes pieces ++ rest → pieces ≡ []
+refused_stays : (place : Place) (bytes : List ℕ) (pieces : List ChunkPiece) (to : Place) (rest : List ℕ) → IsRefusedAt place bytes → Leads place pieces to → bytes ≡ flat_map piece_bytes pieces ++ rest → pieces ≡ []
 refused_stays place bytes [] to rest x leads e = refl
 refused_stays place bytes (piece ∷ pieces) to rest x leads e =
     absurd (refused_none place bytes piece leads.0 (flat_map piece_bytes pieces ++ rest) x leads.1 (e ∙ append_assoc (piece_bytes piece) (flat_map piece_bytes pieces) rest))
@@ -191,16 +191,16 @@ data_leads : (content : List ℕ) (left : ℕ) → Leads (Inside (length content
 data_leads [] left = ap Inside {x = length {A = ℕ} [] + left} {y = left} (omega arith)
 data_leads (b ∷ content) left = (Inside (length content + left), (length content + left, omega arith, refl), data_leads content left)
 
-head_piece : List Piece → Piece
+head_piece : List ChunkPiece → ChunkPiece
 head_piece [] = ended
 head_piece (piece ∷ pieces) = piece
 
-tail_pieces : List Piece → List Piece
+tail_pieces : List ChunkPiece → List ChunkPiece
 tail_pieces [] = []
 tail_pieces (piece ∷ pieces) = pieces
 
 -- a piece among these is a byte of the data
-byte_there : (content : List ℕ) (before : List Piece) (piece : Piece) (after : List Piece) → map byte content ≡ before ++ piece ∷ after
+byte_there : (content : List ℕ) (before : List ChunkPiece) (piece : ChunkPiece) (after : List ChunkPiece) → map byte content ≡ before ++ piece ∷ after
     → (b : ℕ) × (piece ≡ byte b) × (content ≡ flat_map piece_data before ++ b ∷ flat_map piece_data after)
 unfolding head_piece tail_pieces
 byte_there [] [] piece after e = absurd (omega (arith, ap length e))
@@ -262,7 +262,7 @@ still_overlong old first second bytes x y a some o short =
     second_size : length second.part ≡ length old.part + (length x.content + length (flat_map piece_data a.more))
     second_size = omega (arith, ap length y.part ∙ length-append old.part y.content, ap length a.rest ∙ length-append x.content (flat_map piece_data a.more))
 
-    beyond : (more : List Piece) → a.more ≡ map byte o.content ++ more → ⊥
+    beyond : (more : List ChunkPiece) → a.more ≡ map byte o.content ++ more → ⊥
     beyond more e =
         omega (
           arith,
@@ -275,7 +275,7 @@ still_overlong old first second bytes x y a some o short =
           ap length (data_of_data o.content),
         )
 
-    within : (more : List Piece) → map byte o.content ≡ a.more ++ more → Leads second.place more (Inside rest) → second.kept ≡ flat_map piece_bytes more ++ o.after → outcome_of second ≡ refused Overlong
+    within : (more : List ChunkPiece) → map byte o.content ≡ a.more ++ more → Leads second.place more (Inside rest) → second.kept ≡ flat_map piece_bytes more ++ o.after → outcome_of second ≡ refused Overlong
     within [] e leads bytes = absurd (beyond [] (sym (append-nil a.more) ∙ sym e ∙ sym (append-nil (map byte o.content))))
     within (piece ∷ more) e leads bytes =
         let there = byte_there o.content a.more piece more e in
@@ -359,7 +359,7 @@ module _ (old first second : ReaderData) (bytes : List ℕ) (short : length old.
   same_outcome o p h k none =
       outcome_is first o (x.short short) h ∙ ap outcome_of (same_reader old first second bytes x y a none) ∙ sym (outcome_is second p (y.short short) k)
 
-  over_none : (place : Place) → place ≡ Over → (pieces : List Piece) (to : Place) → Leads place pieces to → pieces ≡ []
+  over_none : (place : Place) → place ≡ Over → (pieces : List ChunkPiece) (to : Place) → Leads place pieces to → pieces ≡ []
   over_none place e pieces to leads = nothing_over pieces to (subst (λ q. Leads q pieces to) e leads)
 
   ahead_agrees : (o p : Outcome) → HasOutcome first o → HasOutcome second p → o ≡ p

@@ -1,6 +1,6 @@
 -- How the reading of a line ends.
 use Rattle.std.specs.Prelude.{◌≡◌, ◌≢◌, ℕ, ◌≤◌, List, [], ◌++◌, length, Some}
-use Rattle.line_stream.specs.Readers.{ReaderData, most_line, GoesOn, EndsLine, IsRefused}
+use Rattle.line_stream.specs.Readers.{ReaderData, most_line, GoesOn, EndsLine, IsReaderRefused}
 use Rattle.line_stream.specs.declared.place.Place.TheVariants as place
 use Rattle.line_stream.specs.declared.refusal.LineNo.{LineNo}
 
@@ -13,7 +13,7 @@ pub data Outcome : Type 0 where
 abbrev pub HasOutcome : ReaderData → Outcome → Type 0
 HasOutcome reader whole = ((new : ReaderData) × EndsLine reader new) × (length reader.part ≤ most_line)
 HasOutcome reader over = (reader.room ≢ Some 0) × (reader.place ≡ place.Over) × (reader.part ≡ [])
-HasOutcome reader (refused why) = IsRefused reader why
+HasOutcome reader (refused why) = IsReaderRefused reader why
 
 -- from a reader, over some bytes, the reading of a line has one outcome, and bytes that follow don't change it: it
 -- doesn't matter how the bytes came in pieces

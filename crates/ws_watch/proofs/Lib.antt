@@ -1,4 +1,3 @@
 pub mod HandshakeLemmas
 pub mod MessageLemmas
 pub mod ClientLemmas
-pub mod WritingLemmas

@@ -1,14 +1,13 @@
 //! The answer that opens a WebSocket.
 
-ghost use Rattle.std.specs.Prelude.{◌≡◌, ◌≤◌, ◌++◌, ◌↔◌, IsTrue, IfOk, OnOk, OnErr};
-ghost use Rattle.edge_io.specs.Told.{appended, AppendedSome};
-ghost use Rattle.edge_io.specs.Counts.{Rose};
+ghost use Rattle.std.specs.Prelude.{◌≡◌, ◌++◌, ◌↔◌, IsTrue, IfOk};
+ghost use Rattle.edge_io.specs.Sent.{Writes, sent_through};
 ghost use Rattle.sha1.specs.Sha1.{sha1};
 ghost use Rattle.ws_watch.specs.Handshake.{guid, accept_of, socket_head_text, IsSocketKey, IsUpgrade};
 
-use crate::writing::{WsNo, write_bytes};
+use crate::writing::write_pieces;
 use base64::engine::general_purpose::STANDARD;
-use edge_io::Sink;
+use edge_io::{Failed, Sink};
 use kube_meta::{Memory, Text};
 use sha1::Sha1;
 use std::alloc::Global;
@@ -67,17 +66,14 @@ fn is_socket_key(key: &[u8]) -> bool
 
 /// Writes the head that opens a WebSocket, up to and with its empty line: the status 101, and the answer to the
 /// client's key.
-pub fn begin_socket<K: Sink>(sink: &mut K, key: &str) -> Result<(), WsNo>
-    ensures sent { OnOk result (K.written sink.new ≡ appended (K.written sink.old) (socket_head_text key.now)) }
-    ensures broken { OnErr result (AppendedSome (K.written sink.old) (K.written sink.new) (socket_head_text key.now)) }
-    ensures quiet { OnOk result (K.faults sink.new ≡ K.faults sink.old) }
-    ensures counted { OnErr result (Rose (K.faults sink.old) (K.faults sink.new)) }
-    ensures never_falls { K.faults sink.old ≤ K.faults sink.new }
+pub fn begin_socket<K: Sink>(sink: &mut K, key: &str) -> Result<(), Failed>
+    ensures { Writes result (socket_head_text key.now) (sent_through K.written K.settled K.faults sink.old sink.new) }
 {
-    write_bytes(
-        sink,
+    let accepted = accept_bytes(key);
+    let pieces: [&[u8]; 3] = [
         b"HTTP/1.1 101 Switching Protocols\r\nUpgrade: websocket\r\nConnection: Upgrade\r\nSec-WebSocket-Accept: ",
-    )?;
-    write_bytes(sink, &accept_bytes(key))?;
-    write_bytes(sink, b"\r\n\r\n")
+        &accepted,
+        b"\r\n\r\n",
+    ];
+    write_pieces(sink, &pieces)
 }

@@ -1,13 +1,12 @@
 //! The frames of messages and of the close.
 
-ghost use Rattle.std.specs.Prelude.{◌≡◌, ◌≤◌, ◌<◌, ◌^◌, OnOk, OnErr, length};
+ghost use Rattle.std.specs.Prelude.{◌≤◌, ◌<◌, ◌^◌, length};
 ghost use Rattle.std.specs.List.{flat_map};
-ghost use Rattle.edge_io.specs.Told.{appended, AppendedSome};
-ghost use Rattle.edge_io.specs.Counts.{Rose};
+ghost use Rattle.edge_io.specs.Sent.{Writes, sent_through};
 ghost use Rattle.ws_watch.specs.Messages.{message_head_text, message_text, socket_end_text};
 
-use crate::writing::{WsNo, write_bytes, write_pieces};
-use edge_io::{Sink, length_of};
+use crate::writing::{write_bytes, write_pieces};
+use edge_io::{Failed, Sink, length_of};
 
 // The first byte of a text message: the last of its fragments, no reserved bit, and the opcode 1.
 const TEXT: u8 = 0x81;
@@ -17,14 +16,10 @@ const CLOSE: u8 = 0x88;
 
 /// Writes the head of one text message of `length` bytes, without a mask and in one fragment (RFC 6455, section 5.2).
 /// The bytes of the message follow it, in pieces of any size.
-pub fn begin_message<K: Sink>(sink: &mut K, length: u64) -> Result<(), WsNo>
+pub fn begin_message<K: Sink>(sink: &mut K, length: u64) -> Result<(), Failed>
     requires some { 1 ≤ length }
     requires told { length < 2 ^ 63 }
-    ensures sent { OnOk result (K.written sink.new ≡ appended (K.written sink.old) (message_head_text length)) }
-    ensures broken { OnErr result (AppendedSome (K.written sink.old) (K.written sink.new) (message_head_text length)) }
-    ensures quiet { OnOk result (K.faults sink.new ≡ K.faults sink.old) }
-    ensures counted { OnErr result (Rose (K.faults sink.old) (K.faults sink.new)) }
-    ensures never_falls { K.faults sink.old ≤ K.faults sink.new }
+    ensures { Writes result (message_head_text length) (sent_through K.written K.settled K.faults sink.old sink.new) }
 {
     if length < 126 {
         write_bytes(sink, &[TEXT, length as u8])
@@ -38,14 +33,10 @@ pub fn begin_message<K: Sink>(sink: &mut K, length: u64) -> Result<(), WsNo>
 }
 
 /// Writes a whole text message: its head, and these pieces, one after the other.
-pub fn send_message<K: Sink>(sink: &mut K, pieces: &[&[u8]]) -> Result<(), WsNo>
+pub fn send_message<K: Sink>(sink: &mut K, pieces: &[&[u8]]) -> Result<(), Failed>
     requires some { 1 ≤ length (flat_map (λ piece. piece.now) pieces.now) }
     requires told { length (flat_map (λ piece. piece.now) pieces.now) < 2 ^ 63 }
-    ensures sent { OnOk result (K.written sink.new ≡ appended (K.written sink.old) (message_text (flat_map (λ piece. piece.now) pieces.now))) }
-    ensures broken { OnErr result (AppendedSome (K.written sink.old) (K.written sink.new) (message_text (flat_map (λ piece. piece.now) pieces.now))) }
-    ensures quiet { OnOk result (K.faults sink.new ≡ K.faults sink.old) }
-    ensures counted { OnErr result (Rose (K.faults sink.old) (K.faults sink.new)) }
-    ensures never_falls { K.faults sink.old ≤ K.faults sink.new }
+    ensures { Writes result (message_text (flat_map (λ piece. piece.now) pieces.now)) (sent_through K.written K.settled K.faults sink.old sink.new) }
 {
     begin_message(sink, length_of(pieces))?;
     write_pieces(sink, pieces)
@@ -53,12 +44,8 @@ pub fn send_message<K: Sink>(sink: &mut K, pieces: &[&[u8]]) -> Result<(), WsNo>
 
 /// Writes the frame that closes a WebSocket: the status code 1000, a normal closure, and no reason (RFC 6455,
 /// sections 5.5.1 and 7.4.1). Nothing may follow it.
-pub fn end_socket<K: Sink>(sink: &mut K) -> Result<(), WsNo>
-    ensures sent { OnOk result (K.written sink.new ≡ appended (K.written sink.old) socket_end_text) }
-    ensures broken { OnErr result (AppendedSome (K.written sink.old) (K.written sink.new) socket_end_text) }
-    ensures quiet { OnOk result (K.faults sink.new ≡ K.faults sink.old) }
-    ensures counted { OnErr result (Rose (K.faults sink.old) (K.faults sink.new)) }
-    ensures never_falls { K.faults sink.old ≤ K.faults sink.new }
+pub fn end_socket<K: Sink>(sink: &mut K) -> Result<(), Failed>
+    ensures { Writes result socket_end_text (sent_through K.written K.settled K.faults sink.old sink.new) }
 {
     write_bytes(sink, &[CLOSE, 2, 3, 232])
 }

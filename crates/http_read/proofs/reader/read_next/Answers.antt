@@ -3,7 +3,7 @@ use Rattle.std.specs.Prelude.{Err}
 use Rattle.edge_io.specs.Told.{prepended}
 use Rattle.edge_io.proofs.ToldLemmas.{prepended-prepended}
 use Rattle.http_read.specs.Answers.{ReadsNext}
-use Rattle.http_read.proofs.BodyLemmas.{no-head, reads-later}
+use Rattle.http_read.proofs.BodyLemmas.{no-head}
 use Rattle.http_read.proofs.IdleLemmas.{none-taken}
 use Rattle.http_read.specs.Requests.{IsUnfinished}
 use Rattle.http_read.proofs.reader.read_next.Goals as goal
@@ -19,7 +19,7 @@ returns-in-Ok-Some-clause-reads g c =
       first.1 ∙ ap (prepended first.0) more.1 ∙ prepended-prepended first.0 more.0 _,
       subst (λ b. ReadsNext b c.read_found.result c.read_found.new.kept left old_faults new_faults)
           (ap (λ l. l ++ more.0) first.2 ∙ append_assoc c.args.kept.now first.0 more.0)
-          (reads-later _ c.read_found.result c.read_found.new.kept left old_faults _ new_faults c.read_head.ensures.never_falls c.read_found.ensures.never_falls more.2),
+          (subst (λ f. ReadsNext (c.read_head.new.kept ++ more.0) c.read_found.result c.read_found.new.kept left f new_faults) c.in-Ok-Some.ensures.quiet more.2),
       λ finished.
           let same = (c.in-Ok-Some.ensures.idle finished).0 in
           ap (λ l. l ++ more.0) (none-taken c.args.kept.now c.read_head.new.kept first.0 first.2 same)

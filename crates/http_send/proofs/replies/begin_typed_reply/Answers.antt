@@ -1,8 +1,8 @@
 use Rattle.std.proofs.Common.{◌∙◌}
 use Rattle.http_send.proofs.replies.begin_typed_reply.Goals as goal
 
-pub returns-clause-sent : goal.returns-clause-sent
-returns-clause-sent g c =
+pub returns : goal.returns
+returns g c =
     rw (
       ← c.as_bytes.ensures.value ∙ c.format.ensures.text,
       ← c.as_bytes-2.ensures.value ∙ c.phrase_of.ensures,
@@ -11,16 +11,4 @@ returns-clause-sent g c =
       ← c.piece_where.ensures,
       ← c.piece_where-2.ensures,
     )
-    c.parts.ensures.sent
-
-pub returns-clause-broken : goal.returns-clause-broken
-returns-clause-broken g c =
-    rw (
-      ← c.as_bytes.ensures.value ∙ c.format.ensures.text,
-      ← c.as_bytes-2.ensures.value ∙ c.phrase_of.ensures,
-      ← c.as_bytes-3.ensures.value ∙ c.format-2.ensures.text,
-      ← c.content_type_line.ensures,
-      ← c.piece_where.ensures,
-      ← c.piece_where-2.ensures,
-    )
-    c.parts.ensures.broken
+    c.parts.ensures

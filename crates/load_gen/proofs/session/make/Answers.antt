@@ -1,7 +1,7 @@
 use Rattle.std.proofs.Common.{◌≡◌, ℕ, List, ◌++◌, refl, sym, ap, ◌∙◌, arith}
 use Rattle.std.specs.List.{flat_map, range_with_len}
 use Rattle.load_gen.specs.Draws.{state_after}
-use Rattle.load_gen.specs.Requests.{session_text, list_text, request_at, request_text}
+use Rattle.load_gen.specs.Requests.{session_text, list_request, request_at, request_text}
 use Rattle.load_gen.specs.declared.requests.LoadRequest.{LoadRequest}
 use Rattle.load_gen.proofs.DrawLemmas.{three_more, request_is, flat_more}
 use Rattle.load_gen.proofs.session.make.Goals as goal
@@ -24,4 +24,4 @@ returns c =
     let f = λ (k : ℕ). request_text (request_at c.args.from k) in
     let all : c.loop-number._number ≡ c.args.requests = omega arith in
     c.in_ok-put_list.ensures
-    ∙ ap (λ (x : List ℕ). x ++ list_text) (c.loop-number.invariant.1 ∙ ap (λ (n : ℕ). flat_map f (range_with_len 0 n)) all)
+    ∙ ap (λ (x : List ℕ). x ++ list_request) (c.loop-number.invariant.1 ∙ ap (λ (n : ℕ). flat_map f (range_with_len 0 n)) all)

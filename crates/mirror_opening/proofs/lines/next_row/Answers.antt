@@ -3,7 +3,7 @@ use Rattle.std.proofs.Common.{ℕ, List, ◌++◌, Ok, subst}
 use Rattle.kube_meta.specs.declared.resources.Resource.TheVariants.{Pods}
 use Rattle.line_stream.specs.Answers.{AnswersLine}
 use Rattle.line_stream.specs.declared.lines.Step.{Step}
-use Rattle.watch_read.specs.Lines.{Reads}
+use Rattle.watch_read.specs.Lines.{ReadsPeerLine}
 use Rattle.mirror_opening.proofs.AnswerLemmas.{adds_quietly}
 use Rattle.mirror_opening.proofs.StepLemmas.{stepped}
 use Rattle.mirror_opening.proofs.lines.next_row.Goals as goal
@@ -16,7 +16,7 @@ returns-in-Ok-clause-reads g c =
       read.1,
       stepped c.args.selection.now c.args.rows.now.items c.args.reader.now.at (c.args.reader.now.at.kept ++ read.0) (g.S.Source.left c.next_line.new.source)
           c.next_line.new.self.line c.next_line.new.self.at c.in-Ok.line c.take_line.result c.take_line.new.rows.items line
-          (subst (λ (text : List ℕ). Reads Pods text c.in-Ok.line) c.line.ensures c.in-Ok.ensures) c.take_line.ensures,
+          (subst (λ (text : List ℕ). ReadsPeerLine Pods text c.in-Ok.line) c.line.ensures c.in-Ok.ensures) c.take_line.ensures,
     )
 
 pub returns-in-Ok-clause-counted : goal.returns-in-Ok-clause-counted

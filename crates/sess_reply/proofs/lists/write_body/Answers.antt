@@ -1,11 +1,11 @@
 use Rattle.std.proofs.Common.{[], ◌∷◌}
-use Rattle.edge_io.proofs.ToldLemmas.{AppendedSome-first}
-use Rattle.http_send.proofs.ReplyLemmas.{OnErr-always, broken_behind}
+use Rattle.edge_io.proofs.SentLemmas.{broken-first}
+use Rattle.sess_reply.proofs.SendLemmas.{sends-broken, sends-behind}
 use Rattle.sess_reply.proofs.lists.write_body.Goals as goal
 
-pub returns-in_err-write_list-clause-broken : goal.returns-in_err-write_list-clause-broken
-returns-in_err-write_list-clause-broken g c =
-    OnErr-always c.from_residual.result (AppendedSome-first _ _ _ (10 ∷ []) c.in_err-write_list.ensures.broken)
+pub returns-in_err-write_list : goal.returns-in_err-write_list
+returns-in_err-write_list g c =
+    sends-broken c.from_residual.result _ _ c.from_residual.ensures.1 (broken-first _ _ _ _ _ (10 ∷ []) c.in_err-write_list.ensures)
 
-pub returns-clause-broken : goal.returns-clause-broken
-returns-clause-broken g c = broken_behind c.end_reply.result _ _ _ _ (10 ∷ []) c.in_ok-write_list.ensures.sent c.end_reply.ensures.broken
+pub returns : goal.returns
+returns g c = sends-behind c.end_reply.result _ _ _ _ _ _ _ _ _ _ (10 ∷ []) c.in_ok-write_list.ensures c.end_reply.ensures

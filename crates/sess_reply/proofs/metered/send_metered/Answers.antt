@@ -1,17 +1,12 @@
 use Rattle.std.proofs.Common.{refl, append-nil, ◌∙◌, false}
 use Rattle.http_send.specs.declared.replies.ContentType.TheVariants.{MetricsText}
 use Rattle.metrics_text.specs.Text.{metrics_text}
-use Rattle.sess_reply.proofs.SendLemmas.{content_sent, content_broken}
+use Rattle.sess_reply.proofs.SendLemmas.{content-sends}
 use Rattle.sess_reply.proofs.metered.send_metered.Goals as goal
 
-pub returns-clause-sent : goal.returns-clause-sent
-returns-clause-sent g c =
-    content_sent MetricsText 200 false c.args.close _ (record { code = 200; retry = false; kind = MetricsText; text = metrics_text c.args.told.now }) refl refl refl
+pub returns : goal.returns
+returns g c =
+    content-sends c.send_typed_pieces.result _ MetricsText 200 false c.args.close _
+    (record { code = 200; retry = false; kind = MetricsText; text = metrics_text c.args.told.now }) refl refl refl
     (append-nil c.as_slice.result.now ∙ c.as_slice.ensures.value ∙ c.in_ok-text.ensures)
-    c.send_typed_pieces.result _ _ c.send_typed_pieces.ensures.sent
-
-pub returns-clause-broken : goal.returns-clause-broken
-returns-clause-broken g c =
-    content_broken MetricsText 200 false c.args.close _ (record { code = 200; retry = false; kind = MetricsText; text = metrics_text c.args.told.now }) refl refl refl
-    (append-nil c.as_slice.result.now ∙ c.as_slice.ensures.value ∙ c.in_ok-text.ensures)
-    c.send_typed_pieces.result _ _ c.send_typed_pieces.ensures.broken
+    c.send_typed_pieces.ensures

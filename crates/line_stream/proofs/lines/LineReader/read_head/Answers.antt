@@ -1,5 +1,5 @@
 use Rattle.std.proofs.Common.{◌≡◌, ◌++◌, sym, ap, subst, ◌∙◌}
-use Rattle.line_stream.specs.Heads.{RefusesHead, BeginsChunks}
+use Rattle.line_stream.specs.Heads.{RefusesResponse, BeginsChunks}
 use Rattle.line_stream.proofs.HeadLemmas.{kept-with, body-with}
 use Rattle.line_stream.proofs.lines.LineReader.read_head.Goals as goal
 
@@ -10,7 +10,7 @@ returns-in-Err-clause-reads g c =
       came.0,
       came.1,
       (
-        subst (λ b. RefusesHead b (g.S.Source.left c.read_start.new.source) c.in-Err.why) kept came.3,
+        subst (λ b. RefusesResponse b (g.S.Source.left c.read_start.new.source) c.in-Err.why) kept came.3,
         kept-with _ c.args.self.now _ (c.args.self.now.at.kept ++ came.0) c.self.view_is kept,
       ),
     )

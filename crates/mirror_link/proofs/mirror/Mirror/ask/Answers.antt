@@ -1,18 +1,13 @@
--- What was written is the request of the mirror as contracts see it.
-use Rattle.std.proofs.Common.{ap, ◌∙◌}
+-- Whatever the head says, the request was sent on.
+use Rattle.std.proofs.Common.{Err, ap, sym, subst, ◌∙◌}
+use Rattle.edge_io.specs.Sent.{sent_through}
 use Rattle.mirror_link.specs.Beginning.{resume_request}
 use Rattle.mirror_link.specs.Views.{MirrorData}
-use Rattle.mirror_link.proofs.BeginLemmas.{begins, begins_none, request_is}
+use Rattle.mirror_link.proofs.BeginLemmas.{begins, begins_none}
 use Rattle.mirror_link.proofs.mirror.Mirror.ask.Goals as goal
-use Rattle.mirror_opening.proofs.AnswerLemmas.{asked}
-use Rattle.rev_log.specs.Logs.{end_of}
-use Rattle.select_all.specs.declared.selection.Selection.{Selection}
-
-pub returns-clause-asks : goal.returns-clause-asks
-returns-clause-asks g c =
-    request_is c.args.self.now c.selection.result.now.ns c.to.result c.as_str.result.now c.as_str-2.result.now (g.K.Sink.written c.args.sink.now) (g.K.Sink.written c.ask_watch.new.sink)
-    (ap (λ (s : Selection). s.ns) c.selection.ensures ∙ ap (λ (m : MirrorData). m.selection.ns) c.self.view_is) (c.to.ensures.answer ∙ ap (λ (m : MirrorData). end_of m.log) c.self.view_is)
-    (c.as_str.ensures ∙ ap (λ (m : MirrorData). m.label) c.self.view_is) (c.as_str-2.ensures ∙ ap (λ (m : MirrorData). m.field) c.self.view_is) c.in-Ok.ensures.sent
+use Rattle.mirror_opening.specs.Asking.{IsAsked}
+use Rattle.mirror_opening.specs.declared.refusal.LinkNo.{LinkNo}
+use Rattle.mirror_opening.proofs.AnswerLemmas.{asked, not_asked, no_write}
 
 pub returns-clause-reads : goal.returns-clause-reads
 returns-clause-reads g c =
@@ -23,12 +18,17 @@ returns-clause-reads g c =
           (ap (λ (m : MirrorData). m.reading.room) c.self.view_is ∙ c.requires.kept.1) c.in-Ok-read_head.field-0 read.2,
     )
 
+pub returns-in-Err-clause-asks : goal.returns-in-Err-clause-asks
+returns-in-Err-clause-asks g c =
+    let text = resume_request c.args.self.now in
+    let sent = sent_through g.K.Sink.written g.K.Sink.settled g.K.Sink.faults c.args.sink.now c.send_request.new.sink in
+    subst (λ (why : LinkNo). IsAsked {A = Unit {0}} (Err why) text sent) (sym c.from.ensures) (not_asked (Unit {0}) c.in-Err.fault text sent c.in-Err.ensures)
+
 pub returns-in-Err-read_head-clause-asks : goal.returns-in-Err-read_head-clause-asks
 returns-in-Err-read_head-clause-asks g c =
-    asked (Unit {0}) (resume_request c.args.self.now) c.from-in-Err-read_head.result (g.K.Sink.written c.args.sink.now) (g.K.Sink.written c.ask_watch.new.sink)
-    (request_is c.args.self.now c.selection.result.now.ns c.to.result c.as_str.result.now c.as_str-2.result.now (g.K.Sink.written c.args.sink.now) (g.K.Sink.written c.ask_watch.new.sink)
-    (ap (λ (s : Selection). s.ns) c.selection.ensures ∙ ap (λ (m : MirrorData). m.selection.ns) c.self.view_is) (c.to.ensures.answer ∙ ap (λ (m : MirrorData). end_of m.log) c.self.view_is)
-    (c.as_str.ensures ∙ ap (λ (m : MirrorData). m.label) c.self.view_is) (c.as_str-2.ensures ∙ ap (λ (m : MirrorData). m.field) c.self.view_is) c.in-Ok.ensures.sent)
+    asked (Unit {0}) c.from-in-Err-read_head.result (resume_request c.args.self.now)
+    (sent_through g.K.Sink.written g.K.Sink.settled g.K.Sink.faults c.args.sink.now c.send_request.new.sink)
+    (λ is. no_write c.in-Err-read_head.fault (sym c.from-in-Err-read_head.ensures ∙ is)) c.in-Ok.ensures
 
 pub returns-in-Err-read_head-clause-reads : goal.returns-in-Err-read_head-clause-reads
 returns-in-Err-read_head-clause-reads g c =

@@ -1,11 +1,21 @@
--- Where the rows are refused, the request was written all the same.
-use Rattle.std.proofs.Common.{[], sym, subst, inr}
+-- Where the rows are refused, the request was sent on all the same.
+use Rattle.std.proofs.Common.{[], Err, sym, subst, inr}
+use Rattle.ask_watch.specs.Requests.{request_text}
+use Rattle.ask_watch.specs.declared.start.Start.TheVariants.{State}
 use Rattle.edge_io.proofs.ToldLemmas.{prepended-nil}
+use Rattle.edge_io.specs.Sent.{sent_through}
+use Rattle.mirror_opening.specs.Asking.{IsAsked}
 use Rattle.mirror_opening.specs.Openings.{OpeningData}
 use Rattle.mirror_opening.specs.Reading.{HasNoOpening}
 use Rattle.mirror_opening.specs.declared.refusal.LinkNo.{LinkNo}
-use Rattle.mirror_opening.proofs.AnswerLemmas.{asked, quiet_sink, unasked, was_asked}
+use Rattle.mirror_opening.proofs.AnswerLemmas.{asked, not_asked, unasked, was_asked}
 use Rattle.mirror_opening.proofs.opening.Opening.read.Goals as goal
+
+pub returns-in-Err-clause-asks : goal.returns-in-Err-clause-asks
+returns-in-Err-clause-asks g c =
+    let text = request_text c.args.selection.ns State c.args.label.now c.args.field.now in
+    let sent = sent_through g.K.Sink.written g.K.Sink.settled g.K.Sink.faults c.args.sink.now c.ask_watch.new.sink in
+    subst (λ (why : LinkNo). IsAsked {A = OpeningData} (Err why) text sent) (sym c.from.ensures) (not_asked OpeningData c.in-Err.fault text sent c.in-Err.ensures)
 
 pub returns-in-Err-clause-reads : goal.returns-in-Err-clause-reads
 returns-in-Err-clause-reads g c = (
@@ -15,14 +25,12 @@ returns-in-Err-clause-reads g c = (
 )
 
 pub returns-in-Err-read_rows-clause-asks : goal.returns-in-Err-read_rows-clause-asks
-returns-in-Err-read_rows-clause-asks g c = asked OpeningData _ c.in-Err-read_rows.why _ _ c.in-Ok-ask_watch.ensures.sent
+returns-in-Err-read_rows-clause-asks g c =
+    let read = c.in-Err-read_rows.ensures.reads in
+    asked OpeningData c.in-Err-read_rows.why _ (sent_through g.K.Sink.written g.K.Sink.settled g.K.Sink.faults c.args.sink.now c.ask_watch.new.sink)
+    (was_asked c.args.selection read.0 (g.S.Source.left c.read_rows.new.source) c.in-Err-read_rows.why read.2) c.in-Ok-ask_watch.ensures
 
 pub returns-in-Err-read_rows-clause-reads : goal.returns-in-Err-read_rows-clause-reads
 returns-in-Err-read_rows-clause-reads g c =
     let read = c.in-Err-read_rows.ensures.reads in
     (read.0, read.1, inr read.2)
-
-pub returns-in-Err-read_rows-clause-write_faults : goal.returns-in-Err-read_rows-clause-write_faults
-returns-in-Err-read_rows-clause-write_faults g c =
-    let read = c.in-Err-read_rows.ensures.reads in
-    quiet_sink OpeningData c.in-Err-read_rows.why _ _ (was_asked c.args.selection read.0 (g.S.Source.left c.read_rows.new.source) c.in-Err-read_rows.why read.2) c.in-Ok-ask_watch.ensures.counted
