@@ -58,7 +58,7 @@ module _ (log : Log) (end : ℕ) where
     pub waiting : AllByRecursion (λ e. IsWaiting log end e.1 (open_at start e.0)) rest
     pub each : (q : ℕ) → IsSentTo (has rest q) (open_at start q) (open_at now q)
 
-  none_waits : (o : Option OpenLaneData) → IsWaiting log end [] o → IsSentTo false o o
+  pub none_waits : (o : Option OpenLaneData) → IsWaiting log end [] o → IsSentTo false o o
   none_waits None waits = (false, refl)
   none_waits (Some o) waits = (false, ap (λ (x : OpenLaneData). Some x) (sym (nothing_waits log end [] o refl waits)))
 

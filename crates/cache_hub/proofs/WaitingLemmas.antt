@@ -13,7 +13,7 @@ use Rattle.watch_lane.specs.Index.{is_listed}
 use Rattle.watch_lane.proofs.Numbers.{is_eq-nat_cmp}
 use Rattle.cache_world.specs.Lanes.{LaneData}
 use Rattle.cache_hub.specs.OpenLanes.{OpenLaneData, open_at}
-use Rattle.cache_hub.specs.Due.{due, all_due, due_in, due_at, lines_in, lines_at, one, AddsEach, AddsTo, AllDue, AreReady, AreWaiting, IsWaiting}
+use Rattle.cache_hub.specs.Due.{due, all_due, due_in, due_at, lines_in, lines_at, one, AddsEach, AddsTo, AllDue, AreReady, AreWaiting, IsReady, IsWaiting}
 
 abbrev pub Waiting : Type 0
 Waiting = List (ℕ × List TransitionData)
@@ -125,19 +125,19 @@ pub all_none : (lane : LaneData) (events : List EventRows) → lane.behind ≡ t
 all_none lane [] is = refl
 all_none lane (e ∷ es) is = ap (λ o. cons_option o (all_due lane es)) (one_due lane e is) ∙ all_none lane es is
 
+pub is_waiting : (log : Log) (end : ℕ) (events : List EventRows) (o : OpenLaneData) (lines : List TransitionData) → IsReady log end events o → lines ≡ all_due o.lane events → IsWaiting log end lines (Some o)
+is_waiting log end events o lines ready is = by_test o.lane.behind
+    (λ behind. inl (behind, is ∙ all_none o.lane events behind))
+    (λ ahead. inr (ahead, is ∙ ready ahead))
+
 pub are_waiting : (log : Log) (end : ℕ) (events : List EventRows) (lanes : List (ℕ × OpenLaneData)) (waiting : Waiting) →
     AreReady log end events lanes → AllDue lanes events waiting → AreWaiting log end waiting lanes
 are_waiting log end events lanes waiting ready all = λ id. by id (open_at lanes id) refl (all id)
   where
-    some : (id : ℕ) (o : OpenLaneData) → open_at lanes id ≡ Some o → lines_at waiting id ≡ all_due o.lane events → IsWaiting log end (lines_at waiting id) (Some o)
-    some id o is lines = by_test o.lane.behind
-        (λ behind. inl (behind, lines ∙ all_none o.lane events behind))
-        (λ ahead. inr (ahead, lines ∙ ready id o is ahead))
-
     by : (id : ℕ) (o : Option OpenLaneData) → open_at lanes id ≡ o → lines_at waiting id ≡ filter_map (due_at lanes id) events → IsWaiting log end (lines_at waiting id) (open_at lanes id)
     by id None is lines = subst (IsWaiting log end (lines_at waiting id)) (sym is) tt
     by id (Some o) is lines =
-        subst (IsWaiting log end (lines_at waiting id)) (sym is) (some id o is (lines ∙ ap (λ l. filter_map (due_in l) events) is))
+        subst (IsWaiting log end (lines_at waiting id)) (sym is) (is_waiting log end events o (lines_at waiting id) (ready id o is) (lines ∙ ap (λ l. filter_map (due_in l) events) is))
 
 -- ---- event by event
 

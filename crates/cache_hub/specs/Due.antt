@@ -8,6 +8,7 @@ use Rattle.select_all.specs.Selecting.{selects}
 use Rattle.select_all.specs.Streams.{EventData, TransitionData, transition_by}
 use Rattle.event_ring.specs.Events.{EventRows}
 use Rattle.rev_log.specs.Logs.{Log}
+use Rattle.watch_lane.specs.Index.{is_listed}
 use Rattle.cache_world.specs.Lanes.{LaneData, unsent}
 use Rattle.cache_hub.specs.OpenLanes.{OpenLaneData, open_at, left_behind}
 
@@ -51,9 +52,17 @@ lines_at waiting id = lines_in (lookup (λ other. is_eq (nat_cmp id other)) wait
 abbrev pub AllDue : List (ℕ × OpenLaneData) → List EventRows → List (ℕ × List TransitionData) → Type 0
 AllDue lanes events waiting = (id : ℕ) → lines_at waiting id ≡ filter_map (due_at lanes id) events
 
--- what each lane that isn't behind has to be told of these events is what it wasn't sent of the log up to an end
+-- unless a lane is behind, what it has to be told of these events is what it wasn't sent of the log up to an end
+abbrev pub IsReady : Log → ℕ → List EventRows → OpenLaneData → Type 0
+IsReady log end events o = o.lane.behind ≡ false → all_due o.lane events ≡ unsent log end o.lane
+
+-- and so for all lanes
 abbrev pub AreReady : Log → ℕ → List EventRows → List (ℕ × OpenLaneData) → Type 0
-AreReady log end events lanes = (id : ℕ) (o : OpenLaneData) → open_at lanes id ≡ Some o → o.lane.behind ≡ false → all_due o.lane events ≡ unsent log end o.lane
+AreReady log end events lanes = (id : ℕ) (o : OpenLaneData) → open_at lanes id ≡ Some o → IsReady log end events o
+
+-- lanes beside these numbers have to be told nothing of an event
+abbrev pub AreUntold : List (ℕ × OpenLaneData) → EventRows → List ℕ → Type 0
+AreUntold lanes event ids = (id : ℕ) → is_listed ids id ≡ false → due_at lanes id event ≡ None
 
 -- what waits for a lane is what it wasn't sent; nothing waits for one that is behind
 abbrev pub IsWaiting : Log → ℕ → List TransitionData → Option OpenLaneData → Type 0

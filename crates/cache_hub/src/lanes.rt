@@ -1,14 +1,16 @@
 //! The lanes of a cache.
 
-ghost use Rattle.std.specs.Prelude.{◌≡◌, ◌≤◌, ◌↔◌, ℕ, Bool, true, [], ◌++◌, length, None, Some, option_map, unwrap_or, IfOk, IsTrue, OnOk, OnErr};
+ghost use Rattle.std.specs.Prelude.{◌≡◌, ◌≤◌, ◌↔◌, ℕ, Bool, true, [], ◌∷◌, ◌++◌, length, None, Some, option_map, unwrap_or, IfOk, IsTrue, OnOk, OnErr};
+ghost use Rattle.std.specs.List.Sorted.{IsStrictlyIncreasing};
 ghost use Rattle.rev_front.specs.Passes.{end_from};
 ghost use Rattle.up_api.specs.Sections.{log_of};
-ghost use Rattle.cache_hub.specs.Due.{AddsEach, AddsTo, AllDue, AreReady, AreWaiting, IsWaiting, due_at, lines_at, missed};
+ghost use Rattle.cache_hub.specs.Due.{AddsEach, AddsTo, AllDue, AreReady, AreUntold, AreWaiting, IsWaiting, due_at, lines_at, missed};
 ghost use Rattle.cache_hub.specs.OpenLanes.{OpenLaneData, GetsAll, GoesAlong, LaneCaughtUp, SetsLane, AreChanged, AreTold, told_lane, caught_up, left_behind, count_behind, newly_open, open_at};
 
 use crate::calling::{hand_over_all, hang, strike};
 use crate::due::{Waiting, put_line};
 use crate::open_lane::{OpenLane, object};
+use crate::telling::tell_each;
 use bells::Bell;
 use event_ring::Event;
 use kube_meta::Memory;
@@ -198,10 +200,56 @@ impl<N: LogFacts> Lanes<N> {
         ensures lanes { AreTold (log_of N.base told.old) end self.old.all self.new.all }
         ensures room { self.new.room ≡ self.old.room }
     {
+        if let [event] = events {
+            if let Ok(ids) = self.touched(event) {
+                return self.tell_each(&ids, event, end, told);
+            }
+        }
+        self.tell_all(events, end, told);
+    }
+
+    // Tells the lanes of one event, lane by lane.
+    fn tell_each(&mut self, ids: &[u64], event: &Event, end: u64, told: &mut Pass<N>)
+        requires within { end ≤ end_from told.old.first told.old.seen }
+        requires ready { AreReady (log_of N.base told.old) end (event.now ∷ []) self.old.all }
+        requires rising { IsStrictlyIncreasing ids.now }
+        requires others { AreUntold self.old.all event.now ids.now }
+        ensures told { told.new ≡ told.old }
+        ensures lanes { AreTold (log_of N.base told.old) end self.old.all self.new.all }
+        ensures room { self.new.room ≡ self.old.room }
+    {
+        tell_each(
+            &mut self.lanes,
+            self.alloc,
+            ids,
+            event,
+            end,
+            told,
+            &mut self.called,
+        );
+    }
+
+    // Tells the lanes of several events: gathers first what each has to be told of all of them.
+    fn tell_all(&mut self, events: &[Event], end: u64, told: &mut Pass<N>)
+        requires within { end ≤ end_from told.old.first told.old.seen }
+        requires ready { AreReady (log_of N.base told.old) end events.now self.old.all }
+        ensures told { told.new ≡ told.old }
+        ensures lanes { AreTold (log_of N.base told.old) end self.old.all self.new.all }
+        ensures room { self.new.room ≡ self.old.room }
+    {
         match self.waiting(events) {
             Ok(waiting) => self.send(waiting, end, told),
             Err(Memory) => self.miss(events),
         }
+    }
+
+    // The lanes that an event may concern.
+    fn touched(&self, event: &Event) -> Result<Vec<u64>, Memory>
+        ensures rising { IfOk result (λ ids. IsStrictlyIncreasing ids.items) }
+        ensures others { IfOk result (λ ids. AreUntold self.now.all event.entry.now ids.items) }
+    {
+        self.index
+            .touched(object(&event.before), object(&event.now))
     }
 
     // What each lane has to be told of the events.
@@ -219,9 +267,7 @@ impl<N: LogFacts> Lanes<N> {
     fn note(&self, event: &Event, waiting: &mut Waiting) -> Result<(), Memory>
         ensures { OnOk result (AddsEach self.now.all event.entry.now waiting.old.entries waiting.new.entries) }
     {
-        let ids = self
-            .index
-            .touched(object(&event.before), object(&event.now))?;
+        let ids = self.touched(event)?;
         for id in &ids {
             self.note_for(*id, event, waiting)?;
         }

@@ -9,6 +9,7 @@ mod hub;
 mod lanes;
 mod open_lane;
 mod sleeper;
+mod telling;
 
 pub use catching::{CatchNo, Caught};
 pub use hub::Hub;

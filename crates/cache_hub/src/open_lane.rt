@@ -5,7 +5,7 @@ ghost use Rattle.std.specs.List.{list_any};
 ghost use Rattle.rev_front.specs.Passes.{end_from};
 ghost use Rattle.up_api.specs.Sections.{log_of};
 ghost use Rattle.cache_world.specs.Lanes.{unsent, opened_lane, batch_between};
-ghost use Rattle.cache_hub.specs.Due.{IsWaiting, due, missed, transition_of};
+ghost use Rattle.cache_hub.specs.Due.{IsReady, IsWaiting, all_due, due, missed, transition_of};
 ghost use Rattle.cache_hub.specs.OpenLanes.{GetsAll, GoesAlong, batch_of, told_lane, left_behind, caught_up};
 
 use crate::sleeper::Sleeper;
@@ -88,6 +88,37 @@ impl<N: LogFacts> OpenLane<N> {
             return Ok(None);
         }
         line_of(&self.selection, event)
+    }
+
+    /// Is told of an event, all that came up to `end`: where it concerns the lane, that gets a batch, or is behind.
+    pub fn tell(
+        &mut self,
+        alloc: Global,
+        event: &Event,
+        end: u64,
+        told: &mut Pass<N>,
+        called: &mut Vec<u64>,
+    )
+        requires within { end ≤ end_from told.old.first told.old.seen }
+        requires ready { IsReady (log_of N.base told.old) end (event.now ∷ []) self.old }
+        ensures told { told.new ≡ told.old }
+        ensures sent { (falls : Bool) × (self.new ≡ told_lane (log_of N.base told.old) end falls self.old) }
+    {
+        match self.lines(alloc, event) {
+            Ok(lines) => self.take(alloc, lines, end, told, called),
+            Err(Memory) => self.miss_one(event, called),
+        }
+    }
+
+    // All that it has to be told of an event.
+    fn lines(&self, alloc: Global, event: &Event) -> Result<Vec<Line>, Memory>
+        ensures { IfOk result (λ lines. lines.items ≡ all_due self.now.lane (event.entry.now ∷ [])) }
+    {
+        let mut lines = Vec::new(alloc);
+        if let Some(line) = self.due(event)? {
+            lines.push(line)?;
+        }
+        Ok(lines)
     }
 
     /// Sends what waits for the lane, if anything does.
@@ -197,6 +228,15 @@ impl<N: LogFacts> OpenLane<N> {
         ensures { self.new ≡ missed events.now self.old }
     {
         if self.is_concerned(events) {
+            self.fall_behind(called);
+        }
+    }
+
+    // The same of one event.
+    fn miss_one(&mut self, event: &Event, called: &mut Vec<u64>)
+        ensures { self.new ≡ missed (event.entry.now ∷ []) self.old }
+    {
+        if self.is_due(event) {
             self.fall_behind(called);
         }
     }

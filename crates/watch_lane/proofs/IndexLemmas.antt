@@ -180,7 +180,7 @@ found_at : (field : ℕ) (places : Places) (obj : Obj) (lane : Option Selection)
 found_at field places obj lane id name value ns is name_is value_is ns_is indexed =
     rw (indexed (Some name), indexed (Some value), indexed (Some ns), name_is, value_is, ns_is) (asked_found field obj lane is)
 
--- a set that took in the lanes under the three texts of an object
+-- a list that was joined with the lanes under the three texts of an object
 pub found_joined : (now : IndexData) (field : ℕ) (lanes : List (ℕ × Selection)) (places : Places) (obj : Option Obj) (own : Obj) (id : ℕ) (none some more all : Bool) (name value ns : List ℕ) →
     record { field = field; lanes = lanes } ≡ now → ((p : Option (List ℕ)) → stands places p id ≡ asks field p (lane_at lanes id)) → obj ≡ Some own → IsKey own.key →
     name ≡ name_of own.key → value ≡ value_in now.field own → ns ≡ namespace_of own.key →
@@ -208,10 +208,10 @@ touched_is field old new (Some s) = near_is field old new (place_of field s)
 pub sets_copy : (old new : IndexData) (id : ℕ) (copy s : Selection) → copy ≡ s → Sets old new id (Some copy) → Sets old new id (Some s)
 sets_copy old new id copy s same sets = subst (λ x. Sets old new id (Some x)) same sets
 
--- a set that began empty, and took in those without a place, those found before and those found after
+-- a list that began empty, was joined with those found before, with those found after and with those without a place
 pub looked : (now : IndexData) (field : ℕ) (lanes : List (ℕ × Selection)) (places : Places) (old new : Option Obj) (id : ℕ) (none some more all : Bool) →
     record { field = field; lanes = lanes } ≡ now → ((p : Option (List ℕ)) → stands places p id ≡ asks field p (lane_at lanes id)) →
-    none ≡ false → some ≡ (none || stands places None id) → more ≡ (some || finds now.field old (lane_at now.lanes id)) → all ≡ (more || finds now.field new (lane_at now.lanes id)) →
+    none ≡ false → some ≡ (none || finds now.field old (lane_at now.lanes id)) → more ≡ (some || finds now.field new (lane_at now.lanes id)) → all ≡ (more || stands places None id) →
     all ≡ is_touched now.field old new (lane_at now.lanes id)
 looked now field lanes places old new id none some more all view indexed a b c d =
     let stood : stands places None id ≡ asks now.field None (lane_at now.lanes id) = subst (λ x. stands places None id ≡ asks x.field None (lane_at x.lanes id)) view (indexed None) in

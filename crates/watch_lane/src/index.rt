@@ -1,19 +1,18 @@
 //! Which lanes a change may concern.
 
 ghost use Rattle.std.specs.Prelude.{◌≡◌, ℕ, ◌||◌, [], Some, None, IfOk, OnOk, OnErr, IsTrue, option_copied};
-ghost use Rattle.std.specs.Ordering.{nat_cmp};
-ghost use Rattle.std.specs.BTreeSet.{contains};
 ghost use Rattle.std.specs.List.Sorted.{IsStrictlyIncreasing};
 ghost use Rattle.select_all.specs.Selecting.{holds};
 ghost use Rattle.select_all.specs.declared.selection.Selection.{Selection as Asked};
 ghost use Rattle.watch_lane.specs.Index.{lane_at, Sets, place_of, value_in, is_touched, is_listed};
 ghost use Rattle.watch_lane.specs.Places.{finds, stands};
 
-use crate::places::{Places, join, listed};
+use crate::merge::join;
+use crate::places::Places;
 use kube_meta::{Memory, Obj};
 use select_all::Selection;
 use std::alloc::Global;
-use std::collections::{BTreeMap, BTreeSet};
+use std::collections::BTreeMap;
 use std::marker::Model;
 
 /// Which lanes a change of an object may concern. A lane stands under the name that its selection asks
@@ -95,25 +94,25 @@ impl LaneIndex {
         // All lanes to which the change is an event.
         ensures events { IfOk result (λ ids. (id : ℕ) (s : Asked) → lane_at self.now.lanes id ≡ Some s → IsTrue (holds s (option_copied old.entry) || holds s (option_copied new.entry)) → IsTrue (is_listed ids.items id)) }
     {
-        let mut ids = BTreeSet::new(self.alloc);
-        join(&mut ids, &self.places.others)?;
-        self.join_found(&mut ids, old)?;
-        self.join_found(&mut ids, new)?;
-        listed(self.alloc, &ids)
+        let before = self.join_found(Vec::new(self.alloc), old)?;
+        let found = self.join_found(before, new)?;
+        join(self.alloc, found, &self.places.others)
     }
 
-    // Takes the lanes that stand where an object is into a set.
-    fn join_found(&self, ids: &mut BTreeSet<u64>, obj: Option<&Obj>) -> Result<(), Memory>
-        ensures { OnOk result ((i : ℕ) → contains nat_cmp ids.new i ≡ (contains nat_cmp ids.old i || finds self.now.field (option_copied obj.entry) (lane_at self.now.lanes i))) }
+    // Rising numbers with those of the lanes that stand where an object is, in rising order.
+    fn join_found(&self, ids: Vec<u64>, obj: Option<&Obj>) -> Result<Vec<u64>, Memory>
+        requires { IsStrictlyIncreasing ids.items }
+        ensures rising { IfOk result (λ all. IsStrictlyIncreasing all.items) }
+        ensures joined { IfOk result (λ all. (i : ℕ) → is_listed all.items i ≡ (is_listed ids.items i || finds self.now.field (option_copied obj.entry) (lane_at self.now.lanes i))) }
     {
         match obj {
             Some(obj) => {
                 let value = value_in(self.field, obj);
-                self.places.join_under(ids, obj.key.name())?;
-                self.places.join_under(ids, value)?;
-                self.places.join_under(ids, obj.key.ns())
+                let named = self.places.join_under(self.alloc, ids, obj.key.name())?;
+                let valued = self.places.join_under(self.alloc, named, value)?;
+                self.places.join_under(self.alloc, valued, obj.key.ns())
             }
-            None => Ok(()),
+            None => Ok(ids),
         }
     }
 }

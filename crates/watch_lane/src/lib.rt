@@ -4,6 +4,7 @@
 
 mod batch;
 mod index;
+mod merge;
 mod places;
 mod queue;
 

@@ -8,6 +8,7 @@ ghost use Rattle.std.specs.List.Sorted.{IsStrictlyIncreasing};
 ghost use Rattle.watch_lane.specs.Index.{is_listed};
 ghost use Rattle.watch_lane.specs.Places.{has_id, same_text, stands};
 
+use crate::merge::join;
 use indexmap::IndexMap;
 use kube_meta::Memory;
 use std::alloc::Global;
@@ -54,13 +55,15 @@ impl Places {
         }
     }
 
-    /// Takes the lanes that stand under a text into a set.
-    pub fn join_under(&self, ids: &mut BTreeSet<u64>, text: &str) -> Result<(), Memory>
-        ensures { OnOk result ((i : ℕ) → contains nat_cmp ids.new i ≡ (contains nat_cmp ids.old i || stands self.now (Some text.now) i)) }
+    /// Rising numbers with those of the lanes that stand under a text, in rising order.
+    pub fn join_under(&self, alloc: Global, ids: Vec<u64>, text: &str) -> Result<Vec<u64>, Memory>
+        requires { IsStrictlyIncreasing ids.items }
+        ensures rising { IfOk result (λ all. IsStrictlyIncreasing all.items) }
+        ensures joined { IfOk result (λ all. (i : ℕ) → is_listed all.items i ≡ (is_listed ids.items i || stands self.now (Some text.now) i)) }
     {
         match self.by_text.get(text) {
-            Some(group) => join(ids, group),
-            None => Ok(()),
+            Some(group) => join(alloc, ids, group),
+            None => Ok(ids),
         }
     }
 }
@@ -103,26 +106,4 @@ fn leave_under(groups: &mut IndexMap<String, BTreeSet<u64>>, text: &str, id: u64
     if ids.is_empty() {
         groups.swap_remove(text);
     }
-}
-
-/// Takes in all numbers of another set.
-pub fn join(ids: &mut BTreeSet<u64>, more: &BTreeSet<u64>) -> Result<(), Memory>
-    ensures { OnOk result ((i : ℕ) → contains nat_cmp ids.new i ≡ (contains nat_cmp ids.old i || contains nat_cmp more.now i)) }
-{
-    for id in more.iter() {
-        put_among(ids, *id)?;
-    }
-    Ok(())
-}
-
-/// The numbers of a set, in rising order.
-pub fn listed(alloc: Global, ids: &BTreeSet<u64>) -> Result<Vec<u64>, Memory>
-    ensures rising { IfOk result (λ list. IsStrictlyIncreasing list.items) }
-    ensures all { IfOk result (λ list. (i : ℕ) → is_listed list.items i ≡ contains nat_cmp ids.now i) }
-{
-    let mut list = Vec::new(alloc);
-    for id in ids.iter() {
-        list.push(*id)?;
-    }
-    Ok(list)
 }

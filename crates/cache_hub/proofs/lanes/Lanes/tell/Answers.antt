@@ -1,10 +1,10 @@
+use Rattle.std.proofs.Common.{subst, arith}
 use Rattle.up_api.specs.Sections.{log_of}
-use Rattle.cache_hub.proofs.SendLemmas.{missed_are_told}
-use Rattle.cache_hub.proofs.WaitingLemmas.{are_waiting}
+use Rattle.cache_hub.specs.Due.{AreReady}
+use Rattle.cache_hub.proofs.TellLemmas.{one_event}
 use Rattle.cache_hub.proofs.lanes.Lanes.tell.Goals as goal
 
-pub send-requires-clause-waiting : goal.send-requires-clause-waiting
-send-requires-clause-waiting g c = are_waiting (log_of g.N.LogFacts.base c.args.told.now) c.args.end c.args.events.now c.args.self.now.all c.in-Ok.waiting.entries c.requires.ready c.in-Ok.ensures
-
-pub returns-in-Err-clause-lanes : goal.returns-in-Err-clause-lanes
-returns-in-Err-clause-lanes g c = missed_are_told (log_of g.N.LogFacts.base c.args.told.now) c.args.end c.args.events.now c.args.self.now.all c.miss.new.self.all c.requires.ready c.miss.ensures.missed
+pub tell_each-requires-clause-ready : goal.tell_each-requires-clause-ready
+tell_each-requires-clause-ready g c =
+    subst (λ events. AreReady (log_of g.N.LogFacts.base c.args.told.now) c.args.end events c.args.self.now.all)
+    (one_event c.args.events.now c.event-item.result (omega arith) c.event-item.is) c.requires.ready
