@@ -49,36 +49,26 @@ pumped_follows base p q old new later cache reflector window_same stands known b
   ];
 }
 
--- a hub that was told a time
-abbrev with-time : HubData → ℕ → HubData
-with-time hub time = record hub { cache = record hub.cache { time = time } }
-
--- the same, of what is seen of a cache's fields, which is told its time again then
-pub pumped_as : (base : List RowData) (p q : Pass RevisionData) (now : ResourceCacheData) (hub mid later : HubData) (reflector next : ReflectorState) (heard time : ℕ) →
-    record { hub = hub; reflector = reflector; heard = heard } ≡ now → Extends p q →
-    mid.cache.resource ≡ hub.cache.resource → next.resource ≡ reflector.resource → mid.cache.ring.window ≡ hub.cache.ring.window →
-    StandsAt (λ log. StandsFor log mid) base q mid.cache.end → IsKnown next.feed q →
-    (mid.cache.base ≡ hub.cache.base) ⊎ (mid.cache.base ≤ q.floor) →
-    later ≡ with-time mid time → ((log : Log) → StandsFor log mid → StandsFor log later) →
-    FollowsOn base p now q (record { hub = later; reflector = next; heard = heard })
-pumped_as base p q now hub mid later reflector next heard time view grows cache same window stands known based ticked still =
-    subst (λ (c : ResourceCacheData). FollowsOn base p c q (record { hub = later; reflector = next; heard = heard })) view
-    (pumped_follows base p q (record { hub = hub; reflector = reflector; heard = heard }) (record { hub = later; reflector = next; heard = heard }) grows
-    (ap (λ (h : HubData). h.cache.resource) ticked ∙ cache) same (ap (λ (h : HubData). h.cache.ring.window) ticked ∙ window)
-    (subst (λ e. StandsAt (λ log. StandsFor log later) base q e) (sym (ap (λ (h : HubData). h.cache.end) ticked))
-    (record { begun = stands.begun; within = stands.within; stands = still (log_upto base q mid.cache.end) stands.stands }))
-    known (subst (λ b. (b ≡ hub.cache.base) ⊎ (b ≤ q.floor)) (sym (ap (λ (h : HubData). h.cache.base) ticked)) based))
+-- the same, of what is seen of a cache's fields
+pub pumped_as : (base : List RowData) (p q : Pass RevisionData) (now : ResourceCacheData) (hub later : HubData) (reflector next : ReflectorState) →
+    record { hub = hub; reflector = reflector } ≡ now → Extends p q →
+    later.cache.resource ≡ hub.cache.resource → next.resource ≡ reflector.resource → later.cache.ring.window ≡ hub.cache.ring.window →
+    StandsAt (λ log. StandsFor log later) base q later.cache.end → IsKnown next.feed q →
+    (later.cache.base ≡ hub.cache.base) ⊎ (later.cache.base ≤ q.floor) →
+    FollowsOn base p now q (record { hub = later; reflector = next })
+pumped_as base p q now hub later reflector next view grows cache same window stands known based =
+    subst (λ (c : ResourceCacheData). FollowsOn base p c q (record { hub = later; reflector = next })) view
+    (pumped_follows base p q (record { hub = hub; reflector = reflector }) (record { hub = later; reflector = next }) grows cache same window stands known based)
 
 -- one that was built anew: its reflector stays as it is
-pub rebuilt_as : (base : List RowData) (p q : Pass RevisionData) (now : ResourceCacheData) (hub mid later : HubData) (reflector : ReflectorState) (heard time : ℕ) →
-    record { hub = hub; reflector = reflector; heard = heard } ≡ now → Extends p q →
-    mid.cache.resource ≡ hub.cache.resource → mid.cache.ring.window ≡ hub.cache.ring.window → StandsAt (λ log. StandsFor log mid) base q mid.cache.end →
-    (mid.cache.base ≡ hub.cache.base) ⊎ (mid.cache.base ≤ q.floor) →
-    later ≡ with-time mid time → ((log : Log) → StandsFor log mid → StandsFor log later) →
-    FollowsOn base p now q (record { hub = later; reflector = reflector; heard = heard })
-rebuilt_as base p q now hub mid later reflector heard time view grows cache same stands based ticked still window resource is =
-    let was : IsFollowing base window resource p (record { hub = hub; reflector = reflector; heard = heard }) = subst (IsFollowing base window resource p) (sym view) is in
-    pumped_as base p q now hub mid later reflector reflector heard time view grows cache refl same stands (known-later p q reflector.feed grows.gen_on was.known) based ticked still window resource is
+pub rebuilt_as : (base : List RowData) (p q : Pass RevisionData) (now : ResourceCacheData) (hub later : HubData) (reflector : ReflectorState) →
+    record { hub = hub; reflector = reflector } ≡ now → Extends p q →
+    later.cache.resource ≡ hub.cache.resource → later.cache.ring.window ≡ hub.cache.ring.window → StandsAt (λ log. StandsFor log later) base q later.cache.end →
+    (later.cache.base ≡ hub.cache.base) ⊎ (later.cache.base ≤ q.floor) →
+    FollowsOn base p now q (record { hub = later; reflector = reflector })
+rebuilt_as base p q now hub later reflector view grows cache window_same stands based window resource is =
+    let was : IsFollowing base window resource p (record { hub = hub; reflector = reflector }) = subst (IsFollowing base window resource p) (sym view) is in
+    pumped_as base p q now hub later reflector reflector view grows cache refl window_same stands (known-later p q reflector.feed grows.gen_on was.known) based window resource is
 
 -- from which revision it was built
 pub built_from : {A E : Type 0} (answer : Result A E) (old new : HubData) (floor low : ℕ) → OnOk answer (new.cache.base ≡ floor) → OnErr answer (new ≡ old) → floor ≤ low →
@@ -86,12 +76,16 @@ pub built_from : {A E : Type 0} (answer : Result A E) (old new : HubData) (floor
 built_from (Ok done) old new floor low is kept within = inr (omega (arith, is, within))
 built_from (Err memory) old new floor low is kept within = inl (ap (λ (h : HubData). h.cache.base) kept)
 
--- a cache that was told the time
-pub ticked_follows : (base : List RowData) (p : Pass RevisionData) (now : ResourceCacheData) (hub later : HubData) (reflector : ReflectorState) (heard now_heard time : ℕ) →
-    record { hub = hub; reflector = reflector; heard = heard } ≡ now → later ≡ with-time hub time →
-    ((log : Log) → StandsFor log hub → StandsFor log later) → FollowsOn base p now p (record { hub = later; reflector = reflector; heard = now_heard })
-ticked_follows base p now hub later reflector heard now_heard time view ticked still w resource is =
-    let was : IsFollowing base w resource p (record { hub = hub; reflector = reflector; heard = heard }) = subst (IsFollowing base w resource p) (sym view) is in
+-- a hub that was told a time
+abbrev with-time : HubData → ℕ → HubData
+with-time hub time = record hub { cache = record hub.cache { time = time } }
+
+-- and the cache with it
+pub ticked_follows : (base : List RowData) (p : Pass RevisionData) (now : ResourceCacheData) (hub later : HubData) (reflector : ReflectorState) (time : ℕ) →
+    record { hub = hub; reflector = reflector } ≡ now → later ≡ with-time hub time →
+    ((log : Log) → StandsFor log hub → StandsFor log later) → FollowsOn base p now p (record { hub = later; reflector = reflector })
+ticked_follows base p now hub later reflector time view ticked still w resource is =
+    let was : IsFollowing base w resource p (record { hub = hub; reflector = reflector }) = subst (IsFollowing base w resource p) (sym view) is in
     record {
       cache_is = ap (λ (h : HubData). h.cache.resource) ticked ∙ was.cache_is;
       reflector_is = was.reflector_is;

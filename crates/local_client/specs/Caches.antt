@@ -9,11 +9,10 @@ use Rattle.up_api.specs.Sections.{StandsAt, raised_once}
 use Rattle.reflect_core.specs.Pumps.{ReflectorState, IsKnown}
 use Rattle.cache_hub.specs.Hubs.{HubData, StandsFor}
 
--- the cache of one resource, what keeps it up to date, and the greatest time that it was told
+-- the cache of one resource, and what keeps it up to date
 pub record ResourceCacheData : Type 0 where
   pub hub : HubData
   pub reflector : ReflectorState
-  pub heard : ℕ
 
 pub record CachesData : Type 0 where
   pub pods : ResourceCacheData
@@ -37,7 +36,7 @@ end_at caches resource = (cache_of caches resource).hub.cache.end
 
 -- the greatest time that the cache of each resource was told
 abbrev pub times_of : CachesData → Resource → Option ℕ
-times_of caches resource = Some (cache_of caches resource).heard
+times_of caches resource = Some (cache_of caches resource).hub.cache.time
 
 -- The cache of a resource follows what is known of a log: it and its reflector are of the resource, its window is this
 -- one, it stands for the log up to its end, which is seen, its reflector's feed is of no later generation than is

@@ -27,26 +27,21 @@ use std::marker::Model;
 use up_api::{Held, LogFacts, Pass, Settings, Upstream};
 use up_store::Store;
 
-/// The cache of one resource, the reflector that keeps it up to date, and the greatest time that it was told, which it
-/// is told again behind each pump. Contracts don't see how often its feed was found cut.
+/// The cache of one resource and the reflector that keeps it up to date. Contracts don't see how often its feed was
+/// found cut.
 #[derive(Drop)]
 pub struct ResourceCache<N: LogFacts> {
     hub: Hub<N>,
     reflector: Reflector,
-    heard: u64,
     cuts: u64,
 }
 
 impl<N: LogFacts> Model for ResourceCache<N> {
-    ghost use Rattle.std.specs.Prelude.{◌≤◌};
     ghost use Rattle.local_client.specs.Caches.{ResourceCacheData};
 
     ghost Value = { ResourceCacheData };
 
-    ghost view = { λ c. record { hub = c.hub; reflector = c.reflector; heard = c.heard } };
-
-    // the cache has that time, or a later one
-    ghost invariant = { λ c. c.heard ≤ c.hub.cache.time };
+    ghost view = { λ c. record { hub = c.hub; reflector = c.reflector } };
 }
 
 impl<N: LogFacts> ResourceCache<N> {
@@ -70,7 +65,6 @@ impl<N: LogFacts> ResourceCache<N> {
         Ok(ResourceCache {
             hub,
             reflector,
-            heard: 0,
             cuts: 0,
         })
     }
@@ -92,11 +86,9 @@ impl<N: LogFacts> ResourceCache<N> {
         ensures follows { FollowsOn N.base told.old self.old told.new self.new }
         ensures reached { OnOk result (until ≤ self.new.hub.cache.end) }
         ensures reads { RisesFor (HasCause self.old.hub.cache.end told.old told.new) store.old.reads store.new.reads }
-        ensures heard { self.new.heard ≡ self.old.heard }
+        ensures time { self.new.hub.cache.time ≡ self.old.hub.cache.time }
     {
-        let pumped = self.reflector.pump(&mut self.hub, store, told, until);
-        self.hub.tick(self.heard);
-        let pumped = pumped?;
+        let pumped = self.reflector.pump(&mut self.hub, store, told, until)?;
         self.cuts = self.cuts.saturating_add(pumped.cuts);
         Ok(())
     }
@@ -116,12 +108,10 @@ impl<N: LogFacts> ResourceCache<N> {
         ensures knows { Knows store.old.whole told.old → Knows store.old.whole told.new }
         ensures follows { FollowsOn N.base told.old self.old told.new self.new }
         ensures anew { OnOk result (self.new.hub.rebuilds ≡ raised_once self.old.hub.rebuilds) }
-        ensures heard { self.new.heard ≡ self.old.heard }
+        ensures time { self.new.hub.cache.time ≡ self.old.hub.cache.time }
     {
         let history = store.history(resource, told)?;
-        let rebuilt = self.hub.rebuild(history, told);
-        self.hub.tick(self.heard);
-        rebuilt
+        self.hub.rebuild(history, told)
     }
 
     /// The revision up to which it stands for the log.
@@ -184,13 +174,11 @@ impl<N: LogFacts> ResourceCache<N> {
 
     /// Is told the time.
     pub fn tick(&mut self, ms: u64)
-        ensures heard { self.new.heard ≡ max self.old.heard ms }
         ensures time { self.new.hub.cache.time ≡ max self.old.hub.cache.time ms }
         ensures end { self.new.hub.cache.end ≡ self.old.hub.cache.end }
         ensures window { self.new.hub.cache.ring.window ≡ self.old.hub.cache.ring.window }
         ensures follows { (p : PassData RevisionData) → FollowsOn N.base p self.old p self.new }
     {
-        self.heard = self.heard.max(ms);
         self.hub.tick(ms);
     }
 }

@@ -3,7 +3,7 @@
 ghost use Rattle.std.specs.Prelude.{◌≡◌, ℕ, ◌≤◌, IfOk, option_and_then};
 ghost use Rattle.client_api.specs.Caches.{StartsWithin, TakesWithin};
 ghost use Rattle.client_api.specs.Starts.{IsWatchAnswer};
-ghost use Rattle.client_api.specs.Turns.{IsTurn, watch_after};
+ghost use Rattle.client_api.specs.Turns.{IsWatchTurn, watch_after};
 ghost use Rattle.cache_answers.specs.Turns.{moved_to};
 ghost use Rattle.local_client.specs.Caches.{end_at};
 ghost use Rattle.local_client.specs.CachedLogs.{CachedLogData, window_of};
@@ -85,7 +85,7 @@ pub fn turn<N: LogFacts>(log: &mut CachedLog<N>, watch: &Watch, max: usize) -> R
     requires max { 1 ≤ max }
     ensures same { log.new ≡ log.old }
     ensures turn { (old : CachedLogData) (loaded : ℕ) → HasFollowed watch.now.selection.resource loaded old log.old →
-        IfOk result (λ took. IsTurn N.base (window_of log.new) old.pass watch.now took log.new.pass) }
+        IfOk result (λ took. IsWatchTurn N.base (window_of log.new) old.pass watch.now took log.new.pass) }
     ensures within { IfOk result (λ took. TakesWithin took (end_at log.new.caches watch.now.selection.resource)) }
 {
     // The proof learns here what lies below the floor of the cache's ring, and where the cache ends.

@@ -9,10 +9,9 @@ returns-in_err-history-clause-follows g c = follows_later g.N.LogFacts.base _ _ 
 
 pub returns-clause-follows : goal.returns-clause-follows
 returns-clause-follows g c =
-    let made = c.rebuild-rebuilt in
+    let made = c.rebuild in
     let e = made.ensures in
-    rebuilt_as g.N.LogFacts.base c.args.told.now made.new.told c.args.self.now c.self.inside.hub made.new.self c.tick.new.self c.self.inside.reflector c.self.inside.heard _ c.self.view_is
+    rebuilt_as g.N.LogFacts.base c.args.told.now made.new.told c.args.self.now c.self.inside.hub made.new.self c.self.inside.reflector c.self.view_is
     (subst (Extends c.args.told.now) (sym e.told) c.in_ok-history.ensures.learns.extends) e.resource e.window e.stands
     (built_from made.result c.self.inside.hub made.new.self c.in_ok-history.history.floor made.new.told.floor e.base e.kept
     (omega (arith, c.in_ok-history.ensures.history.kept, ap (λ (p : Pass RevisionData). p.floor) e.told)))
-    c.tick.ensures.time c.tick.ensures.stands
