@@ -1,6 +1,6 @@
 -- Where nobody else holds the log, what is due is served.
-use Rattle.std.specs.Prelude.{Result, Ok, Err, IsSome, IfSome}
-use Rattle.std.proofs.Common.{◌≡◌, ℕ, inl, inr, true, false, List, [], ◌∷◌, Option, Some, None, refl, ap, sym, subst}
+use Rattle.std.specs.Prelude.{Result, Ok, Err, IsSomeAnd, IfSome}
+use Rattle.std.proofs.Common.{◌≡◌, ℕ, inl, inr, List, [], ◌∷◌, Option, Some, None, refl, ap, sym, subst}
 use Rattle.rev_front.specs.Passes.{Pass, IsPass, Whole}
 use Rattle.rev_log.specs.Changes.{RevisionData}
 use Rattle.rev_log.specs.Logs.{Fits}
@@ -80,9 +80,9 @@ module _ (terms : Terms) (p q : Pass RevisionData) (req : Req) (lawful : IsPass 
   all-taken history asks (Err tx_no.Memory) told is sole takes = absurd told
 
   -- the history of a log that nobody else holds
-  with-history : (history : Option ℕ) (P : ℕ → Type 0) → IsSome history → IfSome history P → (n : ℕ) × P n
-  with-history None P some is = absurd (let e : false ≡ true = some in cc)
-  with-history (Some n) P some is = (n, is)
+  with-history : (history : Option ℕ) (P : ℕ → Type 0) → IsSomeAnd history P → (n : ℕ) × P n
+  with-history None P is = absurd is
+  with-history (Some n) P is = (n, is)
 
   -- ---- operations
 
@@ -108,17 +108,17 @@ module _ (terms : Terms) (p q : Pass RevisionData) (req : Req) (lawful : IsPass 
 
   -- ---- whatever the answer
 
-  module _ (agree : AnswersAgree) (unrefused : RoutesAreNotRefused) (some : IsSome terms.sole_history) (route : Routed) (is : IsRoute req route) (due : IsDue terms p req route) where
+  module _ (agree : AnswersAgree) (unrefused : RoutesAreNotRefused) (route : Routed) (is : IsRoute req route) (due : IsDue terms p req route) where
     same-due : (other : Routed) (e : Exchange) → IsRoute req other → (IsDue terms p req other → IsServed terms p e other) → IsServed terms p e route
     same-due other e to serves = subst (λ (r : Routed). IsDue terms p req r → IsServed terms p e r) (agree req other route to is) serves due
 
     pub served_of : (answer : Answer) → IsAnswerTo req answer → Says terms p answer q → IsAlone terms p answer q → IsServed terms p (answered answer) route
     served_of (replied (unrouted fault)) to says sole = absurd (routed_clash terms p q req unrefused fault route to is)
     served_of (replied (wrote ask answer)) to says sole = same-due (routed.Write ask) _ to (λ takes.
-        let there = with-history terms.sole_history (λ history. SoleWrite terms.base terms.mirror history p ask answer q) some sole in
+        let there = with-history terms.sole_history (λ history. SoleWrite terms.base terms.mirror history p ask answer q) sole in
         taken there.0 ask answer says.0 says.1 there.1 takes)
     served_of (replied (transacted asks answer)) to says sole = same-due (routed.Transact asks) _ to (λ takes.
-        let there = with-history terms.sole_history (λ history. SoleTransact terms.base terms.mirror history p asks answer q) some sole in
+        let there = with-history terms.sole_history (λ history. SoleTransact terms.base terms.mirror history p asks answer q) sole in
         all-taken there.0 asks answer says.0 says.1 there.1 takes)
     served_of (replied (got ask answer)) to says sole = same-due (routed.Get ask) _ to (λ in_reach.
         unless-hindered terms p (answered (replied (got ask answer))) (routed.Get ask) (get_outcome terms p q req ask answer says.0 says.1)
@@ -135,8 +135,8 @@ module _ (terms : Terms) (p q : Pass RevisionData) (req : Req) (lawful : IsPass 
     served_of (streamed ask stream) to says sole = same-due (routed.Watch ask) _ to.0 (λ d. begins ask stream says sole d.1)
 
 pub are_served_alone : AnswersAgree → RoutesAreNotRefused → RequestsAreServedAlone
-are_served_alone agree unrefused terms p last [] some lawful run alone = tt
-are_served_alone agree unrefused terms p last (e ∷ es) some lawful run alone = (
-  λ route is due. served_of terms p e.pass e.request lawful agree unrefused some route is due e.answer run.0.answers run.0.says alone.0,
-  are_served_alone agree unrefused terms e.pass last es some (run.0.onward.lawful lawful) run.1 alone.1,
+are_served_alone agree unrefused terms p last [] lawful run alone = tt
+are_served_alone agree unrefused terms p last (e ∷ es) lawful run alone = (
+  λ route is due. served_of terms p e.pass e.request lawful agree unrefused route is due e.answer run.0.answers run.0.says alone.0,
+  are_served_alone agree unrefused terms e.pass last es (run.0.onward.lawful lawful) run.1 alone.1,
 )

@@ -8,7 +8,7 @@ use Rattle.list_rules.specs.declared.ask.ListAsk.{ListAsk}
 use Rattle.list_rules.specs.declared.get.GetAsk.{GetAsk}
 use Rattle.watch_rules.specs.declared.ask.WatchAsk.{WatchAsk}
 use Rattle.watch_rules.specs.declared.starts.Start.{Start}
-use Rattle.up_store.specs.Replies.{IsWriteReply, IsTransactionReply, IsOperationReply, IsRefused, IsTxRefused}
+use Rattle.up_store.specs.Replies.{IsWriteReply, IsTransactionReply, IsOperationReply, IsWriteRefused, IsTxRefused}
 use Rattle.up_store.specs.declared.operations.Operate.{Operate}
 use Rattle.up_store.specs.declared.operations.OpNo.{OpNo}
 use Rattle.up_store.specs.declared.transactions.TxWriteNo.{TxWriteNo}
@@ -62,7 +62,7 @@ module _ (terms : Terms) (p q : Pass RevisionData) (req : Req) where
   get_outcome ask (Err (Absent at)) told is = inl (inr (at, record { answer_is = refl; status_is = refl }, is))
   get_outcome ask (Err Memory) told is = absurd told
 
-  turned-down : (ask : WriteAsk) (fault : WriteNo) → IsRefused terms.base terms.mirror p ask fault q →
+  turned-down : (ask : WriteAsk) (fault : WriteNo) → IsWriteRefused terms.base terms.mirror p ask fault q →
       Outcome terms p (exchange req (replied (wrote ask (Err fault))) q) (routed.Write ask)
   turned-down ask fault is = inr (is.at, is.known, refused_write terms.mirror _ ask fault is.refused)
 

@@ -1,6 +1,6 @@
 -- Where nobody else holds the log, two runs of the same requests have the same answers.
-use Rattle.std.specs.Prelude.{Result, Ok, Err, IsSome, IfSome}
-use Rattle.std.proofs.Common.{◌≡◌, ◌≢◌, ℕ, ◌≤◌, ◌⊎◌, inl, inr, Bool, true, false, List, [], ◌∷◌, length, map, Option, Some, None, refl, ap, sym, ◌∙◌, subst, length-append, arith}
+use Rattle.std.specs.Prelude.{Result, Ok, Err, IsSomeAnd, IfSome}
+use Rattle.std.proofs.Common.{◌≡◌, ◌≢◌, ℕ, ◌≤◌, ◌⊎◌, inl, inr, Bool, true, List, [], ◌∷◌, length, map, Option, Some, None, refl, ap, sym, ◌∙◌, subst, length-append, arith}
 use Rattle.discovery.specs.declared.documents.Document.{Document}
 use Rattle.discovery.specs.declared.documents.Document.TheVariants as document
 use Rattle.discovery.specs.declared.documents.Probe.TheVariants as probe
@@ -179,10 +179,7 @@ written-so terms history p q ask (Err (write_no.UsedUp at)) told is = is.0
 written-so terms history p q ask (Err (write_no.ReadOnly at)) told is = is.0
 written-so terms history p q ask (Err write_no.Memory) told is = absurd told
 
-module _ (terms : Terms) (history : ℕ) (sole_is : terms.sole_history ≡ Some history) where
-  if-sole : (P : ℕ → Type 0) → IfSome terms.sole_history P → P history
-  if-sole P is = subst (λ (h : Option ℕ). IfSome h P) sole_is is
-
+module _ (terms : Terms) (history : ℕ) (if-sole : (P : ℕ → Type 0) → IsSomeAnd terms.sole_history P → P history) where
   routes : (p q : Pass RevisionData) (req : Req) (a : Answer) → IsAnswerTo req a → Says terms p a q → IsAlone terms p a q → ((ask : WatchAsk) → ¬ (IsRoute req (routed.Watch ask))) →
       Routes terms history p req a q ⊎ Untold p req a q
   routes p q req (replied (unrouted fault)) to says sole plain = inr (record { fault = fault; answer_is = refl; is = to; sole = sole })
@@ -294,11 +291,15 @@ module _ (terms : Terms) (history : ℕ) (sole_is : terms.sole_history ≡ Some 
         one.1 run.1 alone.1 run'.1 alone'.1 tail plain.1 in
         ((head, one.0, next.0), next.1)
 
-some-history : (o : Option ℕ) → IsSome o → (n : ℕ) × (o ≡ Some n)
-some-history None some = absurd (let e : false ≡ true = some in cc)
-some-history (Some n) some = (n, refl)
+-- how many revisions a log keeps that somebody holds alone; any number where nobody does
+abbrev history-of : Option ℕ → ℕ
+history-of None = 0
+history-of (Some n) = n
+
+kept-so : (o : Option ℕ) (P : ℕ → Type 0) → IsSomeAnd o P → P (history-of o)
+kept-so None P is = absurd is
+kept-so (Some n) P is = is
 
 pub are_determined : AnswersAgree → RefusalsAgree → RoutesAreNotRefused → RepliesAreDetermined
-are_determined agree refusals unrefused terms p last o final es fs some =
-    let history = some-history terms.sole_history some in
-    runs-agree terms history.0 history.1 agree refusals unrefused p last o final es fs
+are_determined agree refusals unrefused terms p last o final es fs =
+    runs-agree terms (history-of terms.sole_history) (kept-so terms.sole_history) agree refusals unrefused p last o final es fs

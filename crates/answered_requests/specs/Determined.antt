@@ -1,5 +1,5 @@
 -- Where nobody else holds the log, replies and what becomes of the log are determined by the requests.
-use Rattle.std.specs.Prelude.{◌≡◌, ◌⊎◌, ℕ, ◌≤◌, List, [], ◌∷◌, Bool, true, Option, Some, Err, IsSome, map}
+use Rattle.std.specs.Prelude.{◌≡◌, ◌⊎◌, ℕ, ◌≤◌, List, [], ◌∷◌, Bool, true, Option, Some, Err, map}
 use Rattle.rev_front.specs.Passes.{Pass, IsPass, end_from}
 use Rattle.rev_log.specs.Changes.{RevisionData}
 use Rattle.rev_log.specs.Logs.{Fits}
@@ -65,7 +65,7 @@ pub record IsSound (p : Pass RevisionData) : Type 0 where
 -- same log, with the same floor and generation.
 abbrev pub RepliesAreDetermined : Type 0
 RepliesAreDetermined =
-    (terms : Terms) (p last o final : Pass RevisionData) (es fs : List Exchange) → IsSome terms.sole_history →
+    (terms : Terms) (p last o final : Pass RevisionData) (es fs : List Exchange) →
     IsSound p → IsSound o → known o ≡ known p →
     Run terms p es last → AreAlone terms p es → Run terms o fs final → AreAlone terms o fs →
     map (λ (f : Exchange). f.request) fs ≡ map (λ (e : Exchange). e.request) es → AskForNoWatch es →

@@ -1,6 +1,6 @@
 -- Requests that are answered get what they ask for. Which requests of an input are answered says `SessionsSettle` of
 -- sess_serve.
-use Rattle.std.specs.Prelude.{◌⊎◌, List, [], ◌∷◌, IsSome}
+use Rattle.std.specs.Prelude.{◌⊎◌, List, [], ◌∷◌}
 use Rattle.rev_front.specs.Passes.{Pass, IsPass}
 use Rattle.rev_log.specs.Changes.{RevisionData}
 use Rattle.rev_log.specs.Logs.{Fits}
@@ -36,5 +36,5 @@ AreServedIfDue terms p (e ∷ es) =
 -- over the exchanges of each session where nobody else holds the log
 abbrev pub RequestsAreServedAlone : Type 0
 RequestsAreServedAlone =
-    (terms : Terms) (p last : Pass RevisionData) (exchanges : List Exchange) → IsSome terms.sole_history → IsPass Fits p →
+    (terms : Terms) (p last : Pass RevisionData) (exchanges : List Exchange) → IsPass Fits p →
     Run terms p exchanges last → AreAlone terms p exchanges → AreServedIfDue terms p exchanges

@@ -23,7 +23,7 @@ use Rattle.client_api.specs.Facts.{Facts, Watched, IsOnward}
 use Rattle.client_api.specs.Fresh.{Meets}
 use Rattle.client_api.specs.Lists.{IsListAnswer, IsListed}
 use Rattle.client_api.specs.Starts.{IsWatchStart, begun_watch}
-use Rattle.client_api.specs.Turns.{IsTurn, IsTurnAnswer, watch_after, watch_left}
+use Rattle.client_api.specs.Turns.{IsWatchTurn, IsTurnAnswer, watch_after, watch_left}
 use Rattle.client_api.specs.Laws.{turn_lines, position_after, IsLasting}
 use Rattle.client_api.proofs.LawLemmas.{loads_do_end, starts_do_tell, turns_do_tell}
 
@@ -85,7 +85,7 @@ module _ (base : List RowData) (window : ℕ) (ask : WatchAsk) (old : Facts) (p 
   abbrev watched : Watched
   watched = record { selection = ask.selection; position = position }
 
-  turn-of : (took : Took) → Goes base window ask old p position → IsTurnAnswer base old.window p old.watching (Ok took) q → IsTurn base window p watched took q
+  turn-of : (took : Took) → Goes base window ask old p position → IsTurnAnswer base old.window p old.watching (Ok took) q → IsWatchTurn base window p watched took q
   turn-of took goes is =
       subst (λ (z : ℕ × Option Watched). IsTurnAnswer base z.0 p z.1 (Ok took) q) {x = (old.window, old.watching)} {y = (window, Some watched)} (λ i. (goes.window_is i, goes.watching i)) is
 

@@ -28,7 +28,7 @@ use Rattle.client_api.specs.Answers.{ListedData}
 use Rattle.client_api.specs.Facts.{Watched, HasLoaded}
 use Rattle.client_api.specs.Fresh.{Meets}
 use Rattle.client_api.specs.Lists.{IsListed, more_of}
-use Rattle.client_api.specs.Turns.{IsTurn, GivesEvents, IsQuiet}
+use Rattle.client_api.specs.Turns.{IsWatchTurn, GivesEvents, IsQuiet}
 use Rattle.client_api.specs.Laws.{IsPageOf, ListsAgree, StartsTell, TurnsTell, LoadsAreEnds, OnwardsJoin, LooksLoad, LoadsAreFresh, IsAtLeast, turn_lines, position_after, IsLasting}
 
 -- ---- what is known
@@ -132,7 +132,7 @@ module _ (base : List RowData) (window : ℕ) (p q : Pass RevisionData) (ask : W
     | inr within ↦ stretched upto [] now free is.onward within (sym is.nothing)
   ]
 
-  pub turn-tells : (took : Took) → Tells lines position → AreOpen lines → IsTurn base window p watched took q →
+  pub turn-tells : (took : Took) → Tells lines position → AreOpen lines → IsWatchTurn base window p watched took q →
       Tells (lines ++ turn_lines took) (position_after took position) × (IsLasting took → AreOpen (lines ++ turn_lines took))
   turn-tells (Events from upto told) now free is =
       let goes = stretched upto told.items now free (events-above from upto told.items is) is.seen is.lines_are in

@@ -6,13 +6,13 @@ use Rattle.rev_log.specs.Changes.{RevisionData}
 use Rattle.client_api.specs.declared.calling.Turned.{Turned}
 use Rattle.client_api.specs.declared.calling.Turned.TheVariants.{Late, Stopped, Took}
 use Rattle.client_api.specs.Facts.{Watched}
-use Rattle.client_api.specs.Turns.{IsTurn, watch_after}
+use Rattle.client_api.specs.Turns.{IsWatchTurn, watch_after}
 
 -- where the watch wasn't asked, nothing more is known
 abbrev pub IsTurned : List RowData → ℕ → Pass RevisionData → Watched → Pass RevisionData → Turned → Type 0
 IsTurned base window p watched q Late = q ≡ p
 IsTurned base window p watched q Stopped = q ≡ p
-IsTurned base window p watched q (Took took) = IsTurn base window p watched took q
+IsTurned base window p watched q (Took took) = IsWatchTurn base window p watched took q
 
 -- the watch stands where it stood, or where what was taken leaves it
 abbrev pub StandsAfter : Watched → Option Watched → Turned → Type 0

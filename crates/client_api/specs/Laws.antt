@@ -20,7 +20,7 @@ use Rattle.client_api.specs.Facts.{IsOnward, HasLoaded}
 use Rattle.client_api.specs.Fresh.{IsFresh}
 use Rattle.client_api.specs.Lists.{IsListed, more_at}
 use Rattle.client_api.specs.Starts.{IsWatchStart}
-use Rattle.client_api.specs.Turns.{IsTurn}
+use Rattle.client_api.specs.Turns.{IsWatchTurn}
 
 -- ---- what is known
 
@@ -102,7 +102,7 @@ abbrev pub TurnsTell : Type 0
 TurnsTell =
     (base : List RowData) (window : ℕ) (p q : Pass RevisionData) (ask : WatchAsk) (at : ℕ) (lines : List Line) (position : ℕ) (took : Took) →
     Extends p q → TellsBody (log_of base p) p.floor window ask at lines position → AreOpen lines →
-    IsTurn base window p (record { selection = ask.selection; position = position }) took q →
+    IsWatchTurn base window p (record { selection = ask.selection; position = position }) took q →
     TellsBody (log_of base q) q.floor window ask at (lines ++ turn_lines took) (position_after took position)
     × (IsLasting took → AreOpen (lines ++ turn_lines took))
 

@@ -36,14 +36,14 @@ pub record IsLost (base : List RowData) (window : ℕ) (watched : Watched) (at f
   pub evicted : IsEvicted (log_of base q) q.floor window watched.selection.resource watched.position floor
 
 -- what a turn of a watch gives: events, nothing new, or that the watch is lost
-abbrev pub IsTurn : List RowData → ℕ → Pass RevisionData → Watched → Took → Pass RevisionData → Type 0
-IsTurn base window p watched (Events from upto lines) q = GivesEvents base watched from upto lines.items q
-IsTurn base window p watched (Quiet upto reached) q = IsQuiet base p watched upto reached q
-IsTurn base window p watched (Lost at floor) q = IsLost base window watched at floor q
+abbrev pub IsWatchTurn : List RowData → ℕ → Pass RevisionData → Watched → Took → Pass RevisionData → Type 0
+IsWatchTurn base window p watched (Events from upto lines) q = GivesEvents base watched from upto lines.items q
+IsWatchTurn base window p watched (Quiet upto reached) q = IsQuiet base p watched upto reached q
+IsWatchTurn base window p watched (Lost at floor) q = IsLost base window watched at floor q
 
 -- what a client with that watch answers at a turn; of want of memory nothing is said
 abbrev pub IsTurnAnswer : List RowData → ℕ → Pass RevisionData → Option Watched → Result Took AllocError → Pass RevisionData → Type 0
-IsTurnAnswer base window p (Some watched) (Ok took) q = IsTurn base window p watched took q
+IsTurnAnswer base window p (Some watched) (Ok took) q = IsWatchTurn base window p watched took q
 IsTurnAnswer base window p None (Ok took) q = ⊥
 IsTurnAnswer base window p watching (Err memory) q = Unit {0}
 

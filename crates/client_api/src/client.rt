@@ -1,6 +1,6 @@
 //! What a client of a log promises.
 
-ghost use Rattle.std.specs.Prelude.{◌≡◌, ◌≤◌, ℕ, max, Bool, true, false, List, Option, None, IsSome, OnOk, IfSome};
+ghost use Rattle.std.specs.Prelude.{◌≡◌, ◌≤◌, ℕ, max, Bool, true, false, List, Option, None, IsSome, OnOk, IsSomeAnd, IfSome};
 ghost use Rattle.kube_meta.specs.Rows.{RowData};
 ghost use Rattle.kube_meta.specs.declared.resources.Resource.{Resource};
 ghost use Rattle.rev_front.specs.Passes.{Pass};
@@ -55,7 +55,7 @@ pub trait Client {
         ensures answer { IsWriteReply base mirror (pass self.old) ask.now result (pass self.new) }
         ensures facts { facts self.new ≡ facts self.old }
         ensures times { times self.new ≡ times self.old }
-        ensures sole { whole self.old → IfSome (facts self.old).sole_history
+        ensures sole { whole self.old → IsSomeAnd (facts self.old).sole_history
             (λ history. SoleWrite base mirror history (pass self.old) ask.now result (pass self.new)) }
         ensures kept { whole self.old → IsToldWrite result → whole self.new }
         ensures reads { whole self.old → (cached self.new).reads ≡ (cached self.old).reads };
@@ -66,7 +66,7 @@ pub trait Client {
         ensures answer { IsTransactionReply base mirror (pass self.old) ask.now (answers_in result) (pass self.new) }
         ensures facts { facts self.new ≡ facts self.old }
         ensures times { times self.new ≡ times self.old }
-        ensures sole { whole self.old → IfSome (facts self.old).sole_history
+        ensures sole { whole self.old → IsSomeAnd (facts self.old).sole_history
             (λ history. SoleTransact base mirror history (pass self.old) ask.now (answers_in result) (pass self.new)) }
         ensures kept { whole self.old → IsToldTx result → whole self.new }
         ensures reads { whole self.old → (cached self.new).reads ≡ (cached self.old).reads };

@@ -12,7 +12,7 @@ use Rattle.up_store.specs.declared.writes.WriteAsk.{WriteAsk}
 use Rattle.up_store.specs.declared.writes.WriteNo.{WriteNo}
 use Rattle.up_store.specs.declared.writes.WriteNo.TheVariants as write_no
 use Rattle.up_store.specs.declared.writes.Written.{Written}
-use Rattle.up_store.specs.Replies.{IsKnown, IsWriteReply, IsRefused, IsTransactionReply, IsTxRefused}
+use Rattle.up_store.specs.Replies.{IsKnown, IsWriteReply, IsWriteRefused, IsTransactionReply, IsTxRefused}
 use Rattle.up_store.specs.Transacting.{tx_refusal_of, IsTxPrepared}
 use Rattle.up_store.specs.Writes.{refusal_of, write_of, IsPrepared}
 use Rattle.client_api.specs.Alone.{SoleWrite, SoleTransact}
@@ -27,7 +27,7 @@ module _ (p : Pass RevisionData) (whole : HasSeenAll p) where
   end-known = record { shown = omega (arith, whole); seen = omega arith }
 
   module _ (ask : WriteAsk) where
-    refused-here : (fault : WriteNo) → refusal_of false (plain_log p) ask ≡ Some fault → IsRefused [] false p ask fault p
+    refused-here : (fault : WriteNo) → refusal_of false (plain_log p) ask ≡ Some fault → IsWriteRefused [] false p ask fault p
     refused-here fault is = record { at = end_from p.first p.seen; known = end-known; refused = ap (λ (log : Log). refusal_of false log ask) upto-all ∙ is }
 
     abbrev Refuses : WriteNo → Type 0

@@ -4,7 +4,7 @@ ghost use Rattle.std.specs.Prelude.{◌≡◌, ℕ, ◌≤◌, [], IfOk, option_
 ghost use Rattle.rev_front.specs.Passes.{Pass};
 ghost use Rattle.rev_log.specs.Changes.{RevisionData};
 ghost use Rattle.client_api.specs.Starts.{IsWatchAnswer};
-ghost use Rattle.client_api.specs.Turns.{IsTurn, watch_after};
+ghost use Rattle.client_api.specs.Turns.{IsWatchTurn, watch_after};
 ghost use Rattle.plain_client.specs.Lines.{moved_to, took_of};
 ghost use Rattle.plain_client.specs.Plain.{IsLook};
 ghost use Rattle.plain_client.specs.Reads.{start_refusal};
@@ -96,7 +96,7 @@ pub fn turn(
     max: usize,
 ) -> Result<Took, Memory>
     requires max { 1 ≤ max }
-    ensures { (p : Pass RevisionData) (n : ℕ) → IsLook p n log.now → IfOk result (λ took. IsTurn [] window p watch.now took log.now) }
+    ensures { (p : Pass RevisionData) (n : ℕ) → IsLook p n log.now → IfOk result (λ took. IsWatchTurn [] window p watch.now took log.now) }
 {
     let at = watch.position;
     let floor = window_floor(log, watch.selection.resource, window);

@@ -5,7 +5,7 @@ ghost use Rattle.rev_front.specs.Passes.{end_from};
 ghost use Rattle.std.specs.Option.{option_or};
 ghost use Rattle.up_api.specs.Sections.{HasSeenAll};
 ghost use Rattle.up_store.specs.Transactions.{target_of};
-ghost use Rattle.up_store.specs.Writes.{IsPrepared, change_of, fault_at, new_object, object_of, refusal_of, stale_at};
+ghost use Rattle.up_store.specs.Writes.{IsPrepared, change_of, fault_at, new_object, written_object, refusal_of, stale_at};
 ghost use Rattle.plain_client.specs.Plain.{plain_log};
 ghost use Rattle.plain_client.specs.Writes.{IsAnswered, IsFaulty};
 
