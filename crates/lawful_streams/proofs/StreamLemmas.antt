@@ -1,5 +1,5 @@
 -- A stream is judged to be lawful.
-use Rattle.std.proofs.Common.{◌≡◌, ℕ, ◌≤◌, IsTrue, List, [], ◌∷◌, map, IfSome, refl, sym, ap, ◌∙◌, subst, arith}
+use Rattle.std.proofs.Common.{◌≡◌, ℕ, ◌≤◌, IsTrue, List, map, IfSome, refl, sym, ap, ◌∙◌, subst, arith}
 use Rattle.kube_meta.specs.Rows.{RowData}
 use Rattle.meta_view.specs.declared.form.Form.TheVariants.{Whole}
 use Rattle.rev_front.specs.Passes.{Pass}
@@ -10,7 +10,7 @@ use Rattle.select_all.specs.declared.selection.Meaning.{Meaning}
 use Rattle.select_all.specs.declared.selection.Meaning.TheVariants.{MostRecent, Any, NotOlder, Exact}
 use Rattle.up_api.specs.Sections.{log_of as known_log}
 use Rattle.watch_record.specs.declared.records.Record.{Record}
-use Rattle.watch_rules.specs.Bodies.{Line, Told, Bookmark, Closing, Lost, IsOpening, TellsBody}
+use Rattle.watch_rules.specs.Bodies.{Line, IsOpening, TellsBody}
 use Rattle.watch_rules.specs.Starts.{is_never_exact}
 use Rattle.watch_rules.specs.declared.starts.Start.{Start}
 use Rattle.watch_rules.specs.declared.starts.Start.TheVariants.{FromState, FromHere, FromRevision}
@@ -18,25 +18,13 @@ use Rattle.watch_rules.specs.declared.ask.WatchAsk.{WatchAsk}
 use Rattle.watch_texts.specs.Texts.{line_text}
 use Rattle.client_api.specs.Fresh.{IsFresh}
 use Rattle.client_api.specs.Starts.{meaning_of}
-use Rattle.sess_turns.specs.Streams.{line_text as written_text}
 use Rattle.sess_turns.specs.Turns.{watch_lines}
+use Rattle.sess_turns.proofs.BodyLemmas.{turns_tell}
 use Rattle.body_check.specs.declared.judging.Checked.{Checked}
 use Rattle.body_check.specs.declared.judging.Checked.TheVariants.{Lawful, Unlawful}
-use Rattle.body_check.specs.Judging.{log_of, IsAtLeast, IsAllowed, MayStart, IsToldBy, IsJudged}
-use Rattle.lawful_streams.specs.Streams.{TextsAgree, StreamsAreLawful}
-use Rattle.lawful_streams.proofs.TurnLemmas.{first_stays, turns_told}
-
-pub agree : TextsAgree
-agree form resource (Told transition) = refl
-agree form resource (Bookmark at) = refl
-agree form resource (Closing at) = refl
-agree form resource (Lost at floor) = refl
-
-agree_all : (case : Record) (lines : List Line) → map (written_text Whole case.ask.selection.resource) lines ≡ map (line_text Whole case.ask.selection.resource) lines
-agree_all case [] = refl
-agree_all case (line ∷ lines) =
-    ap (λ (x : List ℕ). x ∷ map (written_text Whole case.ask.selection.resource) lines) (agree Whole case.ask.selection.resource line)
-    ∙ ap (λ (l : List (List ℕ)). line_text Whole case.ask.selection.resource line ∷ l) (agree_all case lines)
+use Rattle.body_check.specs.Judging.{record_log, IsAtLeast, IsAllowed, MayStart, IsToldBy, IsJudged}
+use Rattle.lawful_streams.specs.Streams.{StreamsAreLawful}
+use Rattle.lawful_streams.proofs.TurnLemmas.{first_stays}
 
 -- ---- where a watch begins, a body may
 
@@ -68,18 +56,18 @@ streams_lawful terms p opened q ask watch case judgement base pass later start t
     let position : ℕ = turns.last.position in
     let at : ℕ = watch.begun.at in
     let lines : List Line = watch_lines terms ask opened watch in
-    let same_log : known_log terms.base q ≡ log_of case = λ i. record { first = sym records.first_is i; base = base i; revisions = sym records.log_is i } in
+    let same_log : known_log terms.base q ≡ record_log case = λ i. record { first = sym records.first_is i; base = base i; revisions = sym records.log_is i } in
     let ask_is : ask ≡ case.ask = sym records.ask_is in
-    let known : TellsBody (known_log terms.base q) q.floor terms.window ask at lines position = turns_told terms opened q ask watch turns p start in
-    let over : TellsBody (log_of case) q.floor terms.window ask at lines position = subst (λ (log : Log). TellsBody log q.floor terms.window ask at lines position) same_log known in
-    let floored : TellsBody (log_of case) case.floor terms.window ask at lines position = subst (λ (n : ℕ). TellsBody (log_of case) n terms.window ask at lines position) (sym records.floor_is) over in
-    let wide : TellsBody (log_of case) case.floor case.window ask at lines position = subst (λ (n : ℕ). TellsBody (log_of case) case.floor n ask at lines position) (sym records.window_is) floored in
-    let tells : TellsBody (log_of case) case.floor case.window case.ask at lines position = subst (λ (a : WatchAsk). TellsBody (log_of case) case.floor case.window a at lines position) ask_is wide in
+    let known : TellsBody (known_log terms.base q) q.floor terms.window ask at lines position = turns_tell terms p opened q ask watch start turns in
+    let over : TellsBody (record_log case) q.floor terms.window ask at lines position = subst (λ (log : Log). TellsBody log q.floor terms.window ask at lines position) same_log known in
+    let floored : TellsBody (record_log case) case.floor terms.window ask at lines position = subst (λ (n : ℕ). TellsBody (record_log case) n terms.window ask at lines position) (sym records.floor_is) over in
+    let wide : TellsBody (record_log case) case.floor case.window ask at lines position = subst (λ (n : ℕ). TellsBody (record_log case) case.floor n ask at lines position) (sym records.window_is) floored in
+    let tells : TellsBody (record_log case) case.floor case.window case.ask at lines position = subst (λ (a : WatchAsk). TellsBody (record_log case) case.floor case.window a at lines position) ask_is wide in
     let texts_are : case.lines.items ≡ map (line_text Whole case.ask.selection.resource) lines =
-    records.lines_are ∙ ap (λ (a : WatchAsk). map (written_text Whole a.selection.resource) lines) ask_is ∙ agree_all case lines in
+    records.lines_are ∙ ap (λ (a : WatchAsk). map (line_text Whole a.selection.resource) lines) ask_is in
     let first : case.first ≡ p.first = records.first_is ∙ first_stays terms opened q ask watch turns ∙ later.log_is in
     let fresh : IfSome (meaning_of case.ask.start) (λ meaning. IsFresh p meaning at opened) = subst (λ (a : WatchAsk). IfSome (meaning_of a.start) (λ meaning. IsFresh p meaning at opened)) ask_is start.fresh in
-    let opening : IsOpening (log_of case) case.ask.selection case.ask.start at tells.body.rows =
-    subst (λ (n : ℕ). IsOpening (log_of case) case.ask.selection case.ask.start n tells.body.rows) tells.begins tells.lawful.opening in
-    let may : MayStart case at = allowed (log_of case) case.ask.selection p opened case.ask.start at tells.body.rows first (omega (arith, pass.within)) case.ask.never_exact fresh opening in
+    let opening : IsOpening (record_log case) case.ask.selection case.ask.start at tells.body.rows =
+    subst (λ (n : ℕ). IsOpening (record_log case) case.ask.selection case.ask.start n tells.body.rows) tells.begins tells.lawful.opening in
+    let may : MayStart case at = allowed (record_log case) case.ask.selection p opened case.ask.start at tells.body.rows first (omega (arith, pass.within)) case.ask.never_exact fresh opening in
     decides case at position judgement may (record { lines = lines; tells = tells; texts_are = texts_are }) is

@@ -1,26 +1,18 @@
 -- Laws of the streams of sessions, as they are judged.
 use Rattle.std.specs.Prelude.{◌≡◌, ℕ, [], map}
-use Rattle.kube_meta.specs.declared.resources.Resource.{Resource}
-use Rattle.meta_view.specs.declared.form.Form.{Form}
 use Rattle.meta_view.specs.declared.form.Form.TheVariants.{Whole}
 use Rattle.rev_front.specs.Passes.{Pass, IsPass, Extends}
 use Rattle.rev_log.specs.Changes.{RevisionData}
 use Rattle.rev_log.specs.Logs.{Fits}
 use Rattle.watch_record.specs.declared.records.Record.{Record}
-use Rattle.watch_rules.specs.Bodies.{Line}
 use Rattle.watch_rules.specs.declared.ask.WatchAsk.{WatchAsk}
 use Rattle.watch_texts.specs.Texts.{line_text}
 use Rattle.client_api.specs.Starts.{IsWatchStart}
-use Rattle.sess_turns.specs.Streams.{line_text as written_text}
 use Rattle.sess_turns.specs.Terms.{Terms}
 use Rattle.sess_turns.specs.Turns.{Turns, IsWatchTurns, watch_lines}
 use Rattle.body_check.specs.declared.judging.Checked.{Checked}
 use Rattle.body_check.specs.declared.judging.Checked.TheVariants.{Lawful}
 use Rattle.body_check.specs.Judging.{IsJudged}
-
--- a line has one text
-abbrev pub TextsAgree : Type 0
-TextsAgree = (form : Form) (resource : Resource) (line : Line) → written_text form resource line ≡ line_text form resource line
 
 -- A record of a watch's stream: what is known of the log at its end, what was asked for, and the texts of its lines.
 pub record Records (case : Record) (terms : Terms) (ask : WatchAsk) (opened : Pass RevisionData) (watch : Turns) (q : Pass RevisionData) : Type 0 where
@@ -29,7 +21,7 @@ pub record Records (case : Record) (terms : Terms) (ask : WatchAsk) (opened : Pa
   pub floor_is : case.floor ≡ q.floor
   pub window_is : case.window ≡ terms.window
   pub ask_is : case.ask ≡ ask
-  pub lines_are : case.lines.items ≡ map (written_text Whole ask.selection.resource) (watch_lines terms ask opened watch)
+  pub lines_are : case.lines.items ≡ map (line_text Whole ask.selection.resource) (watch_lines terms ask opened watch)
 
 -- It is judged to be lawful, where the log began with nothing.
 abbrev pub StreamsAreLawful : Type 0

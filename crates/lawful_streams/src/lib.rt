@@ -3,4 +3,4 @@
 
 mod laws;
 
-pub use laws::{streams_are_lawful, texts_agree};
+pub use laws::streams_are_lawful;

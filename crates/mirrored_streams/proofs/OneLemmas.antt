@@ -6,7 +6,7 @@ use Rattle.select_all.specs.declared.selection.Kind.TheVariants.{Added}
 use Rattle.mirror_opening.specs.Reading.{AreTexts, most_opening}
 use Rattle.stream_laws.specs.Streams.{ReadingsAgree}
 use Rattle.watch_read.specs.Laws.{LinesAreOne, as_read}
-use Rattle.watch_read.specs.Lines.{IsLine}
+use Rattle.watch_read.specs.Lines.{IsPeerLine}
 use Rattle.watch_read.specs.declared.peer_line.PeerLine.TheVariants as peer
 use Rattle.watch_rules.specs.Bodies.{Line, Told, Closing, initial, initial_lines}
 use Rattle.mirrored_streams.specs.Openings.{OpeningsAreOne}
@@ -24,8 +24,8 @@ rest_is : (t u : List ℕ) (texts others : List (List ℕ)) → u ∷ others ≡
 rest_is t u texts others same = cc
 
 -- a text of two lines is that of one
-same_line : LinesAreOne → (t u : List ℕ) (line other : Line) → IsLine Pods t (as_read line) → IsLine Pods u (as_read other) → u ≡ t → as_read line ≡ as_read other
-same_line one t u line other a b same = one Pods t (as_read line) (as_read other) a (subst (λ (l : List ℕ). IsLine Pods l (as_read other)) same b)
+same_line : LinesAreOne → (t u : List ℕ) (line other : Line) → IsPeerLine Pods t (as_read line) → IsPeerLine Pods u (as_read other) → u ≡ t → as_read line ≡ as_read other
+same_line one t u line other a b same = one Pods t (as_read line) (as_read other) a (subst (λ (l : List ℕ). IsPeerLine Pods l (as_read other)) same b)
 
 -- where the texts of an opening begin those of another, that is the same
 texts_one : LinesAreOne → (a b later : List (List ℕ)) (rows others : List RowData) (base other : ℕ) → AreTexts a (initial_lines rows ++ Closing base ∷ []) → AreTexts b (initial_lines others ++ Closing other ∷ [])

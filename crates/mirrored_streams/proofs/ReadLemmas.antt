@@ -8,7 +8,7 @@ use Rattle.kube_meta.specs.declared.resources.Resource.{Resource}
 use Rattle.line_stream.specs.Standing.{IsLine as IsReadLine}
 use Rattle.meta_view.specs.declared.form.Form.TheVariants.{Whole}
 use Rattle.rev_log.specs.Logs.{Log}
-use Rattle.sess_turns.specs.Streams.{frames_of, stream_text, line_text as written_text}
+use Rattle.sess_turns.specs.Streams.{frames_of, stream_text}
 use Rattle.sess_turns.specs.Turns.{watch_lines}
 use Rattle.sess_turns.proofs.BodyLemmas.{turns_are_bodies}
 use Rattle.stream_laws.specs.Streams.{whole_stream, AreRead}
@@ -17,7 +17,7 @@ use Rattle.up_api.specs.Sections.{log_of}
 use Rattle.watch_read.specs.Feeds.{HasNoLineFeed, is_line_feed}
 use Rattle.watch_read.specs.Laws.{LinesReadBack, TextsHaveNoLineFeed, as_read}
 use Rattle.watch_rules.specs.declared.ask.WatchAsk.{WatchAsk}
-use Rattle.watch_rules.specs.Bodies.{Line, Told, Bookmark, Closing, Lost, Body, BeginsBody, lines_of, position_of}
+use Rattle.watch_rules.specs.Bodies.{Line, Body, BeginsBody, lines_of, position_of}
 use Rattle.watch_texts.specs.Texts.{line_text}
 use Rattle.mirrored_streams.specs.Streams.{MayBeRead, WatchesAreRead, in_chunks}
 
@@ -48,17 +48,10 @@ all_readable back feeds resource lines may = All-map IsReadLine (line_text Whole
 
 -- ---- what is written
 
-agree : (resource : Resource) (line : Line) → written_text Whole resource line ≡ line_text Whole resource line
-agree resource (Told transition) = refl
-agree resource (Bookmark at) = refl
-agree resource (Closing at) = refl
-agree resource (Lost at floor) = refl
-
 frames : (resource : Resource) (lines : List Line) → frames_of in_chunks resource lines ≡ flat_map (λ text. chunk_text (text ++ 10 ∷ [])) (map (line_text Whole resource) lines)
 frames resource [] = refl
 frames resource (line ∷ lines) =
-    ap (λ (text : List ℕ). chunk_text (text ++ 10 ∷ []) ++ frames_of in_chunks resource lines) (agree resource line)
-    ∙ ap (λ (rest : List ℕ). chunk_text (line_text Whole resource line ++ 10 ∷ []) ++ rest) (frames resource lines)
+    ap (λ (rest : List ℕ). chunk_text (line_text Whole resource line ++ 10 ∷ []) ++ rest) (frames resource lines)
 
 -- it is a whole stream, or a beginning of one
 written : (resource : Resource) (lines : List Line) (ended : Bool) → (behind : List ℕ) × (stream_text in_chunks resource lines ended ++ behind ≡ whole_stream (map (line_text Whole resource) lines))

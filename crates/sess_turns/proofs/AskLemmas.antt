@@ -8,8 +8,8 @@ use Rattle.rev_log.specs.Changes.{RevisionData}
 use Rattle.up_api.specs.declared.settings.Settings.{Settings}
 use Rattle.client_api.specs.declared.answers.Took.{Took}
 use Rattle.client_api.specs.Facts.{Facts, Watched}
-use Rattle.client_api.specs.Turns.{IsTurn as Gives, IsTurnAnswer}
-use Rattle.sess_turns.specs.Terms.{terms_of, seconds_of}
+use Rattle.client_api.specs.Turns.{IsWatchTurn as Gives, IsTurnAnswer}
+use Rattle.sess_turns.specs.Terms.{terms_of, watch_seconds}
 
 -- the answer is of the watch and the window that the client had before it was told the time
 pub gives-told : (base : List RowData) (f h : Facts) (heard : ℕ) (p m q : Pass RevisionData) (watched : Watched) (took : Took) →
@@ -21,13 +21,13 @@ gives-told base f h heard p m q watched took told watching same is =
     (subst (λ (z : Facts). IsTurnAnswer base z.window m z.watching (Ok took) q) told is))
 
 -- whether the time of the watch is over, as the test tells
-pub is-late : (settings : Settings) (asked start seconds now : ℕ) (late : Bool) → seconds ≡ seconds_of settings asked → late ≡ nat_le (start + 1000 * seconds) now → late ≡ true →
-    start + 1000 * seconds_of settings asked ≤ now
+pub is-late : (settings : Settings) (asked start seconds now : ℕ) (late : Bool) → seconds ≡ watch_seconds settings asked → late ≡ nat_le (start + 1000 * seconds) now → late ≡ true →
+    start + 1000 * watch_seconds settings asked ≤ now
 is-late settings asked start seconds now late is told test =
     subst (λ (n : ℕ). start + 1000 * n ≤ now) is (leb-true (start + 1000 * seconds) now (sym told ∙ test))
 
-pub is-in-time : (settings : Settings) (asked start seconds now : ℕ) (late : Bool) → seconds ≡ seconds_of settings asked → late ≡ nat_le (start + 1000 * seconds) now → late ≡ false →
-    now < start + 1000 * seconds_of settings asked
+pub is-in-time : (settings : Settings) (asked start seconds now : ℕ) (late : Bool) → seconds ≡ watch_seconds settings asked → late ≡ nat_le (start + 1000 * seconds) now → late ≡ false →
+    now < start + 1000 * watch_seconds settings asked
 is-in-time settings asked start seconds now late is told test =
     subst (λ (n : ℕ). now < start + 1000 * n) is (leb-false (start + 1000 * seconds) now (sym told ∙ test))
 

@@ -9,16 +9,17 @@ use Rattle.rev_log.specs.Logs.{Log}
 use Rattle.up_api.specs.Sections.{log_of}
 use Rattle.up_api.proofs.SectionLemmas.{logs_grow_on}
 use Rattle.watch_rules.specs.declared.ask.WatchAsk.{WatchAsk}
-use Rattle.watch_rules.specs.Bodies.{Line, Bookmark, TellsBody, AreOpen}
+use Rattle.watch_rules.specs.Bodies.{Line, Bookmark, TellsBody, AreOpen, opening_lines}
 use Rattle.watch_rules.proofs.LineLemmas.{tellings_go_on, tellings_stay}
 use Rattle.client_api.specs.declared.answers.Took.{Took}
 use Rattle.client_api.specs.declared.answers.Took.TheVariants.{Events, Quiet, Lost}
 use Rattle.client_api.specs.Facts.{Watched}
 use Rattle.client_api.specs.Laws.{turn_lines, position_after, IsLasting}
-use Rattle.client_api.specs.Turns.{IsTurn as Gives}
+use Rattle.client_api.specs.Turns.{IsWatchTurn as Gives}
 use Rattle.client_api.proofs.LawLemmas.{starts_do_tell, turns_do_tell}
+use Rattle.client_api.specs.Starts.{IsWatchStart}
 use Rattle.sess_turns.specs.Terms.{Terms}
-use Rattle.sess_turns.specs.Turns.{Turn, Finish, timed_out, stopped, lost, spent, broken, Standing, IsTurn, Follow, Finishes, after_turn, is_due, lines_of_turn, lines_from, last_lines}
+use Rattle.sess_turns.specs.Turns.{Turn, Turns, IsWatchTurns, first_progress, watch_lines, Finish, timed_out, stopped, lost, spent, broken, Progress, IsStreamTurn, Follow, Finishes, after_turn, is_due, lines_of_turn, lines_from, last_lines}
 use Rattle.sess_turns.specs.Laws.{TurnsAreBodies}
 
 and-first : (a b : Bool) → (a && b) ≡ true → a ≡ true
@@ -62,7 +63,7 @@ module _ (terms : Terms) (ask : WatchAsk) (at : ℕ) where
       let rest = and-second ask.bookmarks _ due in
       (and-first ask.bookmarks _ due, leb-true upto (end_from q.first q.seen) (sym gives.reached_is ∙ and-first reached _ rest))
 
-  turn-told : (start : Reading) (s : Standing) (turn : Turn) (lines : List Line) → IsTurn terms ask start s turn → IsLasting turn.took → Told s.pass lines s.position →
+  turn-told : (start : Reading) (s : Progress) (turn : Turn) (lines : List Line) → IsStreamTurn terms ask start s turn → IsLasting turn.took → Told s.pass lines s.position →
       Told turn.pass (lines ++ lines_of_turn terms ask s turn) (position_after turn.took s.position)
   turn-told start s turn lines is lasts told =
       let goes = turns_do_tell terms.base terms.window s.pass turn.pass ask at lines s.position turn.took is.onward.extends told.tells told.free is.gives in
@@ -71,10 +72,10 @@ module _ (terms : Terms) (ask : WatchAsk) (at : ℕ) where
       (marked turn.pass (lines ++ turn_lines turn.took) (position_after turn.took s.position) due
       (due-seen s.pass turn.pass _ s.mark turn.reading.ms s.position turn.took is.gives) (record { tells = goes.0; free = goes.1 lasts }))
 
-  follow-told : (start : Reading) (turns : List Turn) (s last : Standing) (lines : List Line) → Follow terms ask start s turns last → Told s.pass lines s.position →
+  follow-told : (start : Reading) (turns : List Turn) (s last : Progress) (lines : List Line) → Follow terms ask start s turns last → Told s.pass lines s.position →
       Told last.pass (lines ++ lines_from terms ask s turns) last.position
   follow-told start [] s last lines stood told =
-      subst (λ (z : Standing). Told z.pass (lines ++ []) z.position) stood (same s.pass lines (lines ++ []) s.position (sym (append-nil lines)) told)
+      subst (λ (z : Progress). Told z.pass (lines ++ []) z.position) stood (same s.pass lines (lines ++ []) s.position (sym (append-nil lines)) told)
   follow-told start (turn ∷ more) s last lines follow told =
       same last.pass _ _ last.position (append_assoc lines (lines_of_turn terms ask s turn) (lines_from terms ask (after_turn terms ask s turn) more))
       (follow-told start more (after_turn terms ask s turn) last (lines ++ lines_of_turn terms ask s turn) follow.2
@@ -85,7 +86,7 @@ module _ (terms : Terms) (ask : WatchAsk) (at : ℕ) where
   nothing p q lines position known tells =
       subst (λ (z : Pass RevisionData). Reached z (lines ++ []) position) known (subst (λ (l : List Line). Reached p l position) (sym (append-nil lines)) tells)
 
-  finish-tells : (start : Reading) (s : Standing) (finish : Finish) (q : Pass RevisionData) (lines : List Line) → Finishes terms ask start s finish q → Told s.pass lines s.position →
+  finish-tells : (start : Reading) (s : Progress) (finish : Finish) (q : Pass RevisionData) (lines : List Line) → Finishes terms ask start s finish q → Told s.pass lines s.position →
       Reached q (lines ++ last_lines finish) s.position
   finish-tells start s (timed_out now) q lines is told = nothing s.pass q lines s.position is.1 told.tells
   finish-tells start s (stopped now) q lines is told = nothing s.pass q lines s.position is.2 told.tells
@@ -98,9 +99,16 @@ module _ (terms : Terms) (ask : WatchAsk) (at : ℕ) where
       let ends = subst (λ (took : Took). Reached turn.pass (lines ++ turn_lines took) (position_after took s.position)) is.1 goes.0 in
       subst (λ (z : Pass RevisionData). Reached z (lines ++ last_lines (lost turn stood floor)) s.position) is.2 ends
 
+-- all lines of a watch tell a body, up to the position at its end
+pub turns_tell : (terms : Terms) (p opened q : Pass RevisionData) (ask : WatchAsk) (watch : Turns) → IsWatchStart terms.base p ask watch.begun opened
+    → (is : IsWatchTurns terms ask opened watch q) → TellsBody (log_of terms.base q) q.floor terms.window ask watch.begun.at (watch_lines terms ask opened watch) is.last.position
+turns_tell terms p opened q ask watch start is =
+    let begins = starts_do_tell terms.base terms.window p opened ask watch.begun start in
+    let told = follow-told terms ask watch.begun.at watch.start watch.turns (first_progress opened watch) is.last _ is.follow (record { tells = begins.0; free = begins.1 }) in
+    let ends = finish-tells terms ask watch.begun.at watch.start is.last watch.finish q _ is.finishes told in
+    subst (λ (l : List Line). TellsBody (log_of terms.base q) q.floor terms.window ask watch.begun.at l is.last.position)
+    (append_assoc (opening_lines ask watch.begun.at watch.begun.rows) (lines_from terms ask (first_progress opened watch) watch.turns) (last_lines watch.finish)) ends
+
 pub turns_are_bodies : TurnsAreBodies
 turns_are_bodies terms p opened q ask watch start is =
-    let begins = starts_do_tell terms.base terms.window p opened ask watch.begun start in
-    let told = follow-told terms ask watch.begun.at watch.start watch.turns _ is.last _ is.follow (record { tells = begins.0; free = begins.1 }) in
-    let ends = finish-tells terms ask watch.begun.at watch.start is.last watch.finish q _ is.finishes told in
-    (ends.body, ends.lawful, sym (append_assoc _ (lines_from terms ask _ watch.turns) (last_lines watch.finish)) ∙ ends.lines_are)
+    let tells = turns_tell terms p opened q ask watch start is in (tells.body, tells.lawful, tells.lines_are)

@@ -1,37 +1,49 @@
 -- Lines that are written one after the other.
-use Rattle.std.proofs.Common.{◌≡◌, ℕ, ◌<◌, ◌≤◌, Bool, true, false, List, [], ◌∷◌, ◌++◌, length, take, map, get_or, suc, ap, sym, subst, ◌∙◌, append-nil, take_all}
-use Rattle.std.specs.Prelude.{Option, if◌then◌else◌}
+use Rattle.std.proofs.Common.{◌≡◌, ℕ, ◌<◌, ◌≤◌, Bool, true, false, List, [], ◌∷◌, ◌++◌, length, take, drop, map, get_or, suc, refl, ap, sym, ◌∙◌, append-nil, take_all, Err}
+use Rattle.std.specs.Prelude.{Option, Result, IsErrAnd, if◌then◌else◌}
 use Rattle.std.specs.List.{flat_map}
 use Rattle.std.proofs.lemmas.Grind.{flat_map-append}
 use Rattle.std.proofs.lemmas.List.Folds.{flat_map-map}
-use Rattle.edge_io.specs.Told.{appended, AppendedSome}
 use Rattle.std.proofs.Math.Seq.{take-suc}
-use Rattle.edge_io.proofs.ToldLemmas.{appended-appended}
-use Rattle.edge_io.proofs.PieceLemmas.{AppendedSome-inside, flat_map-at}
+use Rattle.edge_io.proofs.PieceLemmas.{flat_map-at}
+use Rattle.edge_io.specs.Sent.{IsWrittenOut}
+use Rattle.edge_io.proofs.SentLemmas.{sent_of, bytes_of, written-behind}
 use Rattle.kube_meta.specs.declared.resources.Resource.{Resource}
 use Rattle.kube_meta.specs.Rows.{RowData}
 use Rattle.select_all.specs.Streams.{TransitionData}
 use Rattle.watch_rules.specs.declared.ask.WatchAsk.{WatchAsk}
-use Rattle.watch_rules.specs.Bodies.{Line, Told, Closing, initial, initial_lines, opening_lines}
+use Rattle.watch_rules.specs.Bodies.{Line, Told, Bookmark, Closing, initial, initial_lines, opening_lines}
 use Rattle.client_api.specs.Answers.{BegunData}
+use Rattle.sess_reply.specs.Sending.{Emits}
+use Rattle.sess_reply.specs.declared.broken.Broken.{Broken}
+use Rattle.sess_reply.proofs.SendLemmas.{emits-error, emits-first, emits-as, emits-behind}
 use Rattle.sess_turns.specs.declared.view.View.{View}
 use Rattle.sess_turns.specs.Streams.{frame_of, frames_of}
+use Rattle.sess_turns.proofs.WritingLemmas.{written-as}
 
--- the first texts went out, and then maybe the next one, or a beginning of it
-module _ {X : Type 0} (f : X → List ℕ) (xs : List X) (text : List ℕ) (is : text ≡ flat_map f xs) (old mid : Option (List ℕ)) (i : ℕ) (sent : mid ≡ appended old (flat_map f (take i xs))) where
-  pub lines-broken : (new : Option (List ℕ)) (x : X) → i < length xs → AppendedSome mid new (f (get_or xs i x)) → AppendedSome old new text
-  lines-broken new x more some =
-      subst (AppendedSome old new) (sym is) (AppendedSome-inside old mid new (flat_map f (take i xs)) (f (get_or xs i x)) _ (flat_map f xs) sent some (flat_map-at f xs i x more))
+-- the first texts are written out, and then maybe the next one, or a beginning of it
+module _ {X : Type 0} (f : X → List ℕ) (xs : List X) (text : List ℕ) (is : text ≡ flat_map f xs) (a b : Option (List ℕ)) (k l : ℕ) (i : ℕ)
+    (before : IsWrittenOut (flat_map f (take i xs)) (bytes_of a b k l)) where
+  pub lines-broken : (A : Type 0) {B : Type 0} (r : Result B Broken) (why : Broken) (c : Option (List ℕ)) (s t u : Type 0) (m : ℕ) (x : X)
+      → i < length xs → IsErrAnd r (λ e. e ≡ why) → Emits {A = A} (Err why) (f (get_or xs i x)) (sent_of b c t u l m) → Emits r text (sent_of a c s u k m)
+  lines-broken A r why c s t u m x more failed p =
+      let first = flat_map f (take i xs) in
+      let here = f (get_or xs i x) in
+      let later = flat_map f (drop (suc i) xs) in
+      emits-error A r why text (sent_of a c s u k m) failed
+      (emits-as {A = A} (Err why) (first ++ (here ++ later)) text (sent_of a c s u k m) (sym (is ∙ flat_map-at f xs i x more))
+      (emits-behind {A = A} (Err why) a b c s t u k l m first (here ++ later) before (emits-first A why here later (sent_of b c t u l m) p)))
 
-  pub lines-next : (new : Option (List ℕ)) (x : X) (j : ℕ) → j ≡ suc i → i < length xs → new ≡ appended mid (f (get_or xs i x)) → new ≡ appended old (flat_map f (take j xs))
-  lines-next new x j e more last =
-      last ∙ ap (λ (m : Option (List ℕ)). appended m (f (get_or xs i x))) sent ∙ appended-appended old (flat_map f (take i xs)) (f (get_or xs i x))
-      ∙ ap (appended old)
+  pub lines-next : (c : Option (List ℕ)) (m : ℕ) (x : X) (j : ℕ) → j ≡ suc i → i < length xs
+      → IsWrittenOut (f (get_or xs i x)) (bytes_of b c l m) → IsWrittenOut (flat_map f (take j xs)) (bytes_of a c k m)
+  lines-next c m x j e more p =
+      written-as a c k m (flat_map f (take i xs) ++ f (get_or xs i x)) (flat_map f (take j xs))
       (ap (λ l. flat_map f (take i xs) ++ l) (sym (append-nil (f (get_or xs i x)))) ∙ sym (flat_map-append f (take i xs) (get_or xs i x ∷ []))
       ∙ ap (flat_map f) (sym (take-suc xs i x more) ∙ ap (λ (n : ℕ). take n xs) (sym e)))
+      (written-behind a b c k l m (flat_map f (take i xs)) (f (get_or xs i x)) before p)
 
-  pub lines-sent : length xs ≤ i → mid ≡ appended old text
-  lines-sent all = sent ∙ ap (λ l. appended old (flat_map f l)) (take_all i xs all) ∙ ap (appended old) (sym is)
+  pub lines-sent : length xs ≤ i → IsWrittenOut text (bytes_of a b k l)
+  lines-sent all = written-as a b k l (flat_map f (take i xs)) text (ap (flat_map f) (take_all i xs all) ∙ sym is) before
 
 -- the frames of the lines of a turn, and of initial lines
 pub told-frames : (view : View) (resource : Resource) (lines : List TransitionData) → frames_of view resource (map Told lines) ≡ flat_map (λ line. frame_of view resource (Told line)) lines
@@ -59,7 +71,13 @@ opening-frames view ask begun at rows is =
     closing-frames view ask.selection.resource (initial_lines rows) at ask.closing
     ∙ ap (λ (b : BegunData). frames_of view ask.selection.resource (opening_lines ask b.at b.rows)) is
 
--- what holds of a text that is there holds of it where it is asked for
-pub where-asked : (P : List ℕ → Type 0) (text : List ℕ) (asked : Bool) → asked ≡ true → P text → P (if asked then text else [])
-where-asked P text true e p = p
-where-asked P text false e p = absurd (cc e)
+-- a text that is asked for
+pub asked-is : (text : List ℕ) (asked : Bool) → asked ≡ true → text ≡ (if asked then text else [])
+asked-is text true e = refl
+asked-is text false e = absurd (cc e)
+
+-- the bookmark of a quiet turn that is due
+pub due-frames : (view : View) (resource : Resource) (upto : ℕ) (due : Bool) → due ≡ true
+    → frame_of view resource (Bookmark upto) ++ [] ≡ frames_of view resource (if due then Bookmark upto ∷ [] else [])
+due-frames view resource upto true e = refl
+due-frames view resource upto false e = absurd (cc e)

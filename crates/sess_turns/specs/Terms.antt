@@ -19,5 +19,5 @@ terms_of base mirror facts settings =
     record { base = base; mirror = mirror; window = facts.window; sole_history = facts.sole_history; settings = settings }
 
 -- after how many seconds a watch ends, where its ask says so many, or 0
-abbrev pub seconds_of : Settings → ℕ → ℕ
-seconds_of settings asked = if asked == 0 then settings.timeout_s else asked
+abbrev pub watch_seconds : Settings → ℕ → ℕ
+watch_seconds settings asked = if asked == 0 then settings.timeout_s else asked

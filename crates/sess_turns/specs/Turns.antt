@@ -11,11 +11,11 @@ use Rattle.client_api.specs.Alone.{IsSoleRead}
 use Rattle.client_api.specs.Answers.{BegunData}
 use Rattle.client_api.specs.Facts.{IsOnward}
 use Rattle.client_api.specs.Laws.{turn_lines, position_after, IsLasting}
-use Rattle.client_api.specs.Turns.{IsTurn as Gives}
+use Rattle.client_api.specs.Turns.{IsWatchTurn as Gives}
 use Rattle.sess_turns.specs.declared.ends.WatchEnd.{WatchEnd}
 use Rattle.sess_turns.specs.declared.ends.WatchEnd.TheVariants as ends
 use Rattle.up_api.specs.declared.settings.Settings.{Settings}
-use Rattle.sess_turns.specs.Terms.{Terms, seconds_of}
+use Rattle.sess_turns.specs.Terms.{Terms, watch_seconds}
 
 -- ---- as data
 
@@ -44,14 +44,14 @@ pub record Turns : Type 0 where
 -- ---- where a watch stands between two turns
 
 -- what is known, the position up to which all is told, and when the last bookmark came, at first the start
-pub record Standing : Type 0 where
+pub record Progress : Type 0 where
   pub pass : Pass RevisionData
   pub position : ℕ
   pub mark : ℕ
 
 -- where a watch stands before its first turn: at its start, and with no bookmark since its first reading
-abbrev pub first_standing : Pass RevisionData → Turns → Standing
-first_standing p watch = record { pass = p; position = watch.begun.at; mark = watch.start.ms }
+abbrev pub first_progress : Pass RevisionData → Turns → Progress
+first_progress p watch = record { pass = p; position = watch.begun.at; mark = watch.start.ms }
 
 -- a bookmark is due at a quiet turn whose position the log has reached, where bookmarks are asked for and the last one
 -- is long ago
@@ -64,7 +64,7 @@ abbrev pub mark_after : Settings → WatchAsk → ℕ → ℕ → Took → ℕ
 mark_after settings ask mark now took = if is_due settings ask mark now took then now else mark
 
 -- where a watch stands after a turn: it goes on from its new position, and from the turn's bookmark where that had one
-abbrev pub after_turn : Terms → WatchAsk → Standing → Turn → Standing
+abbrev pub after_turn : Terms → WatchAsk → Progress → Turn → Progress
 after_turn terms ask s turn = record {
   pass = turn.pass;
   position = position_after turn.took s.position;
@@ -75,38 +75,38 @@ after_turn terms ask s turn = record {
 
 -- the time of the watch is over: as many seconds as it lasts have passed since its first reading
 abbrev pub IsLate : Terms → WatchAsk → Reading → Reading → Type 0
-IsLate terms ask start now = start.ms + 1000 * seconds_of terms.settings ask.timeout_s ≤ now.ms
+IsLate terms ask start now = start.ms + 1000 * watch_seconds terms.settings ask.timeout_s ≤ now.ms
 
 -- the time of the watch isn't over: fewer seconds than it lasts have passed since its first reading
 abbrev pub IsInTime : Terms → WatchAsk → Reading → Reading → Type 0
-IsInTime terms ask start now = now.ms < start.ms + 1000 * seconds_of terms.settings ask.timeout_s
+IsInTime terms ask start now = now.ms < start.ms + 1000 * watch_seconds terms.settings ask.timeout_s
 
 -- the watch may have another turn: its time isn't over, and the program isn't asked to stop
-abbrev pub GoesOn : Terms → WatchAsk → Reading → Reading → Type 0
-GoesOn terms ask start now = IsInTime terms ask start now × (now.stop ≡ false)
+abbrev pub MayGoOn : Terms → WatchAsk → Reading → Reading → Type 0
+MayGoOn terms ask start now = IsInTime terms ask start now × (now.stop ≡ false)
 
 -- ---- turns
 
 -- a turn by whose reading the watch goes on: the client is asked once
-pub record IsTurn (terms : Terms) (ask : WatchAsk) (start : Reading) (s : Standing) (turn : Turn) : Type 0 where
-  pub goes_on : GoesOn terms ask start turn.reading
+pub record IsStreamTurn (terms : Terms) (ask : WatchAsk) (start : Reading) (s : Progress) (turn : Turn) : Type 0 where
+  pub goes_on : MayGoOn terms ask start turn.reading
   pub onward : IsOnward s.pass turn.pass
   pub gives : Gives terms.base terms.window s.pass (record { selection = ask.selection; position = s.position }) turn.took turn.pass
 
 -- turns that follow each other and don't lose the watch, from where it stands before them to where it stands after
-abbrev pub Follow : Terms → WatchAsk → Reading → Standing → List Turn → Standing → Type 0
+abbrev pub Follow : Terms → WatchAsk → Reading → Progress → List Turn → Progress → Type 0
 Follow terms ask start s [] last = s ≡ last
 Follow terms ask start s (turn ∷ more) last =
-    IsTurn terms ask start s turn × IsLasting turn.took × Follow terms ask start (after_turn terms ask s turn) more last
+    IsStreamTurn terms ask start s turn × IsLasting turn.took × Follow terms ask start (after_turn terms ask s turn) more last
 
 -- how a watch may end where it stands so, and what is known afterwards
-abbrev pub Finishes : Terms → WatchAsk → Reading → Standing → Finish → Pass RevisionData → Type 0
+abbrev pub Finishes : Terms → WatchAsk → Reading → Progress → Finish → Pass RevisionData → Type 0
 Finishes terms ask start s (timed_out now) q = IsLate terms ask start now × (s.pass ≡ q)
 Finishes terms ask start s (stopped now) q = IsInTime terms ask start now × (now.stop ≡ true) × (s.pass ≡ q)
-Finishes terms ask start s (lost turn at floor) q = IsTurn terms ask start s turn × (turn.took ≡ Lost at floor) × (turn.pass ≡ q)
+Finishes terms ask start s (lost turn at floor) q = IsStreamTurn terms ask start s turn × (turn.took ≡ Lost at floor) × (turn.pass ≡ q)
 Finishes terms ask start s spent q = s.pass ≡ q
 Finishes terms ask start s (broken None) q = s.pass ≡ q
-Finishes terms ask start s (broken (Some now)) q = GoesOn terms ask start now × IsOnward s.pass q
+Finishes terms ask start s (broken (Some now)) q = MayGoOn terms ask start now × IsOnward s.pass q
 
 -- the most turns of a watch
 abbrev pub most_turns : ℕ
@@ -120,8 +120,8 @@ IsNumber finish made = made < most_turns
 
 -- the turns of a watch, from what is known once it has begun to what is known at its end
 pub record IsWatchTurns (terms : Terms) (ask : WatchAsk) (p : Pass RevisionData) (watch : Turns) (q : Pass RevisionData) : Type 0 where
-  pub last : Standing
-  pub follow : Follow terms ask watch.start (first_standing p watch) watch.turns last
+  pub last : Progress
+  pub follow : Follow terms ask watch.start (first_progress p watch) watch.turns last
   pub finishes : Finishes terms ask watch.start last watch.finish q
   pub number : IsNumber watch.finish (length watch.turns)
 
@@ -152,11 +152,11 @@ told_lines settings ask position mark now took =
     turn_lines took ++ (if is_due settings ask mark now took then Bookmark (position_after took position) ∷ [] else [])
 
 -- the lines that are written of a turn, where the watch stood so before it
-abbrev pub lines_of_turn : Terms → WatchAsk → Standing → Turn → List Line
+abbrev pub lines_of_turn : Terms → WatchAsk → Progress → Turn → List Line
 lines_of_turn terms ask s turn = told_lines terms.settings ask s.position s.mark turn.reading.ms turn.took
 
 -- the lines of turns that follow each other, from where the watch stood before the first
-abbrev pub lines_from : Terms → WatchAsk → Standing → List Turn → List Line
+abbrev pub lines_from : Terms → WatchAsk → Progress → List Turn → List Line
 lines_from terms ask s [] = []
 lines_from terms ask s (turn ∷ more) = lines_of_turn terms ask s turn ++ lines_from terms ask (after_turn terms ask s turn) more
 
@@ -169,7 +169,7 @@ last_lines finish = []
 abbrev pub watch_lines : Terms → WatchAsk → Pass RevisionData → Turns → List Line
 watch_lines terms ask p watch =
     opening_lines ask watch.begun.at watch.begun.rows
-    ++ (lines_from terms ask (first_standing p watch) watch.turns ++ last_lines watch.finish)
+    ++ (lines_from terms ask (first_progress p watch) watch.turns ++ last_lines watch.finish)
 
 -- ---- ends
 

@@ -1,9 +1,11 @@
 //! The lines of a stream, written in their frames.
 
-ghost use Rattle.std.specs.Prelude.{◌≡◌, ◌≤◌, ℕ, decimal, map};
+ghost use Rattle.std.specs.Prelude.{◌≡◌, ℕ, decimal, map};
+ghost use Rattle.edge_io.specs.Sent.{sent_through};
 ghost use Rattle.watch_rules.specs.Bodies.{Told, initial_lines, opening_lines};
-ghost use Rattle.sess_reply.specs.Sending.{Counts};
-ghost use Rattle.sess_turns.specs.Streams.{IsWritten, frames_of, framed, type_of};
+ghost use Rattle.sess_reply.specs.Sending.{Emits};
+ghost use Rattle.watch_texts.specs.Texts.{type_of};
+ghost use Rattle.sess_turns.specs.Streams.{frames_of, framed};
 ghost use Rattle.meta_view.specs.Lines.{object_line, bookmark_line, expired_line};
 
 use crate::frames::event;
@@ -19,6 +21,7 @@ use select_all::Kind;
 use sess_reply::Broken;
 use std::sync::Arc;
 use watch_rules::WatchAsk;
+use watch_texts::event_type;
 
 /// Writes the opening of a watch: a line for each of its initial objects, and the bookmark that ends them where one is
 /// asked for.
@@ -28,9 +31,8 @@ pub(crate) fn opening<K: Sink>(
     ask: &WatchAsk,
     begun: &Begun,
 ) -> Result<(), Broken>
-    ensures written { IsWritten result (K.written sink.old) (K.written sink.new) (frames_of view.now ask.now.selection.resource (opening_lines ask.now begun.now.at begun.now.rows)) }
-    ensures counted { Counts result (K.faults sink.old) (K.faults sink.new) }
-    ensures never_falls { K.faults sink.old ≤ K.faults sink.new }
+    ensures { Emits result (frames_of view.now ask.now.selection.resource (opening_lines ask.now begun.now.at begun.now.rows))
+        (sent_through K.written K.settled K.faults sink.old sink.new) }
 {
     let resource = ask.selection.resource;
     initial(sink, view, resource, &begun.initial)?;
@@ -47,12 +49,11 @@ fn initial<K: Sink>(
     resource: Resource,
     objects: &[Arc<Shown>],
 ) -> Result<(), Broken>
-    ensures written { IsWritten result (K.written sink.old) (K.written sink.new) (frames_of view.now resource (initial_lines (map (λ shown. shown.value) objects.now))) }
-    ensures counted { Counts result (K.faults sink.old) (K.faults sink.new) }
-    ensures never_falls { K.faults sink.old ≤ K.faults sink.new }
+    ensures { Emits result (frames_of view.now resource (initial_lines (map (λ shown. shown.value) objects.now)))
+        (sent_through K.written K.settled K.faults sink.old sink.new) }
 {
     for shown in objects {
-        told(sink, view, Kind::Added, shown)?;
+        object(sink, view, Kind::Added, shown)?;
     }
     Ok(())
 }
@@ -64,35 +65,22 @@ pub(crate) fn events<K: Sink>(
     resource: Resource,
     lines: &[Line],
 ) -> Result<(), Broken>
-    ensures written { IsWritten result (K.written sink.old) (K.written sink.new) (frames_of view.now resource (map Told lines.now)) }
-    ensures counted { Counts result (K.faults sink.old) (K.faults sink.new) }
-    ensures never_falls { K.faults sink.old ≤ K.faults sink.new }
+    ensures { Emits result (frames_of view.now resource (map Told lines.now))
+        (sent_through K.written K.settled K.faults sink.old sink.new) }
 {
     for line in lines {
-        told(sink, view, line.kind, &line.shown)?;
+        object(sink, view, line.kind, &line.shown)?;
     }
     Ok(())
 }
 
 // Writes what is told of an object.
-fn told<K: Sink>(sink: &mut K, view: &View, kind: Kind, shown: &Shown) -> Result<(), Broken>
-    ensures written { IsWritten result (K.written sink.old) (K.written sink.new)
-        (framed view.now.framing (object_line view.now.form (type_of kind) shown.now.obj shown.now.rev)) }
-    ensures counted { Counts result (K.faults sink.old) (K.faults sink.new) }
-    ensures never_falls { K.faults sink.old ≤ K.faults sink.new }
+fn object<K: Sink>(sink: &mut K, view: &View, kind: Kind, shown: &Shown) -> Result<(), Broken>
+    ensures { Emits result (framed view.now.framing (object_line view.now.form (type_of kind) shown.now.obj shown.now.rev))
+        (sent_through K.written K.settled K.faults sink.old sink.new) }
 {
-    let object = shown_pieces(view.form, &shown.row().obj, shown.digits());
-    event(sink, &view.framing, event_type(kind), &object)
-}
-
-fn event_type(kind: Kind) -> EventType
-    ensures { result ≡ type_of kind }
-{
-    match kind {
-        Kind::Added => EventType::Added,
-        Kind::Modified => EventType::Modified,
-        Kind::Deleted => EventType::Deleted,
-    }
+    let pieces = shown_pieces(view.form, &shown.row().obj, shown.digits());
+    event(sink, &view.framing, event_type(kind), &pieces)
 }
 
 /// Writes a bookmark.
@@ -103,9 +91,8 @@ pub(crate) fn bookmark<K: Sink>(
     at: u64,
     closing: bool,
 ) -> Result<(), Broken>
-    ensures written { IsWritten result (K.written sink.old) (K.written sink.new) (framed view.now.framing (bookmark_line view.now.form resource at closing)) }
-    ensures counted { Counts result (K.faults sink.old) (K.faults sink.new) }
-    ensures never_falls { K.faults sink.old ≤ K.faults sink.new }
+    ensures { Emits result (framed view.now.framing (bookmark_line view.now.form resource at closing))
+        (sent_through K.written K.settled K.faults sink.old sink.new) }
 {
     let mut buffer = Buffer::new();
     let digits = buffer.format(at).as_bytes();
@@ -120,9 +107,8 @@ pub(crate) fn lost<K: Sink>(
     at: u64,
     floor: u64,
 ) -> Result<(), Broken>
-    ensures written { IsWritten result (K.written sink.old) (K.written sink.new) (framed framing.now (expired_line at floor)) }
-    ensures counted { Counts result (K.faults sink.old) (K.faults sink.new) }
-    ensures never_falls { K.faults sink.old ≤ K.faults sink.new }
+    ensures { Emits result (framed framing.now (expired_line at floor))
+        (sent_through K.written K.settled K.faults sink.old sink.new) }
 {
     let mut asked_buffer = Buffer::new();
     let mut floor_buffer = Buffer::new();
@@ -138,10 +124,9 @@ fn expired<'a, K: Sink>(
     asked_digits: &'a [u8],
     floor_digits: &'a [u8],
 ) -> Result<(), Broken>
-    ensures written { (at floor : ℕ) → asked_digits.now ≡ decimal at → floor_digits.now ≡ decimal floor →
-        IsWritten result (K.written sink.old) (K.written sink.new) (framed framing.now (expired_line at floor)) }
-    ensures counted { Counts result (K.faults sink.old) (K.faults sink.new) }
-    ensures never_falls { K.faults sink.old ≤ K.faults sink.new }
+    ensures { (at floor : ℕ) → asked_digits.now ≡ decimal at → floor_digits.now ≡ decimal floor →
+        Emits result (framed framing.now (expired_line at floor))
+        (sent_through K.written K.settled K.faults sink.old sink.new) }
 {
     let object = expired_pieces(asked_digits, floor_digits);
     event(sink, framing, EventType::Error, &object)

@@ -1,21 +1,22 @@
 //! The whole stream of a watch.
 
-ghost use Rattle.std.specs.Prelude.{◌≡◌, ◌≢◌, ◌≤◌, ◌++◌, Some, None, Err, OnOk};
+ghost use Rattle.std.specs.Prelude.{◌≡◌, ◌≢◌, ◌≤◌, ◌++◌, Some, None, Err};
+ghost use Rattle.edge_io.specs.Sent.{sent_through};
 ghost use Rattle.up_api.specs.Settings.{AreInRange};
 ghost use Rattle.sess_turns.specs.Terms.{terms_of};
 ghost use Rattle.watch_rules.specs.Bodies.{opening_lines};
-ghost use Rattle.sess_reply.specs.Sending.{Counts};
-ghost use Rattle.sess_turns.specs.Streams.{IsStreamed, IsWritten, gone_text, head_text, frames_of};
+ghost use Rattle.sess_reply.specs.Sending.{Sends};
+ghost use Rattle.sess_turns.specs.Streams.{IsStreamed, outside_of, gone_text, head_text, frames_of};
 ghost use Rattle.sess_turns.specs.Steps.{Goes};
 
 use crate::ends::WatchEnd;
-use crate::frames::{begin, end, send_on};
+use crate::frames::{begin, end};
 use crate::lines::{lost, opening};
 use crate::turns::turns;
 use crate::view::View;
 use client_api::{Begun, Client};
 use edge_io::{Clock, Reading, Sink};
-use sess_reply::Broken;
+use sess_reply::{Broken, send_on};
 use up_api::Settings;
 use watch_rules::WatchAsk;
 
@@ -33,12 +34,8 @@ pub fn serve_stream<C: Client, K: Sink, T: Clock>(
     requires watching { (C.facts client.old).watching ≡ Some (record { selection = ask.now.selection; position = begun.now.at }) }
     requires settings { AreInRange settings.now }
     ensures streamed { IsStreamed (terms_of C.base C.mirror (C.facts client.old) settings.now) view.now ask.now begun.now
-        (C.whole client.old)
-        (C.pass client.old) (record { readings = T.readings clock.old; written = K.written sink.old }) result
-        (C.pass client.new) (record { readings = T.readings clock.new; written = K.written sink.new }) }
-    ensures settled { OnOk result (K.settled sink.new) }
-    ensures counted { Counts result (K.faults sink.old) (K.faults sink.new) }
-    ensures never_falls { K.faults sink.old ≤ K.faults sink.new }
+        (C.whole client.old) (C.pass client.old)
+        (outside_of T.readings clock.old clock.new (sent_through K.written K.settled K.faults sink.old sink.new)) result (C.pass client.new) }
     ensures facts { C.facts client.new ≡
         record (C.facts client.old) { watching = None; heard = (C.facts client.new).heard } }
     ensures heard { T.last clock.new ≤ (C.facts client.new).heard }
@@ -66,11 +63,8 @@ fn stream<C: Client, K: Sink, T: Clock>(
     requires settings { AreInRange settings.now }
     requires heard { T.last clock.old ≤ (C.facts client.old).heard }
     ensures goes { Goes (terms_of C.base C.mirror (C.facts client.old) settings.now) view.now ask.now begun.now start (C.whole client.old)
-        (C.pass client.old) (record { readings = T.readings clock.old; written = K.written sink.old }) result
-        (C.pass client.new) (record { readings = T.readings clock.new; written = K.written sink.new }) }
-    ensures settled { OnOk result (K.settled sink.new) }
-    ensures counted { Counts result (K.faults sink.old) (K.faults sink.new) }
-    ensures never_falls { K.faults sink.old ≤ K.faults sink.new }
+        (C.pass client.old)
+        (outside_of T.readings clock.old clock.new (sent_through K.written K.settled K.faults sink.old sink.new)) result (C.pass client.new) }
     ensures same { C.facts client.new ≡ record (C.facts client.old) { watching = (C.facts client.new).watching; heard = (C.facts client.new).heard } }
     ensures heard { T.last clock.new ≤ (C.facts client.new).heard }
     ensures kept { C.whole client.old → result ≢ Err Broken.Memory → C.whole client.new }
@@ -81,11 +75,8 @@ fn stream<C: Client, K: Sink, T: Clock>(
 
 // Writes the head and the opening, and sends them on.
 fn open<K: Sink>(sink: &mut K, view: &View, ask: &WatchAsk, begun: &Begun) -> Result<(), Broken>
-    ensures written { IsWritten result (K.written sink.old) (K.written sink.new)
-        (head_text view.now.framing ++ frames_of view.now ask.now.selection.resource (opening_lines ask.now begun.now.at begun.now.rows)) }
-    ensures settled { OnOk result (K.settled sink.new) }
-    ensures counted { Counts result (K.faults sink.old) (K.faults sink.new) }
-    ensures never_falls { K.faults sink.old ≤ K.faults sink.new }
+    ensures { Sends result (head_text view.now.framing ++ frames_of view.now ask.now.selection.resource (opening_lines ask.now begun.now.at begun.now.rows))
+        (sent_through K.written K.settled K.faults sink.old sink.new) }
 {
     begin(sink, &view.framing)?;
     opening(sink, view, ask, begun)?;
@@ -94,10 +85,8 @@ fn open<K: Sink>(sink: &mut K, view: &View, ask: &WatchAsk, begun: &Begun) -> Re
 
 /// The stream of a watch that asked for the changes since `asked`, which may not all be kept: that is below `floor`.
 pub fn serve_gone<K: Sink>(sink: &mut K, view: &View, asked: u64, floor: u64) -> Result<(), Broken>
-    ensures written { IsWritten result (K.written sink.old) (K.written sink.new) (gone_text view.now.framing asked floor) }
-    ensures settled { OnOk result (K.settled sink.new) }
-    ensures counted { Counts result (K.faults sink.old) (K.faults sink.new) }
-    ensures never_falls { K.faults sink.old ≤ K.faults sink.new }
+    ensures { Sends result (gone_text view.now.framing asked floor)
+        (sent_through K.written K.settled K.faults sink.old sink.new) }
 {
     begin(sink, &view.framing)?;
     lost(sink, &view.framing, asked, floor)?;

@@ -1,23 +1,24 @@
 //! The turns of a watch, by the clock.
 
-ghost use Rattle.std.specs.Prelude.{◌≡◌, ◌≢◌, ◌+◌, ◌*◌, ◌≤◌, ◌&&◌, [], ◌∷◌, ◌++◌, map, Some, None, Ok, Err, IfOk, OnOk, nat_le, if◌then◌else◌};
+ghost use Rattle.std.specs.Prelude.{◌≡◌, ◌≢◌, ◌+◌, ◌*◌, ◌≤◌, ◌&&◌, [], ◌∷◌, ◌++◌, map, Some, None, Ok, Err, IfOk, nat_le, if◌then◌else◌};
 ghost use Rattle.edge_io.specs.Told.{Noted};
+ghost use Rattle.edge_io.specs.Sent.{sent_through};
 ghost use Rattle.up_api.specs.Settings.{AreInRange};
 ghost use Rattle.watch_rules.specs.Bodies.{Told, Bookmark};
-ghost use Rattle.sess_turns.specs.Terms.{terms_of, seconds_of};
-ghost use Rattle.sess_reply.specs.Sending.{Counts};
-ghost use Rattle.sess_turns.specs.Streams.{IsWritten, end_text, framed, frames_of};
+ghost use Rattle.sess_turns.specs.Terms.{terms_of, watch_seconds};
+ghost use Rattle.sess_reply.specs.Sending.{Sends};
+ghost use Rattle.sess_turns.specs.Streams.{outside_of, end_text, framed, frames_of};
 ghost use Rattle.sess_turns.specs.Steps.{IsTurned, Stops, Tells};
 ghost use Rattle.meta_view.specs.Lines.{expired_line};
 
 use crate::ends::WatchEnd;
-use crate::frames::{end, send_on};
+use crate::frames::end;
 use crate::lines::{bookmark, events, lost};
 use crate::view::View;
 use client_api::{Client, Line, Took};
 use edge_io::{Clock, Reading, Sink};
 use kube_meta::Resource;
-use sess_reply::Broken;
+use sess_reply::{Broken, send_on};
 use up_api::Settings;
 use watch_rules::WatchAsk;
 
@@ -50,11 +51,7 @@ pub(crate) fn turns<C: Client, K: Sink, T: Clock>(
     requires heard { T.last clock.old ≤ (C.facts client.old).heard }
     ensures stops { Stops (terms_of C.base C.mirror (C.facts client.old) settings.now) view.now ask.now start (C.whole client.old) 0
         (record { pass = C.pass client.old; position = at; mark = start.ms })
-        (record { readings = T.readings clock.old; written = K.written sink.old }) result
-        (C.pass client.new) (record { readings = T.readings clock.new; written = K.written sink.new }) }
-    ensures settled { OnOk result (K.settled sink.new) }
-    ensures counted { Counts result (K.faults sink.old) (K.faults sink.new) }
-    ensures never_falls { K.faults sink.old ≤ K.faults sink.new }
+        (outside_of T.readings clock.old clock.new (sent_through K.written K.settled K.faults sink.old sink.new)) result (C.pass client.new) }
     ensures same { C.facts client.new ≡ record (C.facts client.old) { watching = (C.facts client.new).watching; heard = (C.facts client.new).heard } }
     ensures heard { T.last clock.new ≤ (C.facts client.new).heard }
     ensures kept { C.whole client.old → result ≢ Err Broken.Memory → C.whole client.new }
@@ -90,13 +87,9 @@ fn turn<C: Client, K: Sink, T: Clock>(
     requires settled { K.settled sink.old }
     ensures turned { IsTurned (terms_of C.base C.mirror (C.facts client.old) settings.now) view.now ask.now start (C.whole client.old)
         (record { pass = C.pass client.old; position = place.old.position; mark = place.old.mark })
-        (record { readings = T.readings clock.old; written = K.written sink.old }) result
-        (record { pass = C.pass client.new; position = place.new.position; mark = place.new.mark })
-        (record { readings = T.readings clock.new; written = K.written sink.new }) }
+        (outside_of T.readings clock.old clock.new (sent_through K.written K.settled K.faults sink.old sink.new)) result
+        (record { pass = C.pass client.new; position = place.new.position; mark = place.new.mark }) }
     ensures watching { result ≡ Ok None → (C.facts client.new).watching ≡ Some (record { selection = ask.now.selection; position = place.new.position }) }
-    ensures settled { OnOk result (K.settled sink.new) }
-    ensures counted { Counts result (K.faults sink.old) (K.faults sink.new) }
-    ensures never_falls { K.faults sink.old ≤ K.faults sink.new }
     ensures same { C.facts client.new ≡ record (C.facts client.old) { watching = (C.facts client.new).watching; heard = (C.facts client.new).heard } }
     ensures heard { T.last clock.new ≤ (C.facts client.new).heard }
     ensures kept { C.whole client.old → result ≢ Err Broken.Memory → C.whole client.new }
@@ -127,10 +120,8 @@ fn tell<K: Sink, T: Clock>(
     took: Took,
 ) -> Result<Option<WatchEnd>, Broken>
     requires settled { K.settled sink.old }
-    ensures told { Tells settings.now view.now ask.now place.old.position place.old.mark now took result place.new.position place.new.mark (K.written sink.old) (K.written sink.new) }
-    ensures settled { OnOk result (K.settled sink.new) }
-    ensures counted { Counts result (K.faults sink.old) (K.faults sink.new) }
-    ensures never_falls { K.faults sink.old ≤ K.faults sink.new }
+    ensures told { Tells settings.now view.now ask.now place.old.position place.old.mark now took result place.new.position place.new.mark
+        (sent_through K.written K.settled K.faults sink.old sink.new) }
     ensures unread { Noted (T.readings clock.old) (T.readings clock.new) [] }
     ensures last { T.last clock.new ≡ T.last clock.old }
 {
@@ -161,10 +152,8 @@ fn tell_events<K: Sink>(
     resource: Resource,
     lines: &[Line],
 ) -> Result<(), Broken>
-    ensures written { IsWritten result (K.written sink.old) (K.written sink.new) (frames_of view.now resource (map Told lines.now)) }
-    ensures settled { OnOk result (K.settled sink.new) }
-    ensures counted { Counts result (K.faults sink.old) (K.faults sink.new) }
-    ensures never_falls { K.faults sink.old ≤ K.faults sink.new }
+    ensures { Sends result (frames_of view.now resource (map Told lines.now))
+        (sent_through K.written K.settled K.faults sink.old sink.new) }
 {
     events(sink, view, resource, lines)?;
     send_on(sink)
@@ -179,10 +168,8 @@ fn tell_quiet<K: Sink>(
     due: bool,
 ) -> Result<(), Broken>
     requires settled { K.settled sink.old }
-    ensures written { IsWritten result (K.written sink.old) (K.written sink.new) (frames_of view.now resource (if due then Bookmark upto ∷ [] else [])) }
-    ensures settled { OnOk result (K.settled sink.new) }
-    ensures counted { Counts result (K.faults sink.old) (K.faults sink.new) }
-    ensures never_falls { K.faults sink.old ≤ K.faults sink.new }
+    ensures { Sends result (frames_of view.now resource (if due then Bookmark upto ∷ [] else []))
+        (sent_through K.written K.settled K.faults sink.old sink.new) }
 {
     if !due {
         return Ok(());
@@ -199,10 +186,8 @@ fn tell_lost<K: Sink>(
     floor: u64,
 ) -> Result<Option<WatchEnd>, Broken>
     ensures ended { IfOk result (λ ended. ended ≡ Some (WatchEnd.Lost at floor)) }
-    ensures written { IsWritten result (K.written sink.old) (K.written sink.new) (framed view.now.framing (expired_line at floor) ++ end_text view.now.framing) }
-    ensures settled { OnOk result (K.settled sink.new) }
-    ensures counted { Counts result (K.faults sink.old) (K.faults sink.new) }
-    ensures never_falls { K.faults sink.old ≤ K.faults sink.new }
+    ensures sends { Sends result (framed view.now.framing (expired_line at floor) ++ end_text view.now.framing)
+        (sent_through K.written K.settled K.faults sink.old sink.new) }
 {
     lost(sink, &view.framing, at, floor)?;
     close(sink, view, WatchEnd::Lost { at, floor })
@@ -211,10 +196,8 @@ fn tell_lost<K: Sink>(
 // Ends the stream.
 fn close<K: Sink>(sink: &mut K, view: &View, how: WatchEnd) -> Result<Option<WatchEnd>, Broken>
     ensures ended { IfOk result (λ ended. ended ≡ Some how) }
-    ensures written { IsWritten result (K.written sink.old) (K.written sink.new) (end_text view.now.framing) }
-    ensures settled { OnOk result (K.settled sink.new) }
-    ensures counted { Counts result (K.faults sink.old) (K.faults sink.new) }
-    ensures never_falls { K.faults sink.old ≤ K.faults sink.new }
+    ensures sends { Sends result (end_text view.now.framing)
+        (sent_through K.written K.settled K.faults sink.old sink.new) }
 {
     end(sink, &view.framing)?;
     Ok(Some(how))
@@ -223,7 +206,7 @@ fn close<K: Sink>(sink: &mut K, view: &View, how: WatchEnd) -> Result<Option<Wat
 // After how many seconds the watch ends.
 fn seconds(ask: &WatchAsk, settings: &Settings) -> u64
     requires settings { AreInRange settings.now }
-    ensures is { result ≡ seconds_of settings.now ask.now.timeout_s }
+    ensures is { result ≡ watch_seconds settings.now ask.now.timeout_s }
     ensures bounded { result ≤ 1000000 }
 {
     match ask.timeout_s {

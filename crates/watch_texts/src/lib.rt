@@ -6,4 +6,4 @@ mod readers;
 mod told;
 
 pub use readers::{bookmark_in, loss_in};
-pub use told::tells;
+pub use told::{event_type, tells};

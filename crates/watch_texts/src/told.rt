@@ -24,7 +24,8 @@ pub fn tells(line: &[u8], kind: Kind, obj: &Obj, rev: u64) -> bool
     is_event(line, event_type(kind), &object)
 }
 
-fn event_type(kind: Kind) -> EventType
+/// The type of an event by which a change of an object is told.
+pub fn event_type(kind: Kind) -> EventType
     ensures { result ≡ type_of kind }
 {
     match kind {

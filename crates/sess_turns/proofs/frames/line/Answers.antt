@@ -1,26 +1,26 @@
-use Rattle.edge_io.proofs.ToldLemmas.{AppendedSome-first, AppendedSome-second}
-use Rattle.std.proofs.Common.{subst, ◌∙◌, ap}
-use Rattle.edge_io.specs.Told.{appended, AppendedSome}
+use Rattle.std.proofs.Common.{◌++◌}
+use Rattle.std.specs.List.{flat_map}
+use Rattle.edge_io.proofs.SentLemmas.{broken-first, broken-behind, writes-broken, writes-behind}
 use Rattle.json_obj.specs.Replies.{event_front, event_back}
-use Rattle.sess_turns.proofs.WritingLemmas.{written-broken, written-first}
 use Rattle.sess_turns.proofs.frames.line.Goals as goal
 
-pub returns-in_err-part-clause-written : goal.returns-in_err-part-clause-written
-returns-in_err-part-clause-written g c =
-    written-first c.from_residual.result _ _ (event_front c.args.type_) _ c.from_residual.ensures.0
-    (subst (AppendedSome _ _) c.front.ensures c.in_err-part.ensures.broken)
+pub returns-in_err-part : goal.returns-in_err-part
+returns-in_err-part g c =
+    let object = flat_map (λ piece. piece.now) c.args.object.now in
+    let front = rw c.front.ensures at c.in_err-part.ensures in
+    writes-broken c.from_residual.result _ _ c.from_residual.ensures.0 (broken-first _ _ _ _ (event_front c.args.type_) (object ++ event_back) front)
 
-pub returns-in_err-parts-clause-written : goal.returns-in_err-parts-clause-written
-returns-in_err-parts-clause-written g c =
-    let old = g.K.Sink.written c.args.sink.now in
-    let front = c.in_ok-part.ensures.sent ∙ ap (appended old) c.front.ensures in
-    written-broken c.from_residual-in_err-parts.result _ _ _ c.from_residual-in_err-parts.ensures.0
-    (AppendedSome-second _ _ _ (event_front c.args.type_) _ front (AppendedSome-first _ _ _ event_back c.in_err-parts.ensures.broken))
+pub returns-in_err-parts : goal.returns-in_err-parts
+returns-in_err-parts g c =
+    let object = flat_map (λ piece. piece.now) c.args.object.now in
+    let front = rw c.front.ensures at c.in_ok-part.ensures in
+    writes-broken c.from_residual-in_err-parts.result _ _ c.from_residual-in_err-parts.ensures.0
+    (broken-behind _ _ _ _ _ _ (event_front c.args.type_) (object ++ event_back) front (broken-first _ _ _ _ object event_back c.in_err-parts.ensures))
 
-pub returns-in_err-part-2-clause-written : goal.returns-in_err-part-2-clause-written
-returns-in_err-part-2-clause-written g c =
-    let old = g.K.Sink.written c.args.sink.now in
-    let front = c.in_ok-part.ensures.sent ∙ ap (appended old) c.front.ensures in
-    written-broken c.from_residual-in_err-part-2.result _ _ _ c.from_residual-in_err-part-2.ensures.0
-    (AppendedSome-second _ _ _ (event_front c.args.type_) _ front
-    (AppendedSome-second _ _ _ _ event_back c.in_ok-parts.ensures.sent (subst (AppendedSome _ _) c.back.ensures c.in_err-part-2.ensures.broken)))
+pub returns : goal.returns
+returns g c =
+    let object = flat_map (λ piece. piece.now) c.args.object.now in
+    let front = rw c.front.ensures at c.in_ok-part.ensures in
+    let back = rw c.back.ensures at c.part-2.ensures in
+    writes-behind c.part-2.result _ _ _ _ _ _ _ _ _ (event_front c.args.type_) (object ++ event_back) front
+    (writes-behind c.part-2.result _ _ _ (Unit {0}) _ _ _ _ _ object event_back c.in_ok-parts.ensures back)

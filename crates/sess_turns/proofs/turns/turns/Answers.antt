@@ -1,6 +1,7 @@
 use Rattle.std.proofs.Common.{refl, ap, ◌∙◌, Ok, arith}
+use Rattle.std.specs.Prelude.{⊤}
 use Rattle.sess_turns.proofs.AskLemmas.{facts-on, same-terms}
-use Rattle.sess_turns.proofs.TurnLemmas.{so-first, turned-on, turned-ends, turned-breaks, spent-ends, spent-breaks}
+use Rattle.sess_turns.proofs.TurnLemmas.{so-first, turned-on, turned-ends, turned-breaks, turned-settled, spent-ends, spent-breaks}
 use Rattle.sess_turns.proofs.turns.turns.Goals as goal
 
 pub loop-init : goal.loop-init
@@ -10,7 +11,6 @@ loop-init g c = record {
   watching = c.requires.watching;
   same = refl;
   settled = c.requires.settled;
-  quiet = refl;
   heard = c.requires.heard;
   kept = λ w. w;
 }
@@ -18,7 +18,7 @@ loop-init g c = record {
 pub returns-in_err-ended-clause-stops : goal.returns-in_err-ended-clause-stops
 returns-in_err-ended-clause-stops g c =
     let inv = c.loop.invariant in
-    turned-breaks _ _ (same-terms _ _ _ (g.C.Client.facts c.args.client.now) _ inv.same) _ _ _ _ _ inv.kept _ _ _ _ _ c.loop.counter c.from_residual.result _ _ c.from_residual.ensures.0 (omega arith) inv.so c.in_err-ended.ensures.turned
+    turned-breaks _ _ (same-terms _ _ _ (g.C.Client.facts c.args.client.now) _ inv.same) _ _ _ _ _ inv.kept _ _ _ _ _ c.loop.counter c.from_residual.result _ _ c.from_residual.ensures.1 (omega arith) inv.so c.in_err-ended.ensures.turned
 
 pub returns-in_err-ended-clause-same : goal.returns-in_err-ended-clause-same
 returns-in_err-ended-clause-same g c = facts-on (g.C.Client.facts c.args.client.now) _ _ c.in_err-ended.ensures.same c.loop.invariant.same
@@ -40,8 +40,7 @@ loop-preserved g c =
       few = omega arith;
       watching = e.watching (ap Ok c.in-None.is);
       same = facts-on (g.C.Client.facts c.args.client.now) _ _ e.same inv.same;
-      settled = e.settled;
-      quiet = e.counted ∙ inv.quiet;
+      settled = turned-settled _ _ _ _ _ _ _ _ c.in_ok-ended.ended c.in-None.is e.turned;
       heard = e.heard;
       kept = λ w. e.kept (inv.kept w) (λ bad. absurd (cc bad));
     }
@@ -49,9 +48,9 @@ loop-preserved g c =
 pub returns-in_err-end-clause-stops : goal.returns-in_err-end-clause-stops
 returns-in_err-end-clause-stops g c =
     let inv = c.loop.invariant in
-    spent-breaks _ _ _ _ _ _ _ _ _ _ c.loop.counter (omega (arith, inv.few)) c.from_residual-in_err-end.result c.from_residual-in_err-end.ensures.0 inv.so refl c.in_err-end.ensures.written
+    spent-breaks _ _ _ _ _ _ _ _ _ _ c.loop.counter (omega (arith, inv.few)) ⊤ c.from_residual-in_err-end.result c.in_err-end.field-0.0 c.from_residual-in_err-end.ensures.1 inv.so refl c.in_err-end.ensures
 
 pub returns-clause-stops : goal.returns-clause-stops
 returns-clause-stops g c =
     let inv = c.loop.invariant in
-    spent-ends _ _ _ _ _ _ _ _ _ _ c.loop.counter (omega (arith, inv.few)) inv.so refl c.in_ok-end.ensures.written
+    spent-ends _ _ _ _ _ _ _ _ _ _ c.loop.counter (omega (arith, inv.few)) inv.so refl c.in_ok-end.ensures
