@@ -1,4 +1,4 @@
--- What is said of the counts, of what is settled and of memory, by how a turn or a session ends.
+-- What is said of the counts, of what is settled and of memory, by how a round or a session ends.
 use Rattle.std.proofs.Common.{◌≡◌, ◌≢◌, ℕ, Bool, true, false, List, [], Option, Some, None, Result, Ok, Err, refl, sym, subst}
 use Rattle.std.specs.Prelude.{⊤, OnOk, OnErr}
 use Rattle.edge_io.specs.Told.{appended, AppendedSome}
@@ -6,8 +6,10 @@ use Rattle.edge_io.proofs.ToldLemmas.{appended-nil}
 use Rattle.http_read.specs.Answers.{UnlessFault}
 use Rattle.http_read.specs.declared.refusal.ReqNo.{ReqNo}
 use Rattle.http_read.specs.declared.refusal.ReqNo.TheVariants as req_no
+use Rattle.edge_io.specs.Sent.{Sent}
+use Rattle.edge_io.proofs.SentLemmas.{sent_of}
 use Rattle.sess_reply.specs.Replies.{request_refusal_text}
-use Rattle.sess_reply.specs.Sending.{Counts}
+use Rattle.sess_reply.specs.Sending.{Counts, Sends}
 use Rattle.sess_reply.specs.declared.broken.Broken.{Broken}
 use Rattle.sess_reply.specs.declared.broken.Broken.TheVariants as broken
 use Rattle.sess_turns.specs.declared.ends.WatchEnd.{WatchEnd}
@@ -94,10 +96,10 @@ module _ (came : Result (Option WatchEnd) Broken) (close : Bool) (result : Optio
       by (Err broken.Fault) close h = tt
       by (Err broken.Memory) close h = tt
 
-  pub after-sink : (a b : ℕ) → Counts came a b → OrEnd UnlessWriteFault result (b ≡ a)
-  after-sink a b h = subst (λ r. OrEnd UnlessWriteFault r (b ≡ a)) (sym is) (by came close h)
+  pub after-sink : (sent : Sent) → Counts came sent → OrEnd UnlessWriteFault result (sent.faults_new ≡ sent.faults_old)
+  after-sink sent h = subst (λ r. OrEnd UnlessWriteFault r (sent.faults_new ≡ sent.faults_old)) (sym is) (by came close h)
     where
-      by : (came : Result (Option WatchEnd) Broken) (close : Bool) → Counts came a b → OrEnd UnlessWriteFault (end_after came close) (b ≡ a)
+      by : (came : Result (Option WatchEnd) Broken) (close : Bool) → Counts came sent → OrEnd UnlessWriteFault (end_after came close) (sent.faults_new ≡ sent.faults_old)
       by (Ok None) true h = h
       by (Ok None) false h = h
       by (Ok (Some how)) close h = h
@@ -130,15 +132,15 @@ stopped-source P A req_no.TooManyHeaders written how stops h = read-anyway how h
 stopped-source P A req_no.BodyTooLong written how stops h = read-anyway how h
 stopped-source P A req_no.NeedsLength written how stops h = read-anyway how h
 
-pub stopped-sink : (how : SessionEnd) (a b : ℕ) → CountsAt how a b → UnlessWriteFault how (b ≡ a)
-stopped-sink WriteFault a b h = tt
-stopped-sink Done a b h = h
-stopped-sink (Watched w) a b h = h
-stopped-sink ReadFault a b h = h
-stopped-sink CutShort a b h = h
-stopped-sink (Refused n) a b h = h
-stopped-sink TooMany a b h = h
-stopped-sink Memory a b h = h
+pub stopped-sink : (how : SessionEnd) (sent : Sent) → CountsAt how sent → UnlessWriteFault how (sent.faults_new ≡ sent.faults_old)
+stopped-sink WriteFault sent h = tt
+stopped-sink Done sent h = h
+stopped-sink (Watched w) sent h = h
+stopped-sink ReadFault sent h = h
+stopped-sink CutShort sent h = h
+stopped-sink (Refused n) sent h = h
+stopped-sink TooMany sent h = h
+stopped-sink Memory sent h = h
 
 stops-refused : (fault : ReqNo) (written : List ℕ) (how : SessionEnd) → fault ≢ req_no.CutShort → fault ≢ req_no.ReadFault → fault ≢ req_no.Memory → RefusalEnds fault written how → StopsAs fault written how
 stops-refused req_no.CutShort written how a b c h = absurd (a refl)
@@ -150,43 +152,44 @@ stops-refused req_no.TooManyHeaders written how a b c h = h
 stops-refused req_no.BodyTooLong written how a b c h = h
 stops-refused req_no.NeedsLength written how a b c h = h
 
-module _ (fault : ReqNo) (sent : Result ⊤ Broken) (how : SessionEnd) (is : how ≡ end_of_refusal fault sent) where
-  -- the reply to what is no request was written, or a beginning of it
-  pub refusal-stops : (old new : Option (List ℕ)) → fault ≢ req_no.CutShort → fault ≢ req_no.ReadFault → fault ≢ req_no.Memory → OnOk sent (new ≡ appended old (request_refusal_text fault))
-      → OnErr sent (AppendedSome old new (request_refusal_text fault)) → IsStopped fault old new how
-  refusal-stops old new a b c out some = subst (IsStopped fault old new) (sym is) (by sent out some)
-    where
-      by : (sent : Result ⊤ Broken) → OnOk sent (new ≡ appended old (request_refusal_text fault)) → OnErr sent (AppendedSome old new (request_refusal_text fault))
-          → IsStopped fault old new (end_of_refusal fault sent)
-      by (Ok u) out some = record { written = request_refusal_text fault; sink = out; stops = stops-refused fault (request_refusal_text fault) (Refused fault) a b c (refl, refl) }
-      by (Err broken.Fault) out (begun, rest, e, went) = record { written = begun; sink = went; stops = stops-refused fault begun WriteFault a b c (rest, sym e) }
-      by (Err broken.Memory) out (begun, rest, e, went) = record { written = begun; sink = went; stops = stops-refused fault begun Memory a b c (rest, sym e) }
-
-  pub refusal-settled : (P : Type 0) → OnOk sent P → UnlessBroken how P
-  refusal-settled P h = subst (λ e. UnlessBroken e P) (sym is) (by sent h)
-    where
-      by : (sent : Result ⊤ Broken) → OnOk sent P → UnlessBroken (end_of_refusal fault sent) P
-      by (Ok u) h = h
-      by (Err broken.Fault) h = tt
-      by (Err broken.Memory) h = tt
-
-  pub refusal-counts : (a b : ℕ) → Counts sent a b → CountsAt how a b
-  refusal-counts a b h = subst (λ e. CountsAt e a b) (sym is) (by sent h)
-    where
-      by : (sent : Result ⊤ Broken) → Counts sent a b → CountsAt (end_of_refusal fault sent) a b
-      by (Ok u) h = h
-      by (Err broken.Fault) h = h
-      by (Err broken.Memory) h = h
+-- the reply to what is no request was sent, or a beginning of it
+pub refusal-stops : (fault : ReqNo) (told : Result ⊤ Broken) (how : SessionEnd) (sent : Sent) → how ≡ end_of_refusal fault told
+    → fault ≢ req_no.CutShort → fault ≢ req_no.ReadFault → fault ≢ req_no.Memory → Sends told (request_refusal_text fault) sent → IsStopped fault sent how
+refusal-stops fault told how sent is a b c out = subst (IsStopped fault sent) (sym is) (by told out)
+  where
+    by : (told : Result ⊤ Broken) → Sends told (request_refusal_text fault) sent → IsStopped fault sent (end_of_refusal fault told)
+    by (Ok u) out = record {
+      written = request_refusal_text fault;
+      sink = out.0.0;
+      stops = stops-refused fault (request_refusal_text fault) (Refused fault) a b c (refl, refl);
+      counts = out.0.1;
+      settled = λ before. out.1;
+    }
+    by (Err broken.Fault) out = record {
+      written = out.0.0.0;
+      sink = out.0.0.3;
+      stops = stops-refused fault out.0.0.0 WriteFault a b c (out.0.0.1, sym out.0.0.2);
+      counts = out.0.1;
+      settled = λ before. tt;
+    }
+    by (Err broken.Memory) out = record {
+      written = out.0.0.0;
+      sink = out.0.0.3;
+      stops = stops-refused fault out.0.0.0 Memory a b c (out.0.0.1, sym out.0.0.2);
+      counts = out.0.1;
+      settled = λ before. tt;
+    }
 
 -- nothing was written
-pub silent-stops : (fault : ReqNo) (how : SessionEnd) (old : Option (List ℕ)) → StopsAs fault [] how → IsStopped fault old old how
-silent-stops fault how old stops = record { written = []; sink = sym (appended-nil old); stops = stops }
+module _ (fault : ReqNo) (a : Option (List ℕ)) (s : Type 0) (f : ℕ) where
+  abbrev still : Sent
+  still = sent_of a a s s f f
 
-pub stops-cut : (fault : ReqNo) (old : Option (List ℕ)) → fault ≡ req_no.CutShort → IsStopped fault old old CutShort
-stops-cut fault old is = subst (λ f. IsStopped f old old CutShort) (sym is) (silent-stops req_no.CutShort CutShort old (refl, refl))
+  pub stops-cut : fault ≡ req_no.CutShort → IsStopped fault still CutShort
+  stops-cut is = record { written = []; sink = sym (appended-nil a); stops = subst (λ n. StopsAs n [] CutShort) (sym is) (refl, refl); counts = refl; settled = λ before. before }
 
-pub stops-fault : (fault : ReqNo) (old : Option (List ℕ)) → fault ≡ req_no.ReadFault → IsStopped fault old old ReadFault
-stops-fault fault old is = subst (λ f. IsStopped f old old ReadFault) (sym is) (silent-stops req_no.ReadFault ReadFault old (refl, refl))
+  pub stops-fault : fault ≡ req_no.ReadFault → IsStopped fault still ReadFault
+  stops-fault is = record { written = []; sink = sym (appended-nil a); stops = subst (λ n. StopsAs n [] ReadFault) (sym is) (refl, refl); counts = refl; settled = λ before. before }
 
-pub stops-memory : (fault : ReqNo) (old : Option (List ℕ)) → fault ≡ req_no.Memory → IsStopped fault old old Memory
-stops-memory fault old is = subst (λ f. IsStopped f old old Memory) (sym is) (silent-stops req_no.Memory Memory old (refl, refl))
+  pub stops-memory : fault ≡ req_no.Memory → IsStopped fault still Memory
+  stops-memory is = record { written = []; sink = sym (appended-nil a); stops = subst (λ n. StopsAs n [] Memory) (sym is) (refl, refl); counts = refl; settled = λ before. tt }

@@ -5,6 +5,7 @@ use Rattle.std.proofs.lemmas.Bool.{false≢true}
 use Rattle.std.proofs.lemmas.List.{append-nil}
 use Rattle.std.proofs.lemmas.List.Elements.{All-head, All-tail}
 use Rattle.edge_io.specs.Counts.{Rose}
+use Rattle.edge_io.specs.declared.clock.Reading.{Reading}
 use Rattle.httparse.specs.Grammar.{EndsInTarget}
 use Rattle.httparse.specs.Spans.{RequestExceeds}
 use Rattle.http_read.specs.Heads.{most_fields}
@@ -17,7 +18,7 @@ use Rattle.sess_turns.specs.Terms.{Terms}
 use Rattle.sess_turns.specs.declared.ends.WatchEnd.{WatchEnd}
 use Rattle.sess_serve.specs.Answers.{Answer, replied, streamed, is_stream}
 use Rattle.sess_serve.specs.Steps.{Exchange}
-use Rattle.sess_serve.specs.Ends.{Stays, GoesOn, Last, IsWatchEnd, Ended}
+use Rattle.sess_serve.specs.Ends.{Stays, IsKeptOpen, Last, IsWatchEnd, Ended}
 use Rattle.sess_serve.specs.Session.{requests_of}
 use Rattle.sess_serve.specs.Laws.{SessionsSettle, EndsAreExact, Settled, finished, full, cut, watched, refused, end_by, Heard, heard, requests_in, StaysOpen, IsFinishing, IsFinished, IsWatched, EndsHere, EndsWith, AreOneWay}
 
@@ -170,7 +171,7 @@ watch-streams (replied reply) how h = absurd h
 watch-streams (streamed ask stream) how h = refl
 
 -- where the input is exhausted, what is left is nothing
-goes-here : (terms : Terms) (es : List Exchange) (rest : List ℕ) (way : Settled) → GoesOn terms es
+goes-here : (terms : Terms) (es : List Exchange) (rest : List ℕ) (way : Settled) → IsKeptOpen terms es
     → (0 < terms.settings.requests - length es → EndsHere (terms.settings.requests - length es) rest way) → EndsWith terms.settings.requests (map heard es) rest way
 goes-here terms es rest way goes ends =
     let few : length es < terms.settings.requests = goes.few in
@@ -179,24 +180,25 @@ goes-here terms es rest way goes ends =
 cut-stays : (rest left : List ℕ) → IsCutShort rest → left ≡ [] → IsCutShort (rest ++ left)
 cut-stays rest left h none = subst IsCutShort (sym (ap (λ l. rest ++ l) none ∙ append-nil rest)) h
 
-settles : (terms : Terms) (es : List Exchange) (rest written left : List ℕ) (a b c d : ℕ) (way : Settled) → Ended terms es rest written (Rose a b) (Rose c d) (Some left) (end_by way)
+settles : (terms : Terms) (es : List Exchange) (taken rest written left : List ℕ) (readings : List Reading) (a b c d : ℕ) (way : Settled)
+    → Ended terms es rest (record { taken = taken; written = written; readings = readings; read_fault = Rose a b; write_fault = Rose c d; left = Some left }) (end_by way)
     → EndsWith terms.settings.requests (map heard es) (rest ++ left) way
-settles terms es rest written left a b c d finished (out, inl closed) = ends-at terms es closed.0 (rest ++ left) finished (inl ((closed.1.closes, closed.1.by_reply), tt))
-settles terms es rest written left a b c d finished (out, inr ended) =
+settles terms es taken rest written left readings a b c d finished (out, inl closed) = ends-at terms es closed.0 (rest ++ left) finished (inl ((closed.1.closes, closed.1.by_reply), tt))
+settles terms es taken rest written left readings a b c d finished (out, inr ended) =
     goes-here terms es (rest ++ left) finished ended.0 (λ room. (room, ap (λ r. r ++ left) ended.1 ∙ ended.2))
-settles terms es rest written left a b c d full (out, stay, number) =
+settles terms es taken rest written left readings a b c d full (out, stay, number) =
     let same : length es ≡ terms.settings.requests = number in
     ends-after terms.settings.requests es (rest ++ left) full stay (omega arith) (omega arith)
-settles terms es rest written left a b c d cut (out, goes, short, exhausted) =
+settles terms es taken rest written left readings a b c d cut (out, goes, short, exhausted) =
     goes-here terms es (rest ++ left) cut goes (λ room. (room, cut-stays rest left short exhausted))
-settles terms es rest written left a b c d (watched how) ended =
+settles terms es taken rest written left readings a b c d (watched how) ended =
     ends-at terms es ended.1.0 (rest ++ left) (watched how) (inr (watch-streams ended.1.0.last.answer how ended.1.1, tt))
-settles terms es rest written left a b c d (refused fault) (out, goes, why) =
+settles terms es taken rest written left readings a b c d (refused fault) (out, goes, why) =
     goes-here terms es (rest ++ left) (refused fault) goes (λ room. (room, refusal-stays rest left fault why))
 
 pub settle : SessionsSettle
-settle terms es taken rest written left a b c d way reads ended = (
+settle terms es taken rest written left readings a b c d way reads ended = (
   rest ++ left,
   subst (λ rs. ReadsSome (taken ++ left) rs (rest ++ left)) (sym (heard-of es)) (some-stay taken left (requests_of es) rest reads),
-  settles terms es rest written left a b c d way ended,
+  settles terms es taken rest written left readings a b c d way ended,
 )

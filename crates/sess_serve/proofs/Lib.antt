@@ -1,5 +1,5 @@
 pub mod Replying
-pub mod Turning
+pub mod Rounds
 pub mod Session
 pub mod Exact
 pub mod Ending

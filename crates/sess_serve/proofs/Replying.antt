@@ -1,12 +1,13 @@
 -- How one request comes to an exchange, or to want of memory.
 use Rattle.std.proofs.Common.{◌≡◌, ◌≢◌, ◌∙◌, ◌⊎◌, ℕ, List, [], Option, Some, None, Result, Ok, Err, refl, sym, ap, subst, inl, inr}
-use Rattle.std.specs.Prelude.{⊤, OnOk, OnErr, IfSome, Bool, true, false}
+use Rattle.std.specs.Prelude.{⊤, OnOk, OnErr, IsSomeAnd, Bool, true, false}
 use Rattle.std.proofs.lemmas.List.{append-nil}
 use Rattle.std.proofs.lemmas.List.Elements.{All-nil}
 use mathlib.Core.List.{IsPrefix}
 use Rattle.edge_io.specs.Told.{appended, AppendedSome, Noted}
 use Rattle.edge_io.specs.declared.clock.Reading.{Reading}
 use Rattle.edge_io.proofs.ToldLemmas.{appended-nil, Noted-nil}
+use Rattle.edge_io.specs.Sent.{Sent}
 use Rattle.kube_meta.specs.Rows.{RowData}
 use Rattle.rev_front.specs.Passes.{Pass, end_from}
 use Rattle.rev_log.specs.Changes.{RevisionData}
@@ -36,11 +37,11 @@ use Rattle.client_api.specs.Told.{IsToldRead, IsToldTx}
 use Rattle.client_api.proofs.LawLemmas.{onwards_do_join}
 use Rattle.meta_view.specs.declared.form.Form.{Form}
 use Rattle.sess_reply.specs.Replies.{Reply, reply_text, form_of}
-use Rattle.sess_reply.specs.Sending.{Counts}
+use Rattle.sess_reply.specs.Sending.{Counts, Sends}
 use Rattle.sess_reply.specs.declared.broken.Broken.{Broken}
 use Rattle.sess_reply.specs.declared.broken.Broken.TheVariants as broken
 use Rattle.sess_turns.specs.Terms.{Terms, terms_of}
-use Rattle.sess_turns.specs.Streams.{IsStreamed, IsWritten, gone_text}
+use Rattle.sess_turns.specs.Streams.{Outside, IsStreamed, gone_text}
 use Rattle.sess_turns.specs.declared.view.View.{View}
 use Rattle.sess_turns.specs.declared.ends.WatchEnd.{WatchEnd}
 use Rattle.sess_turns.specs.declared.ends.WatchEnd.TheVariants as watch_end
@@ -48,7 +49,7 @@ use Rattle.sess_serve.specs.Answers.{replied, streamed, gone, begun, IsReplyTo, 
 use Rattle.sess_serve.specs.Ends.{Begins, IsWatchEnd}
 use Rattle.sess_serve.specs.Steps.{ReplySays, IsAloneReply}
 use Rattle.sess_serve.specs.Texts.{view_of, framing_of, answer_bytes}
-use Rattle.sess_serve.specs.Serving.{Given, AnsweredAs, Answered, Replied, Outside, UnlessMemory, by_reply, by_stream, by_loss}
+use Rattle.sess_serve.specs.Serving.{Given, AnsweredAs, Answered, Replied, UnlessMemory, by_reply, by_stream, by_loss}
 
 -- ---- nobody else holds the log
 
@@ -75,24 +76,24 @@ module _ (base : List RowData) (mirror : Bool) (facts : Facts) (s : Settings) (p
   terms = terms_of base mirror facts s
 
   abbrev IsBegun : Type 0
-  IsBegun = (q.seen ≡ p.seen) ⊎ IfSome facts.sole_history (λ history. Begins terms history p req q)
+  IsBegun = (q.seen ≡ p.seen) ⊎ IsSomeAnd facts.sole_history (λ history. Begins terms history p req q)
 
   pub lacks-write : (ask : WriteAsk) (answer : Result Written WriteNo) → IsRoute req (routed.Write ask) → answer ≡ Err write_no.Memory
-      → IfSome facts.sole_history (λ history. SoleWrite base mirror history p ask answer q) → IsBegun
-  lacks-write ask answer route is sole = inr (by facts.sole_history (subst (λ a. IfSome facts.sole_history (λ history. SoleWrite base mirror history p ask a q)) is sole))
+      → IsSomeAnd facts.sole_history (λ history. SoleWrite base mirror history p ask answer q) → IsBegun
+  lacks-write ask answer route is sole = inr (by facts.sole_history (subst (λ a. IsSomeAnd facts.sole_history (λ history. SoleWrite base mirror history p ask a q)) is sole))
     where
-      by : (alone : Option ℕ) → IfSome alone (λ history. SoleWrite base mirror history p ask (Err write_no.Memory) q)
-          → IfSome alone (λ history. Begins terms history p req q)
-      by None h = tt
+      by : (alone : Option ℕ) → IsSomeAnd alone (λ history. SoleWrite base mirror history p ask (Err write_no.Memory) q)
+          → IsSomeAnd alone (λ history. Begins terms history p req q)
+      by None h = h
       by (Some history) h = inl (ask, route, h)
 
   pub lacks-transact : (asks : List WriteAsk) (answer : Result (List Written) TxWriteNo) → IsRoute req (routed.Transact asks) → answer ≡ Err tx_no.Memory
-      → IfSome facts.sole_history (λ history. SoleTransact base mirror history p asks answer q) → IsBegun
-  lacks-transact asks answer route is sole = inr (by facts.sole_history (subst (λ a. IfSome facts.sole_history (λ history. SoleTransact base mirror history p asks a q)) is sole))
+      → IsSomeAnd facts.sole_history (λ history. SoleTransact base mirror history p asks answer q) → IsBegun
+  lacks-transact asks answer route is sole = inr (by facts.sole_history (subst (λ a. IsSomeAnd facts.sole_history (λ history. SoleTransact base mirror history p asks a q)) is sole))
     where
-      by : (alone : Option ℕ) → IfSome alone (λ history. SoleTransact base mirror history p asks (Err tx_no.Memory) q)
-          → IfSome alone (λ history. Begins terms history p req q)
-      by None h = tt
+      by : (alone : Option ℕ) → IsSomeAnd alone (λ history. SoleTransact base mirror history p asks (Err tx_no.Memory) q)
+          → IsSomeAnd alone (λ history. Begins terms history p req q)
+      by None h = h
       by (Some history) h = inr (asks, route, h)
 
   pub lacks-read : {A : Type 0} (answer : Result A ListNo) → answer ≡ Err list_no.Memory → SoleRead p answer q → IsBegun
@@ -119,114 +120,135 @@ lacked-in answer is = ap answers_in is
 
 -- ---- replies
 
-module _ (terms : Terms) (whole : Type 0) (p q : Pass RevisionData) (req : Req) (old new : Option (List ℕ)) where
-  -- an answer of which some was written
-  begun-answer : (given : Given terms whole p req [] q) (some : AppendedSome old new (answer_bytes terms req given.answer)) → IsPrefix some.0 (answer_bytes terms req given.answer)
-  begun-answer given (sent, rest, e, out) = (rest, sym e)
-
-  -- an answer was written by a reply, or a beginning of it
-  pub sends : (sent : Result ⊤ Broken) (reply : Reply) → IsReplyTo req reply → ReplySays terms p reply q → IsOnward p q → (whole → IsAloneReply terms p reply q)
-      → OnOk sent (new ≡ appended old (reply_text (form_of req) req.close reply)) → OnErr sent (AppendedSome old new (reply_text (form_of req) req.close reply))
-      → Replied terms whole p req old new q sent
-  sends (Ok u) reply answers says onward sole out some = record {
+module _ (terms : Terms) (whole : Type 0) (p q : Pass RevisionData) (req : Req) (sent : Sent) where
+  -- an answer was sent by a reply, or a beginning of it
+  pub sends : (came : Result ⊤ Broken) (reply : Reply) → IsReplyTo req reply → ReplySays terms p reply q → IsOnward p q → (whole → IsAloneReply terms p reply q)
+      → Sends came (reply_text (form_of req) req.close reply) sent → Replied terms whole p req sent q came
+  sends (Ok u) reply answers says onward sole out = record {
     written = reply_text (form_of req) req.close reply;
-    sink = out;
+    sink = out.0.0;
     replied = (record { answer = replied reply; answers = answers; says = says; onward = onward; sole = sole; readings_are = refl }, refl, refl);
+    counts = out.0.1;
+    settled = out.1;
   }
-  sends (Err broken.Fault) reply answers says onward sole out (sent, rest, e, some) = record {
-    written = sent;
-    sink = some;
-    replied = (record { answer = replied reply; answers = answers; says = says; onward = onward; sole = sole; readings_are = refl }, (rest, sym e));
+  sends (Err broken.Fault) reply answers says onward sole out = record {
+    written = out.0.0.0;
+    sink = out.0.0.3;
+    replied = (record { answer = replied reply; answers = answers; says = says; onward = onward; sole = sole; readings_are = refl }, (out.0.0.1, sym out.0.0.2));
+    counts = out.0.1;
+    settled = tt;
   }
-  sends (Err broken.Memory) reply answers says onward sole out (sent, rest, e, some) = record {
-    written = sent;
-    sink = some;
-    replied = inl (record { answer = replied reply; answers = answers; says = says; onward = onward; sole = sole; readings_are = refl }, (rest, sym e));
+  sends (Err broken.Memory) reply answers says onward sole out = record {
+    written = out.0.0.0;
+    sink = out.0.0.3;
+    replied = inl (record { answer = replied reply; answers = answers; says = says; onward = onward; sole = sole; readings_are = refl }, (out.0.0.1, sym out.0.0.2));
+    counts = out.0.1;
+    settled = tt;
   }
 
   -- the same of a reply in a form
-  pub sends-in : (form : Form) → form ≡ form_of req → (sent : Result ⊤ Broken) (reply : Reply) → IsReplyTo req reply → ReplySays terms p reply q → IsOnward p q
-      → (whole → IsAloneReply terms p reply q) → OnOk sent (new ≡ appended old (reply_text form req.close reply)) → OnErr sent (AppendedSome old new (reply_text form req.close reply))
-      → Replied terms whole p req old new q sent
-  sends-in form is sent reply answers says onward sole out some =
-      sends sent reply answers says onward sole (subst (λ f. OnOk sent (new ≡ appended old (reply_text f req.close reply))) is out)
-      (subst (λ f. OnErr sent (AppendedSome old new (reply_text f req.close reply))) is some)
+  pub sends-in : (form : Form) → form ≡ form_of req → (came : Result ⊤ Broken) (reply : Reply) → IsReplyTo req reply → ReplySays terms p reply q → IsOnward p q
+      → (whole → IsAloneReply terms p reply q) → Sends came (reply_text form req.close reply) sent → Replied terms whole p req sent q came
+  sends-in form is came reply answers says onward sole out =
+      sends came reply answers says onward sole (subst (λ f. Sends came (reply_text f req.close reply) sent) is out)
 
   -- there was no memory, and nothing was written
-  pub lacks : new ≡ old → IsOnward p q → (whole → (q.seen ≡ p.seen) ⊎ IfSome terms.sole_history (λ history. Begins terms history p req q))
-      → Replied terms whole p req old new q (Err broken.Memory)
-  lacks still onward sole = record {
+  pub lacks : sent.written_new ≡ sent.written_old → sent.faults_new ≡ sent.faults_old → IsOnward p q
+      → (whole → (q.seen ≡ p.seen) ⊎ IsSomeAnd terms.sole_history (λ history. Begins terms history p req q)) → Replied terms whole p req sent q (Err broken.Memory)
+  lacks still quiet onward sole = record {
     written = [];
-    sink = still ∙ sym (appended-nil old);
+    sink = still ∙ sym (appended-nil sent.written_old);
     replied = inr (record { nothing = refl; unread = refl; onward = onward; sole = sole });
+    counts = quiet;
+    settled = tt;
   }
 
+-- a reply leaves no end of a watch
+counts-by-reply : (reply : Result ⊤ Broken) (sent : Sent) → Counts reply sent → Counts (by_reply reply) sent
+counts-by-reply (Ok u) sent h = h
+counts-by-reply (Err broken.Fault) sent h = h
+counts-by-reply (Err broken.Memory) sent h = h
+
+settled-by-reply : (reply : Result ⊤ Broken) (P : Type 0) → OnOk reply P → OnOk (by_reply reply) P
+settled-by-reply (Ok u) P h = h
+settled-by-reply (Err why) P h = tt
+
 -- a reply takes no reading of the clock
-pub answers-by-reply : (terms : Terms) (whole : Type 0) (p q : Pass RevisionData) (req : Req) (old new : Outside) (sent : Result ⊤ Broken) (came : Result (Option WatchEnd) Broken)
-    → new.readings ≡ old.readings → came ≡ by_reply sent → Replied terms whole p req old.written new.written q sent → Answered terms whole p req old new q came
-answers-by-reply terms whole p q req old new sent came still is r = record {
-  written = r.written;
-  readings = [];
-  sink = r.sink;
-  noted = subst (λ (x : Option (List Reading)). Noted old.readings x []) (sym still) (Noted-nil old.readings);
-  answered = subst (AnsweredAs terms whole p req r.written [] q) (sym is) r.replied;
-}
+pub answers-by-reply : (terms : Terms) (whole : Type 0) (p q : Pass RevisionData) (req : Req) (outside : Outside) (reply : Result ⊤ Broken) (came : Result (Option WatchEnd) Broken)
+    → outside.readings_new ≡ outside.readings_old → came ≡ by_reply reply → Replied terms whole p req outside.sent q reply → Answered terms whole p req outside q came
+answers-by-reply terms whole p q req outside reply came still is r =
+    let answered : Answered terms whole p req outside q (by_reply reply) = record {
+      written = r.written;
+      readings = [];
+      sink = r.sink;
+      noted = subst (λ (x : Option (List Reading)). Noted outside.readings_old x []) (sym still) (Noted-nil outside.readings_old);
+      answered = r.replied;
+      counts = counts-by-reply reply outside.sent r.counts;
+      settled = settled-by-reply reply outside.sent.settled_new r.settled;
+    } in
+    subst (Answered terms whole p req outside q) (sym is) answered
 
 -- there was no memory, and nothing was written or read
-pub lacks-all : (terms : Terms) (whole : Type 0) (p q : Pass RevisionData) (req : Req) (old new : Outside) → new ≡ old → IsOnward p q → (whole → q.seen ≡ p.seen)
-    → Answered terms whole p req old new q (Err broken.Memory)
-lacks-all terms whole p q req old new still onward sole =
-    answers-by-reply terms whole p q req old new (Err broken.Memory) (Err broken.Memory) (ap (λ (o : Outside). o.readings) still) refl
-    (lacks terms whole p q req old.written new.written (ap (λ (o : Outside). o.written) still) onward (λ w. inl (sole w)))
+pub lacks-all : (terms : Terms) (whole : Type 0) (p q : Pass RevisionData) (req : Req) (outside : Outside)
+    → outside.readings_new ≡ outside.readings_old → outside.sent.written_new ≡ outside.sent.written_old → outside.sent.faults_new ≡ outside.sent.faults_old
+    → IsOnward p q → (whole → q.seen ≡ p.seen) → Answered terms whole p req outside q (Err broken.Memory)
+lacks-all terms whole p q req outside unread still quiet onward sole =
+    answers-by-reply terms whole p q req outside (Err broken.Memory) (Err broken.Memory) unread refl
+    (lacks terms whole p q req outside.sent still quiet onward (λ w. inl (sole w)))
 
 -- ---- streams
 
 -- a watch whose start is gone
-module _ (terms : Terms) (whole : Type 0) (p q : Pass RevisionData) (req : Req) (old new : Outside) (ask : WatchAsk) (asked floor : ℕ) where
+module _ (terms : Terms) (whole : Type 0) (p q : Pass RevisionData) (req : Req) (outside : Outside) (ask : WatchAsk) (asked floor : ℕ) where
   -- what was written of the answer
-  tells-loss : (sent : Result ⊤ Broken) (given : Given terms whole p req [] q) → given.answer ≡ streamed ask (gone asked floor) → Noted old.readings new.readings []
-      → IsWritten sent old.written new.written (gone_text (framing_of req.upgrade) asked floor) → Answered terms whole p req old new q (by_loss asked floor sent)
+  tells-loss : (told : Result ⊤ Broken) (given : Given terms whole p req [] q) → given.answer ≡ streamed ask (gone asked floor) → Noted outside.readings_old outside.readings_new []
+      → Sends told (gone_text (framing_of req.upgrade) asked floor) outside.sent → Answered terms whole p req outside q (by_loss asked floor told)
   tells-loss (Ok u) given is noted out = record {
     written = gone_text (framing_of req.upgrade) asked floor;
     readings = [];
-    sink = out;
+    sink = out.0.0;
     noted = noted;
     answered = (
       given,
       subst (λ a. IsWatchEnd a (watch_end.Lost asked floor)) (sym is) refl,
       ap (answer_bytes terms req) (sym is),
     );
+    counts = out.0.1;
+    settled = out.1;
   }
-  tells-loss (Err broken.Fault) given is noted (some, rest, e, out) = record {
-    written = some;
+  tells-loss (Err broken.Fault) given is noted out = record {
+    written = out.0.0.0;
     readings = [];
-    sink = out;
+    sink = out.0.0.3;
     noted = noted;
-    answered = (given, subst (λ a. IsPrefix some (answer_bytes terms req a)) (sym is) (rest, sym e));
+    answered = (given, subst (λ a. IsPrefix out.0.0.0 (answer_bytes terms req a)) (sym is) (out.0.0.1, sym out.0.0.2));
+    counts = out.0.1;
+    settled = tt;
   }
-  tells-loss (Err broken.Memory) given is noted (some, rest, e, out) = record {
-    written = some;
+  tells-loss (Err broken.Memory) given is noted out = record {
+    written = out.0.0.0;
     readings = [];
-    sink = out;
+    sink = out.0.0.3;
     noted = noted;
-    answered = inl (given, subst (λ a. IsPrefix some (answer_bytes terms req a)) (sym is) (rest, sym e));
+    answered = inl (given, subst (λ a. IsPrefix out.0.0.0 (answer_bytes terms req a)) (sym is) (out.0.0.1, sym out.0.0.2));
+    counts = out.0.1;
+    settled = tt;
   }
 
-  pub answers-by-loss : (sent : Result ⊤ Broken) (came : Result (Option WatchEnd) Broken)
-      → new.readings ≡ old.readings → came ≡ by_loss asked floor sent → IsRoute req (routed.Watch ask) → IsPlainOrUpgrade req
+  pub answers-by-loss : (told : Result ⊤ Broken) (came : Result (Option WatchEnd) Broken)
+      → outside.readings_new ≡ outside.readings_old → came ≡ by_loss asked floor told → IsRoute req (routed.Watch ask) → IsPlainOrUpgrade req
       → IsWatchAnswer terms.base terms.window p ask (Err (list_no.Expired asked floor)) q → IsOnward p q → (whole → IsSoleRead p q)
-      → IsWritten sent old.written new.written (gone_text (framing_of req.upgrade) asked floor) → Answered terms whole p req old new q came
-  answers-by-loss sent came still is route plain says onward sole out =
-      subst (Answered terms whole p req old new q) (sym is)
-      (tells-loss sent
+      → Sends told (gone_text (framing_of req.upgrade) asked floor) outside.sent → Answered terms whole p req outside q came
+  answers-by-loss told came still is route plain says onward sole out =
+      subst (Answered terms whole p req outside q) (sym is)
+      (tells-loss told
       (record { answer = streamed ask (gone asked floor); answers = (route, plain); says = says; onward = onward; sole = sole; readings_are = refl })
-      refl (subst (λ (x : Option (List Reading)). Noted old.readings x []) (sym still) (Noted-nil old.readings)) out)
+      refl (subst (λ (x : Option (List Reading)). Noted outside.readings_old x []) (sym still) (Noted-nil outside.readings_old)) out)
 
 -- a watch that began
-module _ (terms : Terms) (whole : Type 0) (p mid q : Pass RevisionData) (req : Req) (old new : Outside) (ask : WatchAsk) (started : BegunData) where
+module _ (terms : Terms) (whole : Type 0) (p mid q : Pass RevisionData) (req : Req) (outside : Outside) (ask : WatchAsk) (started : BegunData) where
   abbrev Streamed : View → Result WatchEnd Broken → Type 0
-  Streamed view ended =
-      IsStreamed terms view ask started whole mid (record { readings = old.readings; written = old.written }) ended q (record { readings = new.readings; written = new.written })
+  Streamed view ended = IsStreamed terms view ask started whole mid outside ended q
 
   stream-given : (ended : Result WatchEnd Broken) (str : Streamed (view_of req) ended) → IsRoute req (routed.Watch ask) → IsPlainOrUpgrade req
       → IsWatchAnswer terms.base terms.window p ask (Ok started) mid → IsOnward p mid → IsOnward mid q → (whole → IsSoleRead p mid)
@@ -244,106 +266,65 @@ module _ (terms : Terms) (whole : Type 0) (p mid q : Pass RevisionData) (req : R
   )
 
   tells-stream : (ended : Result WatchEnd Broken) (str : Streamed (view_of req) ended) (given : Given terms whole p req (answer_readings (streamed ask (begun mid str.watch))) q)
-      → given.answer ≡ streamed ask (begun mid str.watch) → Answered terms whole p req old new q (by_stream ended)
+      → given.answer ≡ streamed ask (begun mid str.watch) → Answered terms whole p req outside q (by_stream ended)
   tells-stream (Ok how) str given is = record {
     written = answer_bytes terms req (streamed ask (begun mid str.watch));
     readings = answer_readings (streamed ask (begun mid str.watch));
-    sink = str.written;
+    sink = str.sends.0.0;
     noted = str.readings;
     answered = (given, subst (λ a. IsWatchEnd a how) (sym is) str.ends, ap (answer_bytes terms req) (sym is));
+    counts = str.sends.0.1;
+    settled = str.sends.1;
   }
   tells-stream (Err broken.Fault) str given is = record {
-    written = str.written.0;
+    written = str.sends.0.0.0;
     readings = answer_readings (streamed ask (begun mid str.watch));
-    sink = str.written.3;
+    sink = str.sends.0.0.3;
     noted = str.readings;
-    answered = (given, subst (λ a. IsPrefix str.written.0 (answer_bytes terms req a)) (sym is) (str.written.1, sym str.written.2));
+    answered = (given, subst (λ a. IsPrefix str.sends.0.0.0 (answer_bytes terms req a)) (sym is) (str.sends.0.0.1, sym str.sends.0.0.2));
+    counts = str.sends.0.1;
+    settled = tt;
   }
   tells-stream (Err broken.Memory) str given is = record {
-    written = str.written.0;
+    written = str.sends.0.0.0;
     readings = answer_readings (streamed ask (begun mid str.watch));
-    sink = str.written.3;
+    sink = str.sends.0.0.3;
     noted = str.readings;
-    answered = inl (given, subst (λ a. IsPrefix str.written.0 (answer_bytes terms req a)) (sym is) (str.written.1, sym str.written.2));
+    answered = inl (given, subst (λ a. IsPrefix str.sends.0.0.0 (answer_bytes terms req a)) (sym is) (str.sends.0.0.1, sym str.sends.0.0.2));
+    counts = str.sends.0.1;
+    settled = tt;
   }
 
   pub answers-by-stream : (view : View) (ended : Result WatchEnd Broken) (came : Result (Option WatchEnd) Broken) → came ≡ by_stream ended → view ≡ view_of req
       → IsRoute req (routed.Watch ask) → IsPlainOrUpgrade req → IsWatchAnswer terms.base terms.window p ask (Ok started) mid → IsOnward p mid → IsOnward mid q → (whole → IsSoleRead p mid)
-      → Streamed view ended → Answered terms whole p req old new q came
+      → Streamed view ended → Answered terms whole p req outside q came
   answers-by-stream view ended came is seen route plain says first second sole streaming =
       let str : Streamed (view_of req) ended = subst (λ v. Streamed v ended) seen streaming in
       let given = stream-given ended str route plain says first second sole in
-      subst (Answered terms whole p req old new q) (sym is) (tells-stream ended str given.0 given.1)
+      subst (Answered terms whole p req outside q) (sym is) (tells-stream ended str given.0 given.1)
 
--- ---- what is said of the counts, of what is settled and of memory, by what a step answers
+-- ---- what is said of memory, by what a step answers
 
 pub unless-memory : {A P : Type 0} (r : Result A Broken) → P → UnlessMemory r P
 unless-memory (Ok x) p = p
 unless-memory (Err broken.Fault) p = p
 unless-memory (Err broken.Memory) p = tt
 
-module _ (sent : Result ⊤ Broken) (came : Result (Option WatchEnd) Broken) where
-  pub reply-counts : (a b : ℕ) → came ≡ by_reply sent → Counts sent a b → Counts came a b
-  reply-counts a b is h = subst (λ c. Counts c a b) (sym is) (by sent h)
-    where
-      by : (s : Result ⊤ Broken) → Counts s a b → Counts (by_reply s) a b
-      by (Ok u) h = h
-      by (Err broken.Fault) h = h
-      by (Err broken.Memory) h = h
+pub reply-kept : (reply : Result ⊤ Broken) (came : Result (Option WatchEnd) Broken) (P : Type 0) → came ≡ by_reply reply → UnlessMemory reply P → UnlessMemory came P
+reply-kept reply came P is h = subst (λ c. UnlessMemory c P) (sym is) (by reply h)
+  where
+    by : (s : Result ⊤ Broken) → UnlessMemory s P → UnlessMemory (by_reply s) P
+    by (Ok u) h = h
+    by (Err broken.Fault) h = h
+    by (Err broken.Memory) h = tt
 
-  pub reply-settled : (P : Type 0) → came ≡ by_reply sent → OnOk sent P → OnOk came P
-  reply-settled P is h = subst (λ c. OnOk c P) (sym is) (by sent h)
-    where
-      by : (s : Result ⊤ Broken) → OnOk s P → OnOk (by_reply s) P
-      by (Ok u) h = h
-      by (Err why) h = tt
-
-  pub reply-kept : (P : Type 0) → came ≡ by_reply sent → UnlessMemory sent P → UnlessMemory came P
-  reply-kept P is h = subst (λ c. UnlessMemory c P) (sym is) (by sent h)
-    where
-      by : (s : Result ⊤ Broken) → UnlessMemory s P → UnlessMemory (by_reply s) P
-      by (Ok u) h = h
-      by (Err broken.Fault) h = h
-      by (Err broken.Memory) h = tt
-
-  pub loss-counts : (at floor a b : ℕ) → came ≡ by_loss at floor sent → Counts sent a b → Counts came a b
-  loss-counts at floor a b is h = subst (λ c. Counts c a b) (sym is) (by sent h)
-    where
-      by : (s : Result ⊤ Broken) → Counts s a b → Counts (by_loss at floor s) a b
-      by (Ok u) h = h
-      by (Err broken.Fault) h = h
-      by (Err broken.Memory) h = h
-
-  pub loss-settled : (P : Type 0) (at floor : ℕ) → came ≡ by_loss at floor sent → OnOk sent P → OnOk came P
-  loss-settled P at floor is h = subst (λ c. OnOk c P) (sym is) (by sent h)
-    where
-      by : (s : Result ⊤ Broken) → OnOk s P → OnOk (by_loss at floor s) P
-      by (Ok u) h = h
-      by (Err why) h = tt
-
-module _ (ended : Result WatchEnd Broken) (came : Result (Option WatchEnd) Broken) where
-  pub stream-counts : (a b : ℕ) → came ≡ by_stream ended → Counts ended a b → Counts came a b
-  stream-counts a b is h = subst (λ c. Counts c a b) (sym is) (by ended h)
-    where
-      by : (s : Result WatchEnd Broken) → Counts s a b → Counts (by_stream s) a b
-      by (Ok u) h = h
-      by (Err broken.Fault) h = h
-      by (Err broken.Memory) h = h
-
-  pub stream-settled : (P : Type 0) → came ≡ by_stream ended → OnOk ended P → OnOk came P
-  stream-settled P is h = subst (λ c. OnOk c P) (sym is) (by ended h)
-    where
-      by : (s : Result WatchEnd Broken) → OnOk s P → OnOk (by_stream s) P
-      by (Ok u) h = h
-      by (Err why) h = tt
-
-  pub stream-kept : {P : Type 0} → came ≡ by_stream ended → (ended ≢ Err broken.Memory → P) → UnlessMemory came P
-  stream-kept {P} is h = subst (λ c. UnlessMemory c P) (sym is) (by ended h)
-    where
-      by : (s : Result WatchEnd Broken) → (s ≢ Err broken.Memory → P) → UnlessMemory (by_stream s) P
-      by (Ok u) h = h (λ e. cc)
-      by (Err broken.Fault) h = h (λ e. cc)
-      by (Err broken.Memory) h = tt
+pub stream-kept : (ended : Result WatchEnd Broken) (came : Result (Option WatchEnd) Broken) {P : Type 0} → came ≡ by_stream ended → (ended ≢ Err broken.Memory → P) → UnlessMemory came P
+stream-kept ended came {P} is h = subst (λ c. UnlessMemory c P) (sym is) (by ended h)
+  where
+    by : (s : Result WatchEnd Broken) → (s ≢ Err broken.Memory → P) → UnlessMemory (by_stream s) P
+    by (Ok u) h = h (λ e. cc)
+    by (Err broken.Fault) h = h (λ e. cc)
+    by (Err broken.Memory) h = tt
 
 -- ---- facts of the client
 

@@ -23,10 +23,10 @@ use Rattle.sess_serve.specs.declared.ends.SessionEnd.{SessionEnd}
 use Rattle.sess_serve.specs.declared.ends.SessionEnd.TheVariants.{Done, Watched, ReadFault, WriteFault, CutShort, Refused, TooMany, Memory}
 use Rattle.sess_serve.specs.Answers.{answer_readings}
 use Rattle.sess_serve.specs.Steps.{Exchange, Step, Run, AreAlone, IsAlone}
-use Rattle.sess_serve.specs.Texts.{text_of, texts_of, answer_bytes}
-use Rattle.sess_serve.specs.Ends.{Stays, GoesOn, Last, BrokenOff, BrokenRefusal}
-use Rattle.sess_serve.specs.Session.{IsSession, Traffic, requests_of, readings_in}
-use Rattle.sess_serve.specs.Serving.{Given, Exchanged, exchange_of, RefusalBegun, TurnIs, IsTurn, Ends}
+use Rattle.sess_serve.specs.Texts.{answer_text, answer_texts, answer_bytes}
+use Rattle.sess_serve.specs.Ends.{Traffic, Stays, IsKeptOpen, Last, BrokenOff, BrokenRefusal}
+use Rattle.sess_serve.specs.Session.{IsSession, requests_of, readings_in}
+use Rattle.sess_serve.specs.Serving.{Given, Exchanged, exchange_of, RefusalBegun, RoundIs, IsRound, Ends}
 
 -- ---- one more at the end
 
@@ -45,9 +45,9 @@ alone-push : (terms : Terms) (p mid : Pass RevisionData) (es : List Exchange) (e
 alone-push terms p mid [] e same all sole = (subst (λ a. IsAlone terms a e.answer e.pass) (sym same) sole, tt)
 alone-push terms p mid (f ∷ es) e (first, others) all sole = (all.0, alone-push terms f.pass mid es e others all.1 sole)
 
-texts-push : (terms : Terms) (es : List Exchange) (e : Exchange) → texts_of terms (es ++ e ∷ []) ≡ texts_of terms es ++ text_of terms e
-texts-push terms [] e = append-nil (text_of terms e)
-texts-push terms (f ∷ es) e = ap (λ t. text_of terms f ++ t) (texts-push terms es e) ∙ sym (append_assoc (text_of terms f) (texts_of terms es) (text_of terms e))
+texts-push : (terms : Terms) (es : List Exchange) (e : Exchange) → answer_texts terms (es ++ e ∷ []) ≡ answer_texts terms es ++ answer_text terms e
+texts-push terms [] e = append-nil (answer_text terms e)
+texts-push terms (f ∷ es) e = ap (λ t. answer_text terms f ++ t) (texts-push terms es e) ∙ sym (append_assoc (answer_text terms f) (answer_texts terms es) (answer_text terms e))
 
 readings-push : (es : List Exchange) (e : Exchange) → readings_in (es ++ e ∷ []) ≡ readings_in es ++ answer_readings e.answer
 readings-push [] e = append-nil (answer_readings e.answer)
@@ -69,7 +69,7 @@ pub record Sofar (terms : Terms) (whole : Type 0) (p : Pass RevisionData) (taken
   pub reads : ReadsSome taken (requests_of exchanges) kept
   pub run : Run terms p exchanges q
   pub sole : whole → AreAlone terms p exchanges
-  pub text : written ≡ texts_of terms exchanges
+  pub text : written ≡ answer_texts terms exchanges
   pub readings_are : readings ≡ readings_in exchanges
   pub stay : All Stays exchanges
   pub count : length exchanges ≡ n
@@ -104,9 +104,9 @@ module _ (terms : Terms) (whole now : Type 0) (still : whole → now) (p : Pass 
         ap (λ r. r ++ times) sofar.readings_are ∙ ap (λ t. readings_in sofar.exchanges ++ t) x.given.readings_are
         ∙ sym (readings-push sofar.exchanges last)
 
-    pushed-text : text ≡ answer_bytes terms x.request x.given.answer → written ++ text ≡ texts_of terms pushed
+    pushed-text : text ≡ answer_bytes terms x.request x.given.answer → written ++ text ≡ answer_texts terms pushed
     pushed-text e =
-        ap (λ w. w ++ text) sofar.text ∙ ap (λ t. texts_of terms sofar.exchanges ++ t) e ∙ sym (texts-push terms sofar.exchanges last)
+        ap (λ w. w ++ text) sofar.text ∙ ap (λ t. answer_texts terms sofar.exchanges ++ t) e ∙ sym (texts-push terms sofar.exchanges last)
 
     next : Stays last → text ≡ answer_bytes terms x.request x.given.answer
         → Sofar terms whole p (taken ++ more) (written ++ text) (readings ++ times) after q' (n + 1)
@@ -133,15 +133,15 @@ module _ (terms : Terms) (whole now : Type 0) (still : whole → now) (p : Pass 
       broken-off : IsPrefix text (answer_bytes terms x.request x.given.answer) → BrokenOff terms pushed (written ++ text)
       broken-off begun = record {
         last = last-of;
-        begun_text = prefix-after (texts_of terms sofar.exchanges) (answer_bytes terms x.request x.given.answer) written text (written ++ text) (texts_of terms pushed)
+        begun_text = prefix-after (answer_texts terms sofar.exchanges) (answer_bytes terms x.request x.given.answer) written text (written ++ text) (answer_texts terms pushed)
             sofar.text begun (texts-push terms sofar.exchanges last) refl;
         others = (text, ap (λ w. w ++ text) (sym sofar.text));
       }
 
-  goes-on : n < terms.settings.requests → GoesOn terms sofar.exchanges
+  goes-on : n < terms.settings.requests → IsKeptOpen terms sofar.exchanges
   goes-on room = record { stay = sofar.stay; few = subst (λ k. k < terms.settings.requests) (sym sofar.count) room }
 
-  silent-text : text ≡ [] → written ++ text ≡ texts_of terms sofar.exchanges
+  silent-text : text ≡ [] → written ++ text ≡ answer_texts terms sofar.exchanges
   silent-text none = ap (λ t. written ++ t) none ∙ append-nil written ∙ sofar.text
 
   silent-readings : times ≡ [] → readings ++ times ≡ readings_in sofar.exchanges
@@ -152,8 +152,8 @@ module _ (terms : Terms) (whole now : Type 0) (still : whole → now) (p : Pass 
     goes_on = goes-on room;
     fault = fault;
     refused = refused;
-    begun_text = prefix-after (texts_of terms sofar.exchanges) (request_refusal_text fault) written text (written ++ text)
-        (texts_of terms sofar.exchanges ++ request_refusal_text fault) sofar.text begun refl refl;
+    begun_text = prefix-after (answer_texts terms sofar.exchanges) (request_refusal_text fault) written text (written ++ text)
+        (answer_texts terms sofar.exchanges ++ request_refusal_text fault) sofar.text begun refl refl;
     others = (text, ap (λ w. w ++ text) (sym sofar.text));
   }
 
@@ -161,8 +161,8 @@ module _ (terms : Terms) (whole now : Type 0) (still : whole → now) (p : Pass 
     abbrev traffic : Traffic
     traffic = record { taken = taken ++ more; written = written ++ text; readings = readings ++ times; read_fault = read_fault; write_fault = write_fault; left = left }
 
-    -- the session ended in a turn
-    ends : (how : SessionEnd) → TurnIs terms now q (kept ++ more) after text times q' read_fault write_fault left (Some how) → IsSession terms whole p traffic q' how
+    -- the session ended in a round
+    ends : (how : SessionEnd) → RoundIs terms now q (kept ++ more) after text times q' read_fault write_fault left (Some how) → IsSession terms whole p traffic q' how
     ends Done (inl (x, closed, e)) = record {
       exchanges = pushed x;
       last = q';
@@ -227,7 +227,7 @@ module _ (terms : Terms) (whole now : Type 0) (still : whole → now) (p : Pass 
       knows = same;
       sole = λ w. (sofar.sole w, tt);
       readings = silent-readings unread;
-      ended = (ap (λ w. w ++ text) sofar.text ∙ ap (λ t. texts_of terms sofar.exchanges ++ t) e, goes-on room, refused);
+      ended = (ap (λ w. w ++ text) sofar.text ∙ ap (λ t. answer_texts terms sofar.exchanges ++ t) e, goes-on room, refused);
     }
     ends WriteFault (rose, inl (x, begun)) = record {
       exchanges = pushed x;
@@ -302,9 +302,9 @@ full terms whole p taken written readings kept q n read_fault write_fault left s
   ended = (sofar.text, sofar.stay, sofar.count ∙ same);
 }
 
--- a fault in the last turn is a fault in the call
+-- a fault in the last round is a fault in the call
 ends-rose : (terms : Terms) (whole : Type 0) (p : Pass RevisionData) (bytes after text : List ℕ) (times : List Reading) (q : Pass RevisionData) (r s v w : Type 0) (left : Option (List ℕ)) (how : SessionEnd)
-    → (r → v) → (s → w) → TurnIs terms whole p bytes after text times q r s left (Some how) → TurnIs terms whole p bytes after text times q v w left (Some how)
+    → (r → v) → (s → w) → RoundIs terms whole p bytes after text times q r s left (Some how) → RoundIs terms whole p bytes after text times q v w left (Some how)
 ends-rose terms whole p bytes after text times q r s v w left Done f g h = h
 ends-rose terms whole p bytes after text times q r s v w left (Watched how) f g h = h
 ends-rose terms whole p bytes after text times q r s v w left CutShort f g h = h
@@ -327,7 +327,7 @@ facts-next f g h first second = second ∙ ap (λ (x : Facts). record x { heard 
 pub facts-idle : (f g : Facts) → f.watching ≡ None → g ≡ record f { heard = g.heard } → g.watching ≡ None
 facts-idle f g idle e = ap (λ (x : Facts). x.watching) e ∙ idle
 
--- ---- from turn to turn
+-- ---- from round to round
 
 -- what the loop keeps: from what the ends told at first to what they tell now
 pub record Loop (terms : Terms) (whole : Type 0) (p : Pass RevisionData) (first now : Ends) (kept : List ℕ) (q : Pass RevisionData) (n : ℕ) : Type 0 where
@@ -335,8 +335,8 @@ pub record Loop (terms : Terms) (whole : Type 0) (p : Pass RevisionData) (first 
   pub written : List ℕ
   pub readings : List Reading
   pub source : first.left ≡ prepended taken now.left
-  pub sink : now.outside.written ≡ appended first.outside.written written
-  pub noted : Noted first.outside.readings now.outside.readings readings
+  pub sink : now.written ≡ appended first.written written
+  pub noted : Noted first.readings now.readings readings
   pub sofar : Sofar terms whole p taken written readings kept q n
 
 pub loop-start : (terms : Terms) (whole : Type 0) (p : Pass RevisionData) (first : Ends) (kept : List ℕ) → kept ≡ [] → Loop terms whole p first first kept p 0
@@ -345,8 +345,8 @@ loop-start terms whole p first kept none = record {
   written = [];
   readings = [];
   source = sym (prepended-nil first.left);
-  sink = sym (appended-nil first.outside.written);
-  noted = Noted-nil first.outside.readings;
+  sink = sym (appended-nil first.written);
+  noted = Noted-nil first.readings;
   sofar = record {
     exchanges = [];
     reads = sym none;
@@ -364,37 +364,37 @@ abbrev pub IsSessionBetween : Terms → Type 0 → Pass RevisionData → Ends �
 IsSessionBetween terms whole p first last q read_fault write_fault how =
     (taken : List ℕ) × (written : List ℕ) × (readings : List Reading)
     × (first.left ≡ prepended taken last.left)
-    × (last.outside.written ≡ appended first.outside.written written)
-    × Noted first.outside.readings last.outside.readings readings
+    × (last.written ≡ appended first.written written)
+    × Noted first.readings last.readings readings
     × IsSession terms whole p (record { taken = taken; written = written; readings = readings; read_fault = read_fault; write_fault = write_fault; left = last.left }) q how
 
 module _ (terms terms' : Terms) (same : terms' ≡ terms) (whole now : Type 0) (still : whole → now) (p : Pass RevisionData) (first mid last : Ends) (kept after : List ℕ) (q q' : Pass RevisionData) (n : ℕ) (r s : Type 0)
     (loop : Loop terms whole p first mid kept q n) where
-  pub loop-next : IsTurn terms' now q kept after mid last r s q' None → Loop terms whole p first last after q' (n + 1)
+  pub loop-next : IsRound terms' now q kept after mid last r s q' None → Loop terms whole p first last after q' (n + 1)
   loop-next x =
-      let turn : IsTurn terms now q kept after mid last r s q' None = subst (λ t. IsTurn t now q kept after mid last r s q' None) same x in
+      let round : IsRound terms now q kept after mid last r s q' None = subst (λ t. IsRound t now q kept after mid last r s q' None) same x in
       record {
-        taken = loop.taken ++ turn.taken;
-        written = loop.written ++ turn.written;
-        readings = loop.readings ++ turn.readings;
-        source = loop.source ∙ ap (prepended loop.taken) turn.source ∙ prepended-prepended loop.taken turn.taken last.left;
-        sink = turn.sink ∙ ap (λ m. appended m turn.written) loop.sink ∙ appended-appended first.outside.written loop.written turn.written;
-        noted = Noted-join first.outside.readings mid.outside.readings last.outside.readings loop.readings turn.readings loop.noted turn.noted;
-        sofar = next terms whole now still p loop.taken loop.written loop.readings kept q n loop.sofar turn.taken turn.written turn.readings after q' turn.turn.0 turn.turn.1 turn.turn.2;
+        taken = loop.taken ++ round.taken;
+        written = loop.written ++ round.written;
+        readings = loop.readings ++ round.readings;
+        source = loop.source ∙ ap (prepended loop.taken) round.source ∙ prepended-prepended loop.taken round.taken last.left;
+        sink = round.sink ∙ ap (λ m. appended m round.written) loop.sink ∙ appended-appended first.written loop.written round.written;
+        noted = Noted-join first.readings mid.readings last.readings loop.readings round.readings loop.noted round.noted;
+        sofar = next terms whole now still p loop.taken loop.written loop.readings kept q n loop.sofar round.taken round.written round.readings after q' round.round.0 round.round.1 round.round.2;
       }
 
-  pub loop-ends : (v w : Type 0) (how : SessionEnd) → (r → v) → (s → w) → n < terms.settings.requests → IsTurn terms' now q kept after mid last r s q' (Some how)
+  pub loop-ends : (v w : Type 0) (how : SessionEnd) → (r → v) → (s → w) → n < terms.settings.requests → IsRound terms' now q kept after mid last r s q' (Some how)
       → IsSessionBetween terms whole p first last q' v w how
   loop-ends v w how f g room x =
-      let turn : IsTurn terms now q kept after mid last r s q' (Some how) = subst (λ t. IsTurn t now q kept after mid last r s q' (Some how)) same x in (
-        loop.taken ++ turn.taken,
-        loop.written ++ turn.written,
-        loop.readings ++ turn.readings,
-        loop.source ∙ ap (prepended loop.taken) turn.source ∙ prepended-prepended loop.taken turn.taken last.left,
-        turn.sink ∙ ap (λ m. appended m turn.written) loop.sink ∙ appended-appended first.outside.written loop.written turn.written,
-        Noted-join first.outside.readings mid.outside.readings last.outside.readings loop.readings turn.readings loop.noted turn.noted,
-        ends terms whole now still p loop.taken loop.written loop.readings kept q n loop.sofar turn.taken turn.written turn.readings after q' v w last.left room how
-            (ends-rose terms now q (kept ++ turn.taken) after turn.written turn.readings q' r s v w last.left how f g turn.turn),
+      let round : IsRound terms now q kept after mid last r s q' (Some how) = subst (λ t. IsRound t now q kept after mid last r s q' (Some how)) same x in (
+        loop.taken ++ round.taken,
+        loop.written ++ round.written,
+        loop.readings ++ round.readings,
+        loop.source ∙ ap (prepended loop.taken) round.source ∙ prepended-prepended loop.taken round.taken last.left,
+        round.sink ∙ ap (λ m. appended m round.written) loop.sink ∙ appended-appended first.written loop.written round.written,
+        Noted-join first.readings mid.readings last.readings loop.readings round.readings loop.noted round.noted,
+        ends terms whole now still p loop.taken loop.written loop.readings kept q n loop.sofar round.taken round.written round.readings after q' v w last.left room how
+            (ends-rose terms now q (kept ++ round.taken) after round.written round.readings q' r s v w last.left how f g round.round),
       )
 
 pub loop-full : (terms : Terms) (whole : Type 0) (p : Pass RevisionData) (first last : Ends) (kept : List ℕ) (q : Pass RevisionData) (n : ℕ) (v w : Type 0) → Loop terms whole p first last kept q n
@@ -416,8 +416,8 @@ none-begun terms whole p first v w room = (
   [],
   [],
   sym (prepended-nil first.left),
-  sym (appended-nil first.outside.written),
-  Noted-nil first.outside.readings,
+  sym (appended-nil first.written),
+  Noted-nil first.readings,
   record {
     exchanges = [];
     last = p;

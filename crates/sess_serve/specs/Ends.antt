@@ -1,7 +1,8 @@
 -- How a session ends.
-use Rattle.std.specs.Prelude.{◌≡◌, ℕ, ◌<◌, ◌⊎◌, true, false, List, [], ◌∷◌, ◌++◌, length, All, Option, Some, Err, IfSome}
+use Rattle.std.specs.Prelude.{◌≡◌, ℕ, ◌<◌, ◌⊎◌, true, false, List, [], ◌∷◌, ◌++◌, length, All, Option, Some, Err, IsSomeAnd}
 use mathlib.Core.List.{IsPrefix}
 use Rattle.edge_io.specs.Told.{IsExhausted}
+use Rattle.edge_io.specs.declared.clock.Reading.{Reading}
 use Rattle.http_read.specs.Requests.{ReadsOne, IsRefused, IsCutShort, IsUnfinished}
 use Rattle.http_read.specs.declared.request.Req.{Req}
 use Rattle.http_read.specs.declared.refusal.ReqNo.{ReqNo}
@@ -21,7 +22,7 @@ use Rattle.sess_turns.specs.declared.ends.WatchEnd.{WatchEnd}
 use Rattle.sess_turns.specs.declared.ends.WatchEnd.TheVariants as watch_end
 use Rattle.sess_serve.specs.Answers.{Stream, gone, begun, Answer, replied, streamed, is_stream}
 use Rattle.sess_serve.specs.Steps.{Exchange}
-use Rattle.sess_serve.specs.Texts.{texts_of}
+use Rattle.sess_serve.specs.Texts.{answer_texts}
 use Rattle.sess_serve.specs.declared.ends.SessionEnd.{SessionEnd}
 use Rattle.sess_serve.specs.declared.ends.SessionEnd.TheVariants.{Done, Watched, ReadFault, WriteFault, CutShort, Refused, TooMany, Memory}
 
@@ -33,7 +34,7 @@ pub record Stays (e : Exchange) : Type 0 where
   pub by_reply : is_stream e.answer ≡ false
 
 -- fewer requests than the limit were answered, and each left the connection open
-pub record GoesOn (terms : Terms) (exchanges : List Exchange) : Type 0 where
+pub record IsKeptOpen (terms : Terms) (exchanges : List Exchange) : Type 0 where
   pub stay : All Stays exchanges
   pub few : length exchanges < terms.settings.requests
 
@@ -42,7 +43,7 @@ pub record Last (terms : Terms) (exchanges : List Exchange) : Type 0 where
   pub before : List Exchange
   pub last : Exchange
   pub parted : exchanges ≡ before ++ last ∷ []
-  pub goes_on : GoesOn terms before
+  pub goes_on : IsKeptOpen terms before
 
 -- the exchange ends the connection without a stream: its request asked for that end, and was answered by a reply
 pub record IsClosed (e : Exchange) : Type 0 where
@@ -64,39 +65,48 @@ IsWatchEnd (streamed ask stream) how = StreamEnds stream how
 -- all answers but the last, and a beginning of the last
 pub record BrokenOff (terms : Terms) (exchanges : List Exchange) (written : List ℕ) : Type 0 where
   pub last : Last terms exchanges
-  pub begun_text : IsPrefix written (texts_of terms exchanges)
-  pub others : IsPrefix (texts_of terms last.before) written
+  pub begun_text : IsPrefix written (answer_texts terms exchanges)
+  pub others : IsPrefix (answer_texts terms last.before) written
 
 -- all answers, and a beginning of the reply to what is no request
 pub record BrokenRefusal (terms : Terms) (exchanges : List Exchange) (rest written : List ℕ) : Type 0 where
-  pub goes_on : GoesOn terms exchanges
+  pub goes_on : IsKeptOpen terms exchanges
   pub fault : ReqNo
   pub refused : IsRefused rest fault
-  pub begun_text : IsPrefix written (texts_of terms exchanges ++ request_refusal_text fault)
-  pub others : IsPrefix (texts_of terms exchanges) written
+  pub begun_text : IsPrefix written (answer_texts terms exchanges ++ request_refusal_text fault)
+  pub others : IsPrefix (answer_texts terms exchanges) written
 
 -- ---- ends
 
--- How a session ended, by the answered requests, the bytes that follow them and what was written; by whether the counts
--- of faults rose at the source and at the sink; and by what is left in the source.
-abbrev pub Ended : Terms → List Exchange → List ℕ → List ℕ → Type 0 → Type 0 → Option (List ℕ) → SessionEnd → Type 0
-Ended terms es rest written read_fault write_fault left Done =
-    (written ≡ texts_of terms es)
-    × (((last : Last terms es) × IsClosed last.last) ⊎ (GoesOn terms es × (rest ≡ []) × IsExhausted left))
-Ended terms es rest written read_fault write_fault left (Watched how) =
-    (written ≡ texts_of terms es) × ((last : Last terms es) × IsWatchEnd last.last.answer how)
-Ended terms es rest written read_fault write_fault left TooMany =
-    (written ≡ texts_of terms es) × All Stays es × (length es ≡ terms.settings.requests)
-Ended terms es rest written read_fault write_fault left CutShort =
-    (written ≡ texts_of terms es) × GoesOn terms es × IsCutShort rest × IsExhausted left
-Ended terms es rest written read_fault write_fault left (Refused fault) =
-    (written ≡ texts_of terms es ++ request_refusal_text fault) × GoesOn terms es × IsRefused rest fault
-Ended terms es rest written read_fault write_fault left ReadFault =
-    (written ≡ texts_of terms es) × GoesOn terms es × IsUnfinished rest × read_fault
-Ended terms es rest written read_fault write_fault left WriteFault =
-    write_fault × (BrokenOff terms es written ⊎ BrokenRefusal terms es rest written)
-Ended terms es rest written read_fault write_fault left Memory =
-    ((written ≡ texts_of terms es) × GoesOn terms es) ⊎ (BrokenOff terms es written ⊎ BrokenRefusal terms es rest written)
+-- what went through a session's ends: the bytes that it took and wrote, its readings of the clock, whether the
+-- source's and the sink's counts of faults rose, and what is left in the source, where that is told
+pub record Traffic : Type 1 where
+  pub taken : List ℕ
+  pub written : List ℕ
+  pub readings : List Reading
+  pub read_fault : Type 0
+  pub write_fault : Type 0
+  pub left : Option (List ℕ)
+
+-- How a session ended, by the answered requests, the bytes that follow them, and what went through its ends.
+abbrev pub Ended : Terms → List Exchange → List ℕ → Traffic → SessionEnd → Type 0
+Ended terms es rest traffic Done =
+    (traffic.written ≡ answer_texts terms es)
+    × (((last : Last terms es) × IsClosed last.last) ⊎ (IsKeptOpen terms es × (rest ≡ []) × IsExhausted traffic.left))
+Ended terms es rest traffic (Watched how) =
+    (traffic.written ≡ answer_texts terms es) × ((last : Last terms es) × IsWatchEnd last.last.answer how)
+Ended terms es rest traffic TooMany =
+    (traffic.written ≡ answer_texts terms es) × All Stays es × (length es ≡ terms.settings.requests)
+Ended terms es rest traffic CutShort =
+    (traffic.written ≡ answer_texts terms es) × IsKeptOpen terms es × IsCutShort rest × IsExhausted traffic.left
+Ended terms es rest traffic (Refused fault) =
+    (traffic.written ≡ answer_texts terms es ++ request_refusal_text fault) × IsKeptOpen terms es × IsRefused rest fault
+Ended terms es rest traffic ReadFault =
+    (traffic.written ≡ answer_texts terms es) × IsKeptOpen terms es × IsUnfinished rest × traffic.read_fault
+Ended terms es rest traffic WriteFault =
+    traffic.write_fault × (BrokenOff terms es traffic.written ⊎ BrokenRefusal terms es rest traffic.written)
+Ended terms es rest traffic Memory =
+    ((traffic.written ≡ answer_texts terms es) × IsKeptOpen terms es) ⊎ (BrokenOff terms es traffic.written ⊎ BrokenRefusal terms es rest traffic.written)
 
 -- ---- what is known at the end
 
@@ -121,7 +131,7 @@ Begins terms history p req q =
 -- where memory ran out, the log has the changes that it had, or with them what the next request began
 abbrev pub SoleMemory : Terms → Pass RevisionData → List ℕ → Pass RevisionData → Type 0
 SoleMemory terms p rest q =
-    (q.seen ≡ p.seen) ⊎ ((req : Req) × (after : List ℕ) × ReadsOne rest req after × IfSome terms.sole_history (λ history. Begins terms history p req q))
+    (q.seen ≡ p.seen) ⊎ ((req : Req) × (after : List ℕ) × ReadsOne rest req after × IsSomeAnd terms.sole_history (λ history. Begins terms history p req q))
 
 -- of a log that nobody else holds: after want of memory it is as it was, or with what was begun
 abbrev pub KnowsAlone : Terms → SessionEnd → Pass RevisionData → List ℕ → Pass RevisionData → Type 0

@@ -1,6 +1,7 @@
 -- Laws of sessions: the ends come exactly where they should.
 use Rattle.std.specs.Prelude.{◌≡◌, ℕ, ◌-◌, ◌<◌, ◌⊎◌, Bool, false, true, List, [], ◌++◌, ◌∷◌, map, Some}
 use Rattle.edge_io.specs.Counts.{Rose}
+use Rattle.edge_io.specs.declared.clock.Reading.{Reading}
 use Rattle.httparse.specs.Grammar.{EndsInTarget}
 use Rattle.httparse.specs.Spans.{RequestExceeds}
 use Rattle.http_read.specs.Heads.{most_fields}
@@ -78,8 +79,10 @@ EndsWith limit (h ∷ hs) rest way =
 -- took and those that it left: every request up to the one that ended it is answered, and all of them where none did.
 abbrev pub SessionsSettle : Type 0
 SessionsSettle =
-    (terms : Terms) (exchanges : List Exchange) (taken rest written left : List ℕ) (a b c d : ℕ) (way : Settled)
-    → ReadsSome taken (requests_of exchanges) rest → Ended terms exchanges rest written (Rose a b) (Rose c d) (Some left) (end_by way)
+    (terms : Terms) (exchanges : List Exchange) (taken rest written left : List ℕ) (readings : List Reading) (a b c d : ℕ) (way : Settled)
+    → ReadsSome taken (requests_of exchanges) rest
+    → Ended terms exchanges rest
+    (record { taken = taken; written = written; readings = readings; read_fault = Rose a b; write_fault = Rose c d; left = Some left }) (end_by way)
     → (behind : List ℕ) × ReadsSome (taken ++ left) (requests_in (map heard exchanges)) behind
     × EndsWith terms.settings.requests (map heard exchanges) behind way
 

@@ -4,5 +4,6 @@ pub mod Steps
 pub mod Ends
 pub mod Session
 pub mod Status
+pub mod NewLogs
 pub mod Laws
 pub mod Serving

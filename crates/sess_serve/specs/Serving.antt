@@ -1,9 +1,10 @@
--- Steps of private functions: what one request, and one turn of the session's loop, comes to.
-use Rattle.std.specs.Prelude.{◌≡◌, ℕ, ◌⊎◌, Bool, true, false, List, [], ◌++◌, Option, Some, None, Result, Ok, Err, ⊤, IfSome}
+-- Steps of private functions: what one request, and one round of the session's loop, comes to.
+use Rattle.std.specs.Prelude.{◌≡◌, ℕ, ◌⊎◌, Bool, true, false, List, [], ◌++◌, Option, Some, None, Result, Ok, Err, OnOk, ⊤, IsSomeAnd}
 use mathlib.Core.List.{IsPrefix}
-use Rattle.edge_io.specs.Counts.{Rose}
 use Rattle.edge_io.specs.Told.{appended, prepended, Noted, IsExhausted}
 use Rattle.edge_io.specs.declared.clock.Reading.{Reading}
+use Rattle.edge_io.specs.Counts.{Rose}
+use Rattle.edge_io.specs.Sent.{Sent}
 use Rattle.http_read.specs.Requests.{ReadsOne, IsRefused, IsCutShort, IsUnfinished}
 use Rattle.http_read.specs.declared.refusal.ReqNo.{ReqNo}
 use Rattle.http_read.specs.declared.refusal.ReqNo.TheVariants as req_no
@@ -12,13 +13,15 @@ use Rattle.rev_front.specs.Passes.{Pass}
 use Rattle.rev_log.specs.Changes.{RevisionData}
 use Rattle.client_api.specs.Facts.{IsOnward}
 use Rattle.sess_reply.specs.Replies.{request_refusal_text}
+use Rattle.sess_reply.specs.Sending.{Counts}
 use Rattle.sess_reply.specs.declared.broken.Broken.{Broken}
 use Rattle.sess_reply.specs.declared.broken.Broken.TheVariants as broken
+use Rattle.sess_turns.specs.Streams.{Outside}
 use Rattle.sess_turns.specs.Terms.{Terms}
 use Rattle.sess_turns.specs.declared.ends.WatchEnd.{WatchEnd}
 use Rattle.sess_turns.specs.declared.ends.WatchEnd.TheVariants as watch_end
 use Rattle.sess_serve.specs.Answers.{Answer, IsAnswerTo, is_stream, answer_readings}
-use Rattle.sess_serve.specs.Ends.{Stays, IsClosed, IsWatchEnd, Begins, SoleMemory}
+use Rattle.sess_serve.specs.Ends.{Stays, IsClosed, IsWatchEnd, Begins, SoleMemory, UnlessBroken}
 use Rattle.sess_serve.specs.Steps.{Exchange, Says, IsAlone}
 use Rattle.sess_serve.specs.Texts.{answer_bytes}
 use Rattle.sess_serve.specs.declared.ends.SessionEnd.{SessionEnd}
@@ -40,7 +43,7 @@ pub record Unanswered (terms : Terms) (whole : Type 0) (p : Pass RevisionData) (
   pub nothing : written ≡ []
   pub unread : readings ≡ []
   pub onward : IsOnward p q
-  pub sole : whole → (q.seen ≡ p.seen) ⊎ IfSome terms.sole_history (λ history. Begins terms history p req q)
+  pub sole : whole → (q.seen ≡ p.seen) ⊎ IsSomeAnd terms.sole_history (λ history. Begins terms history p req q)
 
 -- the answer was written: a reply, or a stream to its end; or a beginning of it was; or there was no memory for it
 abbrev pub AnsweredAs : Terms → Type 0 → Pass RevisionData → Req → List ℕ → List Reading → Pass RevisionData → Result (Option WatchEnd) Broken → Type 0
@@ -54,17 +57,16 @@ AnsweredAs terms whole p req written readings q (Err broken.Memory) =
     ((given : Given terms whole p req readings q) × IsPrefix written (answer_bytes terms req given.answer))
     ⊎ Unanswered terms whole p req written readings q
 
--- what a sink and a clock tell: the bytes, and the readings
-pub record Outside : Type 0 where
-  pub written : Option (List ℕ)
-  pub readings : Option (List Reading)
-
-pub record Answered (terms : Terms) (whole : Type 0) (p : Pass RevisionData) (req : Req) (old new : Outside) (q : Pass RevisionData) (came : Result (Option WatchEnd) Broken) : Type 0 where
+-- an answer to a request: what was written for it, and the readings of the clock; what is said of the sink where it was
+-- broken off, and that nothing is held back where it wasn't
+pub record Answered (terms : Terms) (whole : Type 0) (p : Pass RevisionData) (req : Req) (outside : Outside) (q : Pass RevisionData) (came : Result (Option WatchEnd) Broken) : Type 0 where
   pub written : List ℕ
   pub readings : List Reading
-  pub sink : new.written ≡ appended old.written written
-  pub noted : Noted old.readings new.readings readings
+  pub sink : outside.sent.written_new ≡ appended outside.sent.written_old written
+  pub noted : Noted outside.readings_old outside.readings_new readings
   pub answered : AnsweredAs terms whole p req written readings q came
+  pub counts : Counts came outside.sent
+  pub settled : OnOk came outside.sent.settled_new
 
 -- ---- what steps answer
 
@@ -81,11 +83,13 @@ abbrev pub by_loss : ℕ → ℕ → Result ⊤ Broken → Result (Option WatchE
 by_loss at floor (Ok done) = Ok (Some (watch_end.Lost at floor))
 by_loss at floor (Err why) = Err why
 
--- a request that is answered by a reply, with no reading of the clock
-pub record Replied (terms : Terms) (whole : Type 0) (p : Pass RevisionData) (req : Req) (old new : Option (List ℕ)) (q : Pass RevisionData) (sent : Result ⊤ Broken) : Type 0 where
+-- the same of a request that is answered by a reply, with no reading of the clock
+pub record Replied (terms : Terms) (whole : Type 0) (p : Pass RevisionData) (req : Req) (sent : Sent) (q : Pass RevisionData) (came : Result ⊤ Broken) : Type 0 where
   pub written : List ℕ
-  pub sink : new ≡ appended old written
-  pub replied : AnsweredAs terms whole p req written [] q (by_reply sent)
+  pub sink : sent.written_new ≡ appended sent.written_old written
+  pub replied : AnsweredAs terms whole p req written [] q (by_reply came)
+  pub counts : Counts came sent
+  pub settled : OnOk came sent.settled_new
 
 -- there was memory, so that this holds
 abbrev pub UnlessMemory : {A : Type 0} → Result A Broken → Type 0 → Type 0
@@ -111,7 +115,7 @@ end_of_refusal fault (Ok done) = Refused fault
 end_of_refusal fault (Err broken.Fault) = WriteFault
 end_of_refusal fault (Err broken.Memory) = Memory
 
--- ---- one turn of the loop, over the bytes that were kept and taken
+-- ---- one round of the loop, over the bytes that were kept and taken
 
 -- the bytes begin with a request, which was answered
 pub record Exchanged (terms : Terms) (whole : Type 0) (p : Pass RevisionData) (bytes after : List ℕ) (readings : List Reading) (q : Pass RevisionData) : Type 0 where
@@ -143,44 +147,45 @@ pub record Unfinished (terms : Terms) (whole : Type 0) (p : Pass RevisionData) (
   pub onward : IsOnward p q
   pub sole : whole → SoleMemory terms p bytes q
 
-abbrev pub TurnIs : Terms → Type 0 → Pass RevisionData → List ℕ → List ℕ → List ℕ → List Reading → Pass RevisionData → Type 0 → Type 0 → Option (List ℕ) → Option SessionEnd → Type 0
-TurnIs terms whole p bytes after written readings q read_fault write_fault left None =
+abbrev pub RoundIs : Terms → Type 0 → Pass RevisionData → List ℕ → List ℕ → List ℕ → List Reading → Pass RevisionData → Type 0 → Type 0 → Option (List ℕ) → Option SessionEnd → Type 0
+RoundIs terms whole p bytes after written readings q read_fault write_fault left None =
     (x : Exchanged terms whole p bytes after readings q) × Stays (exchange_of x.request x.given.answer q)
     × (written ≡ answer_bytes terms x.request x.given.answer)
-TurnIs terms whole p bytes after written readings q read_fault write_fault left (Some Done) =
+RoundIs terms whole p bytes after written readings q read_fault write_fault left (Some Done) =
     ((x : Exchanged terms whole p bytes after readings q) × IsClosed (exchange_of x.request x.given.answer q)
     × (written ≡ answer_bytes terms x.request x.given.answer))
     ⊎ (IsSilent written readings p q × (bytes ≡ []) × IsExhausted left)
-TurnIs terms whole p bytes after written readings q read_fault write_fault left (Some (Watched how)) =
+RoundIs terms whole p bytes after written readings q read_fault write_fault left (Some (Watched how)) =
     (x : Exchanged terms whole p bytes after readings q) × IsWatchEnd x.given.answer how
     × (written ≡ answer_bytes terms x.request x.given.answer)
-TurnIs terms whole p bytes after written readings q read_fault write_fault left (Some CutShort) =
+RoundIs terms whole p bytes after written readings q read_fault write_fault left (Some CutShort) =
     IsSilent written readings p q × IsCutShort bytes × IsExhausted left
-TurnIs terms whole p bytes after written readings q read_fault write_fault left (Some ReadFault) =
+RoundIs terms whole p bytes after written readings q read_fault write_fault left (Some ReadFault) =
     IsSilent written readings p q × IsUnfinished bytes × read_fault
-TurnIs terms whole p bytes after written readings q read_fault write_fault left (Some (Refused fault)) =
+RoundIs terms whole p bytes after written readings q read_fault write_fault left (Some (Refused fault)) =
     (written ≡ request_refusal_text fault) × IsRefused bytes fault × (readings ≡ []) × (p ≡ q)
-TurnIs terms whole p bytes after written readings q read_fault write_fault left (Some WriteFault) =
+RoundIs terms whole p bytes after written readings q read_fault write_fault left (Some WriteFault) =
     write_fault × (AnswerBegun terms whole p bytes after written readings q ⊎ RefusalBegun bytes written readings p q)
-TurnIs terms whole p bytes after written readings q read_fault write_fault left (Some Memory) =
+RoundIs terms whole p bytes after written readings q read_fault write_fault left (Some Memory) =
     AnswerBegun terms whole p bytes after written readings q
     ⊎ (RefusalBegun bytes written readings p q ⊎ Unfinished terms whole p bytes written readings q)
-TurnIs terms whole p bytes after written readings q read_fault write_fault left (Some TooMany) = ⊥
+RoundIs terms whole p bytes after written readings q read_fault write_fault left (Some TooMany) = ⊥
 
 -- what the ends of a session tell: the bytes that are left in the source, the bytes written, the readings
 pub record Ends : Type 0 where
   pub left : Option (List ℕ)
-  pub outside : Outside
+  pub written : Option (List ℕ)
+  pub readings : Option (List Reading)
 
--- one turn, from the bytes that were kept before it to those that are kept then
-pub record IsTurn (terms : Terms) (whole : Type 0) (p : Pass RevisionData) (kept kept_then : List ℕ) (old new : Ends) (read_fault write_fault : Type 0) (q : Pass RevisionData) (came : Option SessionEnd) : Type 0 where
+-- one round, from the bytes that were kept before it to those that are kept then
+pub record IsRound (terms : Terms) (whole : Type 0) (p : Pass RevisionData) (kept kept_then : List ℕ) (old new : Ends) (read_fault write_fault : Type 0) (q : Pass RevisionData) (came : Option SessionEnd) : Type 0 where
   pub taken : List ℕ
   pub written : List ℕ
   pub readings : List Reading
   pub source : old.left ≡ prepended taken new.left
-  pub sink : new.outside.written ≡ appended old.outside.written written
-  pub noted : Noted old.outside.readings new.outside.readings readings
-  pub turn : TurnIs terms whole p (kept ++ taken) kept_then written readings q read_fault write_fault new.left came
+  pub sink : new.written ≡ appended old.written written
+  pub noted : Noted old.readings new.readings readings
+  pub round : RoundIs terms whole p (kept ++ taken) kept_then written readings q read_fault write_fault new.left came
 
 -- what is told where no request was read: nothing, or the reply to bytes that are no request, or a beginning of it
 abbrev pub RefusalEnds : ReqNo → List ℕ → SessionEnd → Type 0
@@ -195,17 +200,20 @@ StopsAs req_no.ReadFault written how = (written ≡ []) × (how ≡ ReadFault)
 StopsAs req_no.Memory written how = (written ≡ []) × (how ≡ Memory)
 StopsAs fault written how = RefusalEnds fault written how
 
-pub record IsStopped (fault : ReqNo) (old new : Option (List ℕ)) (how : SessionEnd) : Type 0 where
-  pub written : List ℕ
-  pub sink : new ≡ appended old written
-  pub stops : StopsAs fault written how
-
 -- the sink's count of faults at that end
-abbrev pub CountsAt : SessionEnd → ℕ → ℕ → Type 0
-CountsAt WriteFault old new = Rose old new
-CountsAt other old new = new ≡ old
+abbrev pub CountsAt : SessionEnd → Sent → Type 0
+CountsAt WriteFault sent = Rose sent.faults_old sent.faults_new
+CountsAt other sent = sent.faults_new ≡ sent.faults_old
 
--- a further turn follows
+-- the session was stopped: what was written, and nothing is held back where it wasn't broken off
+pub record IsStopped (fault : ReqNo) (sent : Sent) (how : SessionEnd) : Type 0 where
+  pub written : List ℕ
+  pub sink : sent.written_new ≡ appended sent.written_old written
+  pub stops : StopsAs fault written how
+  pub counts : CountsAt how sent
+  pub settled : sent.settled_old → UnlessBroken how sent.settled_new
+
+-- a further round follows
 abbrev pub OnNone : {A : Type 0} → Option A → Type 0 → Type 0
 OnNone None P = P
 OnNone (Some x) P = Unit {0}

@@ -1,5 +1,5 @@
 -- A whole session, from the bytes that were taken to the bytes that were written.
-use Rattle.std.specs.Prelude.{◌≡◌, ℕ, List, map, Option}
+use Rattle.std.specs.Prelude.{◌≡◌, ℕ, List, map}
 use Rattle.std.specs.List.{flat_map}
 use Rattle.edge_io.specs.declared.clock.Reading.{Reading}
 use Rattle.http_read.specs.Requests.{ReadsSome}
@@ -9,18 +9,8 @@ use Rattle.rev_log.specs.Changes.{RevisionData}
 use Rattle.sess_turns.specs.Terms.{Terms}
 use Rattle.sess_serve.specs.Answers.{answer_readings}
 use Rattle.sess_serve.specs.Steps.{Exchange, Run, AreAlone}
-use Rattle.sess_serve.specs.Ends.{Ended, Knows, KnowsAlone}
+use Rattle.sess_serve.specs.Ends.{Traffic, Ended, Knows, KnowsAlone}
 use Rattle.sess_serve.specs.declared.ends.SessionEnd.{SessionEnd}
-
--- what went through a session's ends: the bytes that it took and wrote, its readings of the clock, whether the
--- source's and the sink's counts of faults rose, and what is left in the source, where that is told
-pub record Traffic : Type 1 where
-  pub taken : List ℕ
-  pub written : List ℕ
-  pub readings : List Reading
-  pub read_fault : Type 0
-  pub write_fault : Type 0
-  pub left : Option (List ℕ)
 
 -- the requests that were answered, in the order of their answers
 abbrev pub requests_of : List Exchange → List Req
@@ -42,4 +32,4 @@ pub record IsSession (terms : Terms) (whole : Type 0) (p : Pass RevisionData) (t
   pub knows : Knows how last q
   pub sole : whole → AreAlone terms p exchanges × KnowsAlone terms how last rest q
   pub readings : traffic.readings ≡ readings_in exchanges
-  pub ended : Ended terms exchanges rest traffic.written traffic.read_fault traffic.write_fault traffic.left how
+  pub ended : Ended terms exchanges rest traffic how

@@ -1,5 +1,5 @@
 -- Each answer stands between what was known before and what is known afterwards.
-use Rattle.std.specs.Prelude.{◌≡◌, List, [], ◌∷◌, true, Ok, Err, IfSome}
+use Rattle.std.specs.Prelude.{◌≡◌, List, [], ◌∷◌, true, Ok, Err, IsSomeAnd}
 use Rattle.rev_front.specs.Passes.{Pass}
 use Rattle.rev_log.specs.Changes.{RevisionData}
 use Rattle.http_read.specs.declared.request.Req.{Req}
@@ -77,8 +77,8 @@ Run terms p (e ∷ es) last = Step terms p e × Run terms e.pass es last
 
 -- a reply tells all that became of the log: its write, transaction or operation, if it is of one, and else nothing
 abbrev pub IsAloneReply : Terms → Pass RevisionData → Reply → Pass RevisionData → Type 0
-IsAloneReply terms p (wrote ask answer) q = IfSome terms.sole_history (λ history. SoleWrite terms.base terms.mirror history p ask answer q)
-IsAloneReply terms p (transacted asks answer) q = IfSome terms.sole_history (λ history. SoleTransact terms.base terms.mirror history p asks answer q)
+IsAloneReply terms p (wrote ask answer) q = IsSomeAnd terms.sole_history (λ history. SoleWrite terms.base terms.mirror history p ask answer q)
+IsAloneReply terms p (transacted asks answer) q = IsSomeAnd terms.sole_history (λ history. SoleTransact terms.base terms.mirror history p asks answer q)
 IsAloneReply terms p (operated ask answer) q = SoleOperate p ask answer q
 IsAloneReply terms p (unrouted fault) q = IsSoleRead p q
 IsAloneReply terms p (got ask answer) q = IsSoleRead p q

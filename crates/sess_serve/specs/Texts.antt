@@ -35,9 +35,9 @@ answer_bytes terms req (replied reply) = reply_text (form_of req) req.close repl
 answer_bytes terms req (streamed ask stream) = stream_bytes terms req ask stream
 
 -- the bytes by which a request was answered
-abbrev pub text_of : Terms → Exchange → List ℕ
-text_of terms e = answer_bytes terms e.request e.answer
+abbrev pub answer_text : Terms → Exchange → List ℕ
+answer_text terms e = answer_bytes terms e.request e.answer
 
 -- the answers, one after the other
-abbrev pub texts_of : Terms → List Exchange → List ℕ
-texts_of terms exchanges = flat_map (text_of terms) exchanges
+abbrev pub answer_texts : Terms → List Exchange → List ℕ
+answer_texts terms exchanges = flat_map (answer_text terms) exchanges

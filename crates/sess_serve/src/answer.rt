@@ -1,9 +1,10 @@
 //! One request, answered.
 
-ghost use Rattle.std.specs.Prelude.{◌≡◌, ◌≤◌, false, None, OnOk};
+ghost use Rattle.std.specs.Prelude.{◌≡◌, ◌≤◌, false, None};
+ghost use Rattle.edge_io.specs.Sent.{sent_through};
 ghost use Rattle.up_api.specs.Settings.{AreInRange};
 ghost use Rattle.route_req.specs.Asks.{IsRoute, IsRefusal, wraps_memory};
-ghost use Rattle.sess_reply.specs.Sending.{Counts};
+ghost use Rattle.sess_turns.specs.Streams.{outside_of};
 ghost use Rattle.sess_turns.specs.Terms.{terms_of};
 ghost use Rattle.sess_serve.specs.Serving.{Answered, UnlessMemory};
 
@@ -33,14 +34,10 @@ pub fn answer<C: Client, K: Sink, T: Clock>(
     requires idle { (C.facts client.old).watching ≡ None }
     requires settings { AreInRange settings.now }
     ensures answered { Answered (terms_of C.base C.mirror (C.facts client.old) settings.now) (C.whole client.old) (C.pass client.old) req.now
-        (record { written = K.written sink.old; readings = T.readings clock.old })
-        (record { written = K.written sink.new; readings = T.readings clock.new }) (C.pass client.new) result }
+        (outside_of T.readings clock.old clock.new (sent_through K.written K.settled K.faults sink.old sink.new)) (C.pass client.new) result }
     ensures facts { C.facts client.new ≡ record (C.facts client.old) { heard = (C.facts client.new).heard } }
     ensures heard { T.last clock.old ≤ (C.facts client.old).heard → T.last clock.new ≤ (C.facts client.new).heard }
     ensures kept { C.whole client.old → UnlessMemory result (C.whole client.new) }
-    ensures settled { OnOk result (K.settled sink.new) }
-    ensures counts { Counts result (K.faults sink.old) (K.faults sink.new) }
-    ensures never_falls { K.faults sink.old ≤ K.faults sink.new }
 {
     match route(alloc, req) {
         Ok(routed) => act(alloc, client, sink, clock, req, &routed, settings),
@@ -60,12 +57,8 @@ fn refuse<C: Client, K: Sink, T: Clock>(
 ) -> Result<Option<WatchEnd>, Broken>
     requires refused { IsRefusal req.now fault }
     requires plain { wraps_memory fault ≡ false }
-    ensures answered { Answered (terms_of C.base C.mirror (C.facts client.now) settings.now) (C.whole client.now) (C.pass client.now) req.now
-        (record { written = K.written sink.old; readings = T.readings clock.now })
-        (record { written = K.written sink.new; readings = T.readings clock.now }) (C.pass client.now) result }
-    ensures settled { OnOk result (K.settled sink.new) }
-    ensures counts { Counts result (K.faults sink.old) (K.faults sink.new) }
-    ensures never_falls { K.faults sink.old ≤ K.faults sink.new }
+    ensures { Answered (terms_of C.base C.mirror (C.facts client.now) settings.now) (C.whole client.now) (C.pass client.now) req.now
+        (outside_of T.readings clock.now clock.now (sent_through K.written K.settled K.faults sink.old sink.new)) (C.pass client.now) result }
 {
     let _ = client;
     let _ = clock;
@@ -90,14 +83,10 @@ fn act<C: Client, K: Sink, T: Clock>(
     requires idle { (C.facts client.old).watching ≡ None }
     requires settings { AreInRange settings.now }
     ensures answered { Answered (terms_of C.base C.mirror (C.facts client.old) settings.now) (C.whole client.old) (C.pass client.old) req.now
-        (record { written = K.written sink.old; readings = T.readings clock.old })
-        (record { written = K.written sink.new; readings = T.readings clock.new }) (C.pass client.new) result }
+        (outside_of T.readings clock.old clock.new (sent_through K.written K.settled K.faults sink.old sink.new)) (C.pass client.new) result }
     ensures facts { C.facts client.new ≡ record (C.facts client.old) { heard = (C.facts client.new).heard } }
     ensures heard { T.last clock.old ≤ (C.facts client.old).heard → T.last clock.new ≤ (C.facts client.new).heard }
     ensures kept { C.whole client.old → UnlessMemory result (C.whole client.new) }
-    ensures settled { OnOk result (K.settled sink.new) }
-    ensures counts { Counts result (K.faults sink.old) (K.faults sink.new) }
-    ensures never_falls { K.faults sink.old ≤ K.faults sink.new }
 {
     match routed {
         Routed::Write(ask) => by_reply(step_write(alloc, client, sink, req, ask)),

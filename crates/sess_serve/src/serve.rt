@@ -6,11 +6,12 @@ ghost use Rattle.edge_io.specs.Told.{prepended, appended, Noted};
 ghost use Rattle.edge_io.specs.declared.clock.Reading.{Reading as ReadingData};
 ghost use Rattle.http_read.specs.Answers.{AnswersNext, UnlessFault};
 ghost use Rattle.http_read.specs.Requests.{IsUnfinished};
+ghost use Rattle.edge_io.specs.Sent.{sent_through};
 ghost use Rattle.sess_turns.specs.Terms.{terms_of};
 ghost use Rattle.up_api.specs.Settings.{AreInRange};
 ghost use Rattle.sess_serve.specs.Ends.{UnlessReadFault, UnlessWriteFault, UnlessMemory, UnlessBroken};
 ghost use Rattle.sess_serve.specs.Serving as serving;
-ghost use Rattle.sess_serve.specs.Serving.{IsTurn, IsStopped, OnNone, OrEnd, CountsAt};
+ghost use Rattle.sess_serve.specs.Serving.{IsRound, IsStopped, OnNone, OrEnd};
 ghost use Rattle.sess_serve.specs.Session.{IsSession};
 
 use crate::answer::answer;
@@ -69,7 +70,7 @@ pub fn serve_session<C: Client, S: Source, K: Sink, T: Clock>(
         return SessionEnd::Memory;
     };
     for answered in 0..settings.requests {
-        match turn(
+        match round(
             alloc,
             client,
             &mut reader,
@@ -87,7 +88,7 @@ pub fn serve_session<C: Client, S: Source, K: Sink, T: Clock>(
 }
 
 // Reads one request and answers it. Answers how the session ended, where it did.
-fn turn<C: Client, S: Source, K: Sink, T: Clock>(
+fn round<C: Client, S: Source, K: Sink, T: Clock>(
     alloc: Global,
     client: &mut C,
     reader: &mut Reader,
@@ -101,10 +102,10 @@ fn turn<C: Client, S: Source, K: Sink, T: Clock>(
     requires settings { AreInRange settings.now }
     requires reading { reader.old.refusal ≡ None }
     requires settled { 0 < answered → K.settled sink.old }
-    ensures turn { IsTurn (terms_of C.base C.mirror (C.facts client.old) settings.now) (C.whole client.old) (C.pass client.old)
+    ensures round { IsRound (terms_of C.base C.mirror (C.facts client.old) settings.now) (C.whole client.old) (C.pass client.old)
         reader.old.kept reader.new.kept
-        (record { left = S.left source.old; outside = record { written = K.written sink.old; readings = T.readings clock.old } })
-        (record { left = S.left source.new; outside = record { written = K.written sink.new; readings = T.readings clock.new } })
+        (record { left = S.left source.old; written = K.written sink.old; readings = T.readings clock.old })
+        (record { left = S.left source.new; written = K.written sink.new; readings = T.readings clock.new })
         (Rose (S.faults source.old) (S.faults source.new)) (Rose (K.faults sink.old) (K.faults sink.new)) (C.pass client.new) result }
     ensures facts { C.facts client.new ≡ record (C.facts client.old) { heard = (C.facts client.new).heard } }
     ensures heard { T.last clock.old ≤ (C.facts client.old).heard → T.last clock.new ≤ (C.facts client.new).heard }
@@ -139,7 +140,6 @@ fn next_request<S: Source, K: Sink>(
         (S.faults source.old) (S.faults source.new) result }
     ensures idle { (IsUnfinished reader.old.kept → ⊥) → source.new ≡ source.old }
     ensures quiet { UnlessFault result (S.faults source.new ≡ S.faults source.old) }
-    ensures never_falls { S.faults source.old ≤ S.faults source.new }
 {
     let _ = sink;
     let _ = answered;
@@ -166,10 +166,7 @@ fn end_by_reply(close: bool) -> Option<SessionEnd>
 
 // Ends the session, since no request was read: bytes that are no request are told so.
 fn stop<K: Sink>(alloc: Global, sink: &mut K, fault: ReqNo) -> SessionEnd
-    ensures stopped { IsStopped fault (K.written sink.old) (K.written sink.new) result }
-    ensures settled { K.settled sink.old → UnlessBroken result (K.settled sink.new) }
-    ensures counts { CountsAt result (K.faults sink.old) (K.faults sink.new) }
-    ensures never_falls { K.faults sink.old ≤ K.faults sink.new }
+    ensures { IsStopped fault (sent_through K.written K.settled K.faults sink.old sink.new) result }
 {
     match fault {
         ReqNo::CutShort => SessionEnd::CutShort,

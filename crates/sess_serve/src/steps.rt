@@ -1,11 +1,11 @@
 //! Requests that are answered by replies: one function a kind. Each asks the client, and writes what it answers.
 
-ghost use Rattle.std.specs.Prelude.{◌≡◌, ◌≤◌, None, OnOk};
+ghost use Rattle.std.specs.Prelude.{◌≡◌};
 ghost use Rattle.std.specs.Bool.{MatchBool};
+ghost use Rattle.edge_io.specs.Sent.{sent_through};
 ghost use Rattle.client_api.specs.Told.{IsToldRead, IsToldWrite, IsToldTx, IsToldOperation};
 ghost use Rattle.route_req.specs.Asks.{IsRoute};
 ghost use Rattle.route_req.specs.declared.routing.Routed.TheVariants as routed;
-ghost use Rattle.sess_reply.specs.Sending.{Counts};
 ghost use Rattle.sess_turns.specs.Terms.{terms_of};
 ghost use Rattle.up_api.specs.declared.settings.Settings.{Settings};
 ghost use Rattle.sess_serve.specs.Answers.{readiness};
@@ -65,12 +65,9 @@ pub fn step_write<C: Client, K: Sink>(
 ) -> Result<(), Broken>
     requires { IsRoute req.now (routed.Write ask.now) }
     ensures replied { (s : Settings) → Replied (terms_of C.base C.mirror (C.facts client.old) s) (C.whole client.old)
-        (C.pass client.old) req.now (K.written sink.old) (K.written sink.new) (C.pass client.new) result }
+        (C.pass client.old) req.now (sent_through K.written K.settled K.faults sink.old sink.new) (C.pass client.new) result }
     ensures facts { C.facts client.new ≡ C.facts client.old }
     ensures kept { C.whole client.old → UnlessMemory result (C.whole client.new) }
-    ensures settled { OnOk result (K.settled sink.new) }
-    ensures counts { Counts result (K.faults sink.old) (K.faults sink.new) }
-    ensures never_falls { K.faults sink.old ≤ K.faults sink.new }
 {
     let answer = client.write(ask);
     if is_told_write(&answer) {
@@ -90,12 +87,9 @@ pub fn step_transact<C: Client, K: Sink>(
 ) -> Result<(), Broken>
     requires { IsRoute req.now (routed.Transact ask.now) }
     ensures replied { (s : Settings) → Replied (terms_of C.base C.mirror (C.facts client.old) s) (C.whole client.old)
-        (C.pass client.old) req.now (K.written sink.old) (K.written sink.new) (C.pass client.new) result }
+        (C.pass client.old) req.now (sent_through K.written K.settled K.faults sink.old sink.new) (C.pass client.new) result }
     ensures facts { C.facts client.new ≡ C.facts client.old }
     ensures kept { C.whole client.old → UnlessMemory result (C.whole client.new) }
-    ensures settled { OnOk result (K.settled sink.new) }
-    ensures counts { Counts result (K.faults sink.old) (K.faults sink.new) }
-    ensures never_falls { K.faults sink.old ≤ K.faults sink.new }
 {
     let answer = client.transact(ask);
     if is_told_transaction(&answer) {
@@ -115,12 +109,9 @@ pub fn step_get<C: Client, K: Sink>(
 ) -> Result<(), Broken>
     requires { IsRoute req.now (routed.Get ask.now) }
     ensures replied { (s : Settings) → Replied (terms_of C.base C.mirror (C.facts client.old) s) (C.whole client.old)
-        (C.pass client.old) req.now (K.written sink.old) (K.written sink.new) (C.pass client.new) result }
+        (C.pass client.old) req.now (sent_through K.written K.settled K.faults sink.old sink.new) (C.pass client.new) result }
     ensures facts { C.facts client.new ≡ C.facts client.old }
     ensures kept { C.whole client.old → UnlessMemory result (C.whole client.new) }
-    ensures settled { OnOk result (K.settled sink.new) }
-    ensures counts { Counts result (K.faults sink.old) (K.faults sink.new) }
-    ensures never_falls { K.faults sink.old ≤ K.faults sink.new }
 {
     let answer = client.get(ask);
     if is_told_get(&answer) {
@@ -140,12 +131,9 @@ pub fn step_list<C: Client, K: Sink>(
 ) -> Result<(), Broken>
     requires { IsRoute req.now (routed.List ask.now) }
     ensures replied { (s : Settings) → Replied (terms_of C.base C.mirror (C.facts client.old) s) (C.whole client.old)
-        (C.pass client.old) req.now (K.written sink.old) (K.written sink.new) (C.pass client.new) result }
+        (C.pass client.old) req.now (sent_through K.written K.settled K.faults sink.old sink.new) (C.pass client.new) result }
     ensures facts { C.facts client.new ≡ C.facts client.old }
     ensures kept { C.whole client.old → UnlessMemory result (C.whole client.new) }
-    ensures settled { OnOk result (K.settled sink.new) }
-    ensures counts { Counts result (K.faults sink.old) (K.faults sink.new) }
-    ensures never_falls { K.faults sink.old ≤ K.faults sink.new }
 {
     let answer = client.list(ask);
     if is_told_list(&answer) {
@@ -165,12 +153,9 @@ pub fn step_operate<C: Client, K: Sink>(
 ) -> Result<(), Broken>
     requires { IsRoute req.now (routed.Operate ask) }
     ensures replied { (s : Settings) → Replied (terms_of C.base C.mirror (C.facts client.old) s) (C.whole client.old)
-        (C.pass client.old) req.now (K.written sink.old) (K.written sink.new) (C.pass client.new) result }
+        (C.pass client.old) req.now (sent_through K.written K.settled K.faults sink.old sink.new) (C.pass client.new) result }
     ensures facts { C.facts client.new ≡ C.facts client.old }
     ensures kept { C.whole client.old → UnlessMemory result (C.whole client.new) }
-    ensures settled { OnOk result (K.settled sink.new) }
-    ensures counts { Counts result (K.faults sink.old) (K.faults sink.new) }
-    ensures never_falls { K.faults sink.old ≤ K.faults sink.new }
 {
     let answer = client.operate(ask);
     if is_told_operation(answer) {
@@ -189,12 +174,9 @@ pub fn step_metrics<C: Client, K: Sink>(
 ) -> Result<(), Broken>
     requires { IsRoute req.now routed.Metrics }
     ensures replied { (s : Settings) → Replied (terms_of C.base C.mirror (C.facts client.old) s) (C.whole client.old)
-        (C.pass client.old) req.now (K.written sink.old) (K.written sink.new) (C.pass client.new) result }
+        (C.pass client.old) req.now (sent_through K.written K.settled K.faults sink.old sink.new) (C.pass client.new) result }
     ensures facts { C.facts client.new ≡ C.facts client.old }
     ensures kept { C.whole client.old → UnlessMemory result (C.whole client.new) }
-    ensures settled { OnOk result (K.settled sink.new) }
-    ensures counts { Counts result (K.faults sink.old) (K.faults sink.new) }
-    ensures never_falls { K.faults sink.old ≤ K.faults sink.new }
 {
     match client.metrics() {
         Ok(told) => send_metered(alloc, sink, req.close, &told),
@@ -210,11 +192,8 @@ pub fn step_describe<C: Client, K: Sink>(
     document: &Document,
 ) -> Result<(), Broken>
     requires { IsRoute req.now (routed.Describe document.now) }
-    ensures replied { (s : Settings) → Replied (terms_of C.base C.mirror (C.facts client.now) s) (C.whole client.now)
-        (C.pass client.now) req.now (K.written sink.old) (K.written sink.new) (C.pass client.now) result }
-    ensures settled { OnOk result (K.settled sink.new) }
-    ensures counts { Counts result (K.faults sink.old) (K.faults sink.new) }
-    ensures never_falls { K.faults sink.old ≤ K.faults sink.new }
+    ensures { (s : Settings) → Replied (terms_of C.base C.mirror (C.facts client.now) s) (C.whole client.now)
+        (C.pass client.now) req.now (sent_through K.written K.settled K.faults sink.old sink.new) (C.pass client.now) result }
 {
     match document {
         Document::Probe(Probe::Readyz) => step_readiness(client, sink, req),
@@ -225,11 +204,8 @@ pub fn step_describe<C: Client, K: Sink>(
 // Whether the server is ready.
 fn step_readiness<C: Client, K: Sink>(client: &C, sink: &mut K, req: &Req) -> Result<(), Broken>
     requires { IsRoute req.now (routed.Describe readiness) }
-    ensures replied { (s : Settings) → Replied (terms_of C.base C.mirror (C.facts client.now) s) (C.whole client.now)
-        (C.pass client.now) req.now (K.written sink.old) (K.written sink.new) (C.pass client.now) result }
-    ensures settled { OnOk result (K.settled sink.new) }
-    ensures counts { Counts result (K.faults sink.old) (K.faults sink.new) }
-    ensures never_falls { K.faults sink.old ≤ K.faults sink.new }
+    ensures { (s : Settings) → Replied (terms_of C.base C.mirror (C.facts client.now) s) (C.whole client.now)
+        (C.pass client.now) req.now (sent_through K.written K.settled K.faults sink.old sink.new) (C.pass client.now) result }
 {
     if client.is_ready() {
         send_described(sink, req.close, &Document::Probe(Probe::Readyz))

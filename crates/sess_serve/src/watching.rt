@@ -1,10 +1,11 @@
 //! Requests that ask for a watch: answered by its stream, or by a reply where it can't begin.
 
-ghost use Rattle.std.specs.Prelude.{◌≡◌, ◌≤◌, Some, None, OnOk};
+ghost use Rattle.std.specs.Prelude.{◌≡◌, ◌≤◌, Some, None};
+ghost use Rattle.edge_io.specs.Sent.{sent_through};
 ghost use Rattle.up_api.specs.Settings.{AreInRange};
 ghost use Rattle.route_req.specs.Asks.{IsRoute};
 ghost use Rattle.route_req.specs.declared.routing.Routed.TheVariants as routed;
-ghost use Rattle.sess_reply.specs.Sending.{Counts};
+ghost use Rattle.sess_turns.specs.Streams.{outside_of};
 ghost use Rattle.sess_turns.specs.Terms.{terms_of};
 ghost use Rattle.sess_serve.specs.Answers.{IsPlainOrUpgrade};
 ghost use Rattle.sess_serve.specs.Serving as serving;
@@ -65,14 +66,10 @@ pub fn step_watch<C: Client, K: Sink, T: Clock>(
     requires idle { (C.facts client.old).watching ≡ None }
     requires settings { AreInRange settings.now }
     ensures answered { Answered (terms_of C.base C.mirror (C.facts client.old) settings.now) (C.whole client.old) (C.pass client.old) req.now
-        (record { written = K.written sink.old; readings = T.readings clock.old })
-        (record { written = K.written sink.new; readings = T.readings clock.new }) (C.pass client.new) result }
+        (outside_of T.readings clock.old clock.new (sent_through K.written K.settled K.faults sink.old sink.new)) (C.pass client.new) result }
     ensures facts { C.facts client.new ≡ record (C.facts client.old) { heard = (C.facts client.new).heard } }
     ensures heard { T.last clock.old ≤ (C.facts client.old).heard → T.last clock.new ≤ (C.facts client.new).heard }
     ensures kept { C.whole client.old → UnlessMemory result (C.whole client.new) }
-    ensures settled { OnOk result (K.settled sink.new) }
-    ensures counts { Counts result (K.faults sink.old) (K.faults sink.new) }
-    ensures never_falls { K.faults sink.old ≤ K.faults sink.new }
 {
     if is_plain_or_upgrade(req) {
         match view_of(alloc, req) {
@@ -101,14 +98,10 @@ fn watch<C: Client, K: Sink, T: Clock>(
     requires idle { (C.facts client.old).watching ≡ None }
     requires settings { AreInRange settings.now }
     ensures answered { Answered (terms_of C.base C.mirror (C.facts client.old) settings.now) (C.whole client.old) (C.pass client.old) req.now
-        (record { written = K.written sink.old; readings = T.readings clock.old })
-        (record { written = K.written sink.new; readings = T.readings clock.new }) (C.pass client.new) result }
+        (outside_of T.readings clock.old clock.new (sent_through K.written K.settled K.faults sink.old sink.new)) (C.pass client.new) result }
     ensures facts { C.facts client.new ≡ record (C.facts client.old) { heard = (C.facts client.new).heard } }
     ensures heard { T.last clock.old ≤ (C.facts client.old).heard → T.last clock.new ≤ (C.facts client.new).heard }
     ensures kept { C.whole client.old → UnlessMemory result (C.whole client.new) }
-    ensures settled { OnOk result (K.settled sink.new) }
-    ensures counts { Counts result (K.faults sink.old) (K.faults sink.new) }
-    ensures never_falls { K.faults sink.old ≤ K.faults sink.new }
 {
     match client.watch(ask) {
         Ok(begun) => by_stream(serve_stream(client, sink, clock, ask, &begun, view, settings)),

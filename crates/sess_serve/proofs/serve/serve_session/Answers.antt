@@ -7,7 +7,7 @@ use Rattle.sess_serve.proofs.serve.serve_session.Goals as goal
 pub returns-in_default-clause-session : goal.returns-in_default-clause-session
 returns-in_default-clause-session g c =
     let room : 0 < c.args.settings.now.requests = omega (arith, c.requires.settings.requests) in
-    none-begun _ _ _ (record { left = _; outside = record { written = _; readings = _ } }) _ _ room
+    none-begun _ _ _ (record { left = _; written = _; readings = _ }) _ _ room
 
 pub loop-answered-init : goal.loop-answered-init
 loop-answered-init g c =
@@ -29,7 +29,7 @@ loop-answered-preserved g c =
     let i = c.loop-answered.invariant in
     let e = c.in-None.ensures in
     record {
-      turns = loop-next _ _ (terms-same _ _ _ (g.C.Client.facts c.args.client.now) _ _ i.facts) _ _ i.kept _ _ _ _ _ _ _ _ c.loop-answered.answered _ _ i.turns e.turn;
+      turns = loop-next _ _ (terms-same _ _ _ (g.C.Client.facts c.args.client.now) _ _ i.facts) _ _ i.kept _ _ _ _ _ _ _ _ c.loop-answered.answered _ _ i.turns e.round;
       facts = facts-next (g.C.Client.facts c.args.client.now) _ _ i.facts e.facts;
       heard = λ h. e.heard (i.heard h);
       kept = λ w. e.kept (i.kept w);
@@ -45,7 +45,7 @@ returns-in-Some-clause-session g c =
     let i = c.loop-answered.invariant in
     let room : c.loop-answered.answered < c.args.settings.now.requests = omega arith in
     loop-ends _ _ (terms-same _ _ _ (g.C.Client.facts c.args.client.now) _ _ i.facts) _ _ i.kept _ _ _ _ _ _ _ _ c.loop-answered.answered _ _ i.turns _ _ c.in-Some.end
-    (rose-from _ _ _ i.quiet_source) (rose-from _ _ _ i.quiet_sink) room c.in-Some.ensures.turn
+    (rose-from _ _ _ i.quiet_source) (rose-from _ _ _ i.quiet_sink) room c.in-Some.ensures.round
 
 pub returns-in-Some-clause-facts : goal.returns-in-Some-clause-facts
 returns-in-Some-clause-facts g c = facts-next (g.C.Client.facts c.args.client.now) _ _ c.loop-answered.invariant.facts c.in-Some.ensures.facts
@@ -65,8 +65,8 @@ returns-in-Some-clause-quiet_source g c = read-map c.in-Some.end (λ e. e ∙ c.
 pub returns-in-Some-clause-quiet_sink : goal.returns-in-Some-clause-quiet_sink
 returns-in-Some-clause-quiet_sink g c = write-map c.in-Some.end (λ e. e ∙ c.loop-answered.invariant.quiet_sink) c.in-Some.ensures.quiet_sink
 
-pub turn-requires-clause-idle : goal.turn-requires-clause-idle
-turn-requires-clause-idle g c = facts-idle (g.C.Client.facts c.args.client.now) _ c.requires.idle c.loop-answered.invariant.facts
+pub round-requires-clause-idle : goal.round-requires-clause-idle
+round-requires-clause-idle g c = facts-idle (g.C.Client.facts c.args.client.now) _ c.requires.idle c.loop-answered.invariant.facts
 
 pub returns-clause-session : goal.returns-clause-session
 returns-clause-session g c =

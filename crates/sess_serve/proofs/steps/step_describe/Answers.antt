@@ -4,7 +4,7 @@ use Rattle.sess_reply.specs.Replies.{described}
 use Rattle.sess_serve.proofs.Replying.{sends, sole-same}
 use Rattle.sess_serve.proofs.steps.step_describe.Goals as goal
 
-pub returns-in_default-clause-replied : goal.returns-in_default-clause-replied
-returns-in_default-clause-replied g c = λ s.
-    sends _ _ _ _ _ _ _ c.send_described.result (described c.args.document.now) c.requires refl (onwards_do_join.0 _) (λ w. sole-same _)
-    c.send_described.ensures.sent c.send_described.ensures.broken
+pub returns-in_default : goal.returns-in_default
+returns-in_default g c = λ s.
+    sends _ _ _ _ _ _ c.send_described.result (described c.args.document.now) c.requires refl (onwards_do_join.0 _) (λ w. sole-same _)
+    c.send_described.ensures

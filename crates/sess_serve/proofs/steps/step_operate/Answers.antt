@@ -6,8 +6,8 @@ use Rattle.sess_serve.proofs.steps.step_operate.Goals as goal
 pub returns-then-is_told_operation-clause-replied : goal.returns-then-is_told_operation-clause-replied
 returns-then-is_told_operation-clause-replied g c = λ s.
     let told = rw c.if-is_told_operation.true at c.is_told_operation.ensures in
-    sends _ _ _ _ _ _ _ c.send_operated.result (operated c.args.ask c.operate-answer.result) c.requires (told, c.operate-answer.ensures.answer) c.operate-answer.ensures.onward c.operate-answer.ensures.sole
-    c.send_operated.ensures.sent c.send_operated.ensures.broken
+    sends _ _ _ _ _ _ c.send_operated.result (operated c.args.ask c.operate-answer.result) c.requires (told, c.operate-answer.ensures.answer) c.operate-answer.ensures.onward c.operate-answer.ensures.sole
+    c.send_operated.ensures
 
 pub returns-then-is_told_operation-clause-kept : goal.returns-then-is_told_operation-clause-kept
 returns-then-is_told_operation-clause-kept g c = λ whole.
@@ -17,5 +17,5 @@ returns-then-is_told_operation-clause-kept g c = λ whole.
 pub returns-else-is_told_operation-clause-replied : goal.returns-else-is_told_operation-clause-replied
 returns-else-is_told_operation-clause-replied g c = λ s.
     let lacked = rw c.if-is_told_operation.false at c.is_told_operation.ensures in
-    lacks _ _ _ _ _ _ _ refl c.operate-answer.ensures.onward
+    lacks _ _ _ _ _ _ refl refl c.operate-answer.ensures.onward
     (λ w. lacks-operate g.C.Client.base g.C.Client.mirror (g.C.Client.facts c.args.client.now) s _ _ _ c.args.ask c.operate-answer.result lacked (c.operate-answer.ensures.sole w))

@@ -5,12 +5,12 @@ use Rattle.sess_serve.specs.Answers.{readiness}
 use Rattle.sess_serve.proofs.Replying.{sends, sole-same, mirror-unready}
 use Rattle.sess_serve.proofs.steps.step_readiness.Goals as goal
 
-pub returns-then-is_ready-clause-replied : goal.returns-then-is_ready-clause-replied
-returns-then-is_ready-clause-replied g c = λ s.
-    sends _ _ _ _ _ _ _ c.send_described.result (described readiness) c.requires refl (onwards_do_join.0 _) (λ w. sole-same _)
-    c.send_described.ensures.sent c.send_described.ensures.broken
+pub returns-then-is_ready : goal.returns-then-is_ready
+returns-then-is_ready g c = λ s.
+    sends _ _ _ _ _ _ c.send_described.result (described readiness) c.requires refl (onwards_do_join.0 _) (λ w. sole-same _)
+    c.send_described.ensures
 
-pub returns-else-is_ready-clause-replied : goal.returns-else-is_ready-clause-replied
-returns-else-is_ready-clause-replied g c = λ s.
-    sends _ _ _ _ _ _ _ c.send_unready.result unready c.requires (mirror-unready _ _ c.is_ready.ensures c.if-is_ready.false, refl) (onwards_do_join.0 _) (λ w. sole-same _)
-    c.send_unready.ensures.sent c.send_unready.ensures.broken
+pub returns-else-is_ready : goal.returns-else-is_ready
+returns-else-is_ready g c = λ s.
+    sends _ _ _ _ _ _ c.send_unready.result unready c.requires (mirror-unready _ _ c.is_ready.ensures c.if-is_ready.false, refl) (onwards_do_join.0 _) (λ w. sole-same _)
+    c.send_unready.ensures

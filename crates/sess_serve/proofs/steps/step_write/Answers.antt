@@ -6,8 +6,8 @@ use Rattle.sess_serve.proofs.steps.step_write.Goals as goal
 pub returns-then-is_told_write-clause-replied : goal.returns-then-is_told_write-clause-replied
 returns-then-is_told_write-clause-replied g c = λ s.
     let told = rw c.if-is_told_write.true at c.is_told_write.ensures in
-    sends _ _ _ _ _ _ _ c.send_written.result (wrote c.args.ask.now c.write-answer.result) c.requires (told, c.write-answer.ensures.answer) c.write-answer.ensures.onward c.write-answer.ensures.sole
-    c.send_written.ensures.sent c.send_written.ensures.broken
+    sends _ _ _ _ _ _ c.send_written.result (wrote c.args.ask.now c.write-answer.result) c.requires (told, c.write-answer.ensures.answer) c.write-answer.ensures.onward c.write-answer.ensures.sole
+    c.send_written.ensures
 
 pub returns-then-is_told_write-clause-kept : goal.returns-then-is_told_write-clause-kept
 returns-then-is_told_write-clause-kept g c = λ whole.
@@ -17,5 +17,5 @@ returns-then-is_told_write-clause-kept g c = λ whole.
 pub returns-clause-replied : goal.returns-clause-replied
 returns-clause-replied g c = λ s.
     let lacked = rw c.if-is_told_write.false at c.is_told_write.ensures in
-    lacks _ _ _ _ _ _ _ refl c.write-answer.ensures.onward
+    lacks _ _ _ _ _ _ refl refl c.write-answer.ensures.onward
     (λ w. lacks-write g.C.Client.base g.C.Client.mirror (g.C.Client.facts c.args.client.now) s _ _ _ c.args.ask.now c.write-answer.result c.requires lacked (c.write-answer.ensures.sole w))

@@ -1,17 +1,18 @@
-use Rattle.std.proofs.Common.{refl, subst}
+use Rattle.std.proofs.Common.{refl, ap}
 use Rattle.client_api.specs.declared.answers.ListNo.TheVariants as list_no
 use Rattle.sess_reply.specs.Replies.{unwatched}
-use Rattle.sess_turns.specs.Streams.{IsWritten, gone_text}
-use Rattle.sess_serve.proofs.Replying.{sends, lacks-all, answers-by-reply, answers-by-loss, answers-by-stream, reply-counts, reply-settled, loss-counts, loss-settled, stream-counts, stream-settled, stream-kept, unless-memory, facts-unwatched, facts-watched, terms-watching}
+use Rattle.sess_reply.proofs.SendLemmas.{sends-as}
+use Rattle.sess_turns.specs.Streams.{gone_text}
+use Rattle.sess_serve.proofs.Replying.{sends, lacks-all, answers-by-reply, answers-by-loss, answers-by-stream, stream-kept, unless-memory, facts-unwatched, facts-watched, terms-watching}
 use Rattle.sess_serve.proofs.WatchLemmas.{turns-onward, stream-under}
 use Rattle.sess_serve.proofs.watching.watch.Goals as goal
 
 pub returns-in-Ok-clause-answered : goal.returns-in-Ok-clause-answered
 returns-in-Ok-clause-answered g c =
     let e = c.in-Ok.ensures in
-    let str = stream-under _ _ c.args.view.now c.args.ask.now _ _ (g.C.Client.whole c.args.client.now) _ _ c.serve_stream.result _ _
+    let str = stream-under _ _ c.args.view.now c.args.ask.now _ _ (g.C.Client.whole c.args.client.now) _ _ c.serve_stream.result _
     (terms-watching g.C.Client.base g.C.Client.mirror c.args.settings.now (g.C.Client.facts c.args.client.now) _ _ e.facts) (λ w. e.kept w tt) c.serve_stream.ensures.streamed in
-    answers-by-stream _ _ _ _ _ _ _ _ c.args.ask.now _ c.args.view.now c.serve_stream.result c.by_stream.result c.by_stream.ensures c.requires.view c.requires.route c.requires.plain
+    answers-by-stream _ _ _ _ _ _ _ c.args.ask.now _ c.args.view.now c.serve_stream.result c.by_stream.result c.by_stream.ensures c.requires.view c.requires.route c.requires.plain
     e.answer e.onward (turns-onward _ _ _ _ _ str.turns) e.sole str
 
 pub returns-in-Ok-clause-facts : goal.returns-in-Ok-clause-facts
@@ -21,19 +22,13 @@ pub returns-in-Ok-clause-kept : goal.returns-in-Ok-clause-kept
 returns-in-Ok-clause-kept g c = λ whole.
     stream-kept c.serve_stream.result c.by_stream.result c.by_stream.ensures (λ told. c.serve_stream.ensures.kept (c.in-Ok.ensures.kept whole tt) told)
 
-pub returns-in-Ok-clause-settled : goal.returns-in-Ok-clause-settled
-returns-in-Ok-clause-settled g c = stream-settled c.serve_stream.result c.by_stream.result _ c.by_stream.ensures c.serve_stream.ensures.settled
-
-pub returns-in-Ok-clause-counts : goal.returns-in-Ok-clause-counts
-returns-in-Ok-clause-counts g c = stream-counts c.serve_stream.result c.by_stream.result _ _ c.by_stream.ensures c.serve_stream.ensures.counted
-
 pub returns-in-Err-Expired-clause-answered : goal.returns-in-Err-Expired-clause-answered
 returns-in-Err-Expired-clause-answered g c =
     let is = c.in-Err-Expired.field-0-is in
     let e = c.in-Err-Expired.ensures in
-    answers-by-loss _ _ _ _ _ _ _ c.args.ask.now c.in-Err-Expired.asked c.in-Err-Expired.floor c.serve_gone.result c.by_loss.result refl c.by_loss.ensures c.requires.route c.requires.plain
+    answers-by-loss _ _ _ _ _ _ c.args.ask.now c.in-Err-Expired.asked c.in-Err-Expired.floor c.serve_gone.result c.by_loss.result refl c.by_loss.ensures c.requires.route c.requires.plain
     (rw is at e.answer) e.onward (λ w. rw is at (e.sole w))
-    (subst (λ v. IsWritten c.serve_gone.result (g.K.Sink.written c.args.sink.now) (g.K.Sink.written c.serve_gone.new.sink) (gone_text v.framing c.in-Err-Expired.asked c.in-Err-Expired.floor)) c.requires.view c.serve_gone.ensures.written)
+    (sends-as c.serve_gone.result _ _ _ (ap (λ v. gone_text v.framing c.in-Err-Expired.asked c.in-Err-Expired.floor) c.requires.view) c.serve_gone.ensures)
 
 pub returns-in-Err-Expired-clause-facts : goal.returns-in-Err-Expired-clause-facts
 returns-in-Err-Expired-clause-facts g c = facts-unwatched _ _ c.requires.idle c.in-Err-Expired.ensures.facts
@@ -43,19 +38,13 @@ returns-in-Err-Expired-clause-kept g c = λ whole.
     let kept = rw c.in-Err-Expired.field-0-is at c.in-Err-Expired.ensures.kept in
     unless-memory c.by_loss.result (kept whole tt)
 
-pub returns-in-Err-Expired-clause-settled : goal.returns-in-Err-Expired-clause-settled
-returns-in-Err-Expired-clause-settled g c = loss-settled c.serve_gone.result c.by_loss.result _ _ _ c.by_loss.ensures c.serve_gone.ensures.settled
-
-pub returns-in-Err-Expired-clause-counts : goal.returns-in-Err-Expired-clause-counts
-returns-in-Err-Expired-clause-counts g c = loss-counts c.serve_gone.result c.by_loss.result _ _ _ _ c.by_loss.ensures c.serve_gone.ensures.counted
-
 pub returns-in-Err-TooLarge-clause-answered : goal.returns-in-Err-TooLarge-clause-answered
 returns-in-Err-TooLarge-clause-answered g c =
     let is = c.in-Err-TooLarge.field-0-is in
     let e = c.in-Err-TooLarge.ensures in
-    answers-by-reply _ _ _ _ _ _ _ c.send_unwatched.result c.by_reply.result refl c.by_reply.ensures
-    (sends _ _ _ _ _ _ _ c.send_unwatched.result (unwatched c.args.ask.now (list_no.TooLarge c.in-Err-TooLarge.asked c.in-Err-TooLarge.current)) (c.requires.route, c.requires.plain)
-    (rw is at e.answer) e.onward (λ w. rw is at (e.sole w)) c.send_unwatched.ensures.sent c.send_unwatched.ensures.broken)
+    answers-by-reply _ _ _ _ _ _ c.send_unwatched.result c.by_reply.result refl c.by_reply.ensures
+    (sends _ _ _ _ _ _ c.send_unwatched.result (unwatched c.args.ask.now (list_no.TooLarge c.in-Err-TooLarge.asked c.in-Err-TooLarge.current)) (c.requires.route, c.requires.plain)
+    (rw is at e.answer) e.onward (λ w. rw is at (e.sole w)) c.send_unwatched.ensures)
 
 pub returns-in-Err-TooLarge-clause-facts : goal.returns-in-Err-TooLarge-clause-facts
 returns-in-Err-TooLarge-clause-facts g c = facts-unwatched _ _ c.requires.idle c.in-Err-TooLarge.ensures.facts
@@ -64,12 +53,6 @@ pub returns-in-Err-TooLarge-clause-kept : goal.returns-in-Err-TooLarge-clause-ke
 returns-in-Err-TooLarge-clause-kept g c = λ whole.
     let kept = rw c.in-Err-TooLarge.field-0-is at c.in-Err-TooLarge.ensures.kept in
     unless-memory c.by_reply.result (kept whole tt)
-
-pub returns-in-Err-TooLarge-clause-settled : goal.returns-in-Err-TooLarge-clause-settled
-returns-in-Err-TooLarge-clause-settled g c = reply-settled c.send_unwatched.result c.by_reply.result _ c.by_reply.ensures c.send_unwatched.ensures.settled
-
-pub returns-in-Err-TooLarge-clause-counts : goal.returns-in-Err-TooLarge-clause-counts
-returns-in-Err-TooLarge-clause-counts g c = reply-counts c.send_unwatched.result c.by_reply.result _ _ c.by_reply.ensures c.send_unwatched.ensures.counts
 
 pub returns-in-Err-Absent-clause-answered : goal.returns-in-Err-Absent-clause-answered
 returns-in-Err-Absent-clause-answered g c = absurd (rw c.in-Err-Absent.field-0-is at c.in-Err-Absent.ensures.answer)
@@ -81,7 +64,7 @@ pub returns-in-Err-Memory-clause-answered : goal.returns-in-Err-Memory-clause-an
 returns-in-Err-Memory-clause-answered g c =
     let is = c.in-Err-Memory.field-0-is in
     let e = c.in-Err-Memory.ensures in
-    lacks-all _ _ _ _ _ _ _ refl e.onward (λ w. rw is at (e.sole w))
+    lacks-all _ _ _ _ _ _ refl refl refl e.onward (λ w. rw is at (e.sole w))
 
 pub returns-in-Err-Memory-clause-facts : goal.returns-in-Err-Memory-clause-facts
 returns-in-Err-Memory-clause-facts g c = facts-unwatched _ _ c.requires.idle c.in-Err-Memory.ensures.facts
