@@ -5,7 +5,7 @@ use Rattle.kube_meta.specs.Resources.{message_name_of}
 use Rattle.kube_meta.specs.declared.resources.Resource.{Resource}
 use Rattle.json_obj.specs.Replies.{expired_message}
 use Rattle.json_obj.specs.declared.replies.Refusal.{Refusal}
-use Rattle.api_errors.specs.Reasons.{code_of, text_of, is_too_large}
+use Rattle.api_errors.specs.Reasons.{code_of, reason_word, is_too_large}
 use Rattle.api_errors.specs.declared.reasons.Reason.{Reason}
 use Rattle.api_errors.specs.declared.reasons.Reason.TheVariants.{BadRequest, NotFound, MethodNotAllowed, AlreadyExists, Conflict, Expired, Invalid, InternalError, Timeout}
 use Rattle.api_errors.specs.declared.failures.Failure.{Failure}
@@ -48,8 +48,8 @@ conflict resource name present given =
     record { reason = Conflict; message = named resource name (concat (codes " is at resourceVersion " ∷ decimal present ∷ codes ", not " ∷ decimal given ∷ [])) }
 
 -- the last number there is has been given, to a revision or to a cut, so that nothing can follow: 500
-abbrev pub used_up : Failure
-used_up = record { reason = InternalError; message = codes "Revisions are used up" }
+abbrev pub revisions_used_up : Failure
+revisions_used_up = record { reason = InternalError; message = codes "Revisions are used up" }
 
 -- a write to a mirror, which takes its changes from its peer alone: 405
 abbrev pub read_only : Failure
@@ -69,5 +69,5 @@ abbrev pub bad_upgrade : Failure
 bad_upgrade = record { reason = BadRequest; message = codes "websocket: BadUpgrade" }
 
 -- what the Status of a failure says: its code and its word, its message, and whether to ask again in a second
-abbrev pub refusal_of : Failure → Refusal
-refusal_of told = record { code = code_of told.reason; reason = text_of told.reason; message = told.message; too_large = is_too_large told.reason }
+abbrev pub failure_status : Failure → Refusal
+failure_status told = record { code = code_of told.reason; reason = reason_word told.reason; message = told.message; too_large = is_too_large told.reason }

@@ -19,19 +19,19 @@ code_of InternalError = 500
 code_of Timeout = 504
 
 -- the word that a Status has as its `reason`, by which clients tell failures apart
-abbrev pub text_of : Reason → List ℕ
-text_of BadRequest = codes "BadRequest"
-text_of Forbidden = codes "Forbidden"
-text_of NotFound = codes "NotFound"
-text_of MethodNotAllowed = codes "MethodNotAllowed"
-text_of AlreadyExists = codes "AlreadyExists"
-text_of Conflict = codes "Conflict"
-text_of Expired = codes "Expired"
-text_of LengthRequired = codes "LengthRequired"
-text_of RequestEntityTooLarge = codes "RequestEntityTooLarge"
-text_of Invalid = codes "Invalid"
-text_of InternalError = codes "InternalError"
-text_of Timeout = codes "Timeout"
+abbrev pub reason_word : Reason → List ℕ
+reason_word BadRequest = codes "BadRequest"
+reason_word Forbidden = codes "Forbidden"
+reason_word NotFound = codes "NotFound"
+reason_word MethodNotAllowed = codes "MethodNotAllowed"
+reason_word AlreadyExists = codes "AlreadyExists"
+reason_word Conflict = codes "Conflict"
+reason_word Expired = codes "Expired"
+reason_word LengthRequired = codes "LengthRequired"
+reason_word RequestEntityTooLarge = codes "RequestEntityTooLarge"
+reason_word Invalid = codes "Invalid"
+reason_word InternalError = codes "InternalError"
+reason_word Timeout = codes "Timeout"
 
 -- to be asked again in a second: a resource version that isn't reached yet
 abbrev pub is_too_large : Reason → Bool

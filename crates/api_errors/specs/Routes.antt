@@ -22,17 +22,17 @@ object_told object.BadMeta = bad (codes "object: BadMeta")
 object_told object.Memory = None
 
 -- why a body is no transaction, and in which of its items, counted from 0, where the fault is in one
-abbrev pub transaction_told : TxTextNo → Option Failure
-transaction_told transaction.NotJson = bad (codes "transaction: NotJson")
-transaction_told transaction.Float = bad (codes "transaction: Float")
-transaction_told transaction.TooDeep = bad (codes "transaction: TooDeep")
-transaction_told transaction.NotList = bad (codes "transaction: NotList")
-transaction_told transaction.Empty = bad (codes "transaction: Empty")
-transaction_told transaction.TooManyItems = bad (codes "transaction: TooManyItems")
-transaction_told (transaction.BadItem index) = bad_at (codes "transaction: BadItem in item ") index
-transaction_told (transaction.BadObject index fault) = bad_at (codes "transaction: BadObject in item ") index
-transaction_told (transaction.Repeated index) = bad_at (codes "transaction: Repeated in item ") index
-transaction_told transaction.Memory = None
+abbrev pub transaction_failure : TxTextNo → Option Failure
+transaction_failure transaction.NotJson = bad (codes "transaction: NotJson")
+transaction_failure transaction.Float = bad (codes "transaction: Float")
+transaction_failure transaction.TooDeep = bad (codes "transaction: TooDeep")
+transaction_failure transaction.NotList = bad (codes "transaction: NotList")
+transaction_failure transaction.Empty = bad (codes "transaction: Empty")
+transaction_failure transaction.TooManyItems = bad (codes "transaction: TooManyItems")
+transaction_failure (transaction.BadItem index) = bad_at (codes "transaction: BadItem in item ") index
+transaction_failure (transaction.BadObject index fault) = bad_at (codes "transaction: BadObject in item ") index
+transaction_failure (transaction.Repeated index) = bad_at (codes "transaction: Repeated in item ") index
+transaction_failure transaction.Memory = None
 
 -- why a request isn't tried: no such path, no such method there, or what is wrong with its options or its body
 abbrev pub route_told : RouteNo → Option Failure
@@ -44,5 +44,5 @@ route_told (route.List fault) = list_told fault
 route_told (route.Watch fault) = watch_told fault
 route_told (route.Object fault) = object_told fault
 route_told route.Operation = bad (codes "operation: BadRevision")
-route_told (route.Transaction fault) = transaction_told fault
+route_told (route.Transaction fault) = transaction_failure fault
 route_told route.Memory = None

@@ -7,7 +7,7 @@ use Rattle.up_store.specs.declared.transactions.TxWriteNo.{TxWriteNo}
 use Rattle.up_store.specs.declared.transactions.TxWriteNo.TheVariants as transaction
 use Rattle.up_store.specs.declared.operations.OpNo.{OpNo}
 use Rattle.up_store.specs.declared.operations.OpNo.TheVariants as operation
-use Rattle.api_errors.specs.Failures.{already_exists, not_found, conflict, used_up, read_only, expired, too_large}
+use Rattle.api_errors.specs.Failures.{already_exists, not_found, conflict, revisions_used_up, read_only, expired, too_large}
 use Rattle.api_errors.specs.declared.failures.Failure.{Failure}
 
 -- why the log refuses a write to the object of this name
@@ -15,7 +15,7 @@ abbrev pub write_told : Resource → List ℕ → WriteNo → Option Failure
 write_told resource name (write.Exists at present) = Some (already_exists resource name)
 write_told resource name (write.Absent at) = Some (not_found resource name)
 write_told resource name (write.Stale at given present) = Some (conflict resource name present given)
-write_told resource name (write.UsedUp at) = Some used_up
+write_told resource name (write.UsedUp at) = Some revisions_used_up
 write_told resource name (write.ReadOnly at) = Some read_only
 write_told resource name write.Memory = None
 
@@ -30,5 +30,5 @@ write_of transaction.Memory = write.Memory
 abbrev pub operation_told : OpNo → Option Failure
 operation_told (operation.Compacted asked floor) = Some (expired asked floor)
 operation_told (operation.Future asked current) = Some (too_large asked current)
-operation_told (operation.UsedUp at) = Some used_up
+operation_told (operation.UsedUp at) = Some revisions_used_up
 operation_told operation.Memory = None

@@ -16,11 +16,11 @@ pub struct Failure {
 }
 
 impl Failure {
-    ghost use Rattle.api_errors.specs.Failures.{refusal_of};
+    ghost use Rattle.api_errors.specs.Failures.{failure_status};
 
     /// The same for a Status.
     pub fn into_refusal(self, alloc: Global) -> Result<Refusal, Memory>
-        ensures { IfOk result (λ refusal. refusal ≡ refusal_of self) }
+        ensures { IfOk result (λ refusal. refusal ≡ failure_status self) }
     {
         Ok(Refusal {
             code: self.reason.code(),
@@ -140,7 +140,7 @@ pub fn too_large(alloc: Global, asked: u64, current: u64) -> Result<Failure, Mem
 
 /// No revision is left.
 pub fn used_up(alloc: Global) -> Result<Failure, Memory>
-    ensures { IfOk result (λ told. told ≡ spec.used_up) }
+    ensures { IfOk result (λ told. told ≡ spec.revisions_used_up) }
 {
     plain(alloc, Reason::InternalError, "Revisions are used up")
 }

@@ -20,7 +20,7 @@ pub enum Reason {
 }
 
 impl Reason {
-    ghost use Rattle.api_errors.specs.Reasons.{code_of, text_of, is_too_large};
+    ghost use Rattle.api_errors.specs.Reasons.{code_of, reason_word, is_too_large};
 
     /// The HTTP status code of the failure.
     pub fn code(self) -> u16
@@ -43,7 +43,7 @@ impl Reason {
 
     /// The word itself, as `NotFound`.
     pub fn text(self) -> &'static str
-        ensures { result.now ≡ text_of self }
+        ensures { result.now ≡ reason_word self }
     {
         match self {
             Reason::BadRequest => "BadRequest",

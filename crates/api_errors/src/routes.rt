@@ -56,7 +56,7 @@ fn object_told(alloc: Global, fault: ObjNo) -> Result<Option<Failure>, Memory>
 }
 
 fn transaction_told(alloc: Global, fault: TxTextNo) -> Result<Option<Failure>, Memory>
-    ensures { IfOk result (λ told. told ≡ spec.transaction_told fault) }
+    ensures { IfOk result (λ told. told ≡ spec.transaction_failure fault) }
 {
     match fault {
         TxTextNo::NotJson => bad(alloc, "transaction: NotJson"),

@@ -11,7 +11,7 @@ use Rattle.watch_rules.specs.declared.starts.Start.TheVariants.{FromState, FromH
 use Rattle.body_check.specs.declared.judging.Checked.TheVariants.{Lawful, Unlawful}
 use Rattle.body_check.specs.Courses.{rows_told, Admits, IsRanged}
 use Rattle.body_check.specs.Findings.{Begins, IsReachedBy, IsBrokenAt}
-use Rattle.body_check.specs.Judging.{log_of, IsAllowed, MayStart, IsToldBy, IsLawfulFrom, IsUnlawfulAt, JudgementsAreOne}
+use Rattle.body_check.specs.Judging.{record_log, IsAllowed, MayStart, IsToldBy, IsLawfulFrom, IsUnlawfulAt, JudgementsAreOne}
 use Rattle.body_check.specs.Rounds.{IsTriedBy}
 
 -- ---- allowed starts
@@ -29,8 +29,8 @@ allowed_parts log (FromRevision revision) at ranged allowed = absurd ranged
 -- ---- a start at one revision
 
 module _ (case : Record) (revision : ℕ) (start_is : case.ask.start ≡ FromRevision revision) where
-  pub one_opens : (rows : List RowData) → IsOpening (log_of case) case.ask.selection case.ask.start revision (rows_told case.ask.start case.ask.selection rows)
-  one_opens rows = subst (λ (start : Start). IsOpening (log_of case) case.ask.selection start revision (rows_told start case.ask.selection rows)) (sym start_is) (refl, refl)
+  pub one_opens : (rows : List RowData) → IsOpening (record_log case) case.ask.selection case.ask.start revision (rows_told case.ask.start case.ask.selection rows)
+  one_opens rows = subst (λ (start : Start). IsOpening (record_log case) case.ask.selection start revision (rows_told start case.ask.selection rows)) (sym start_is) (refl, refl)
 
   pub one_unclosed : IsTrue case.ask.closing → revision ≤ 2 ^ 62
   one_unclosed closing =
@@ -38,10 +38,10 @@ module _ (case : Record) (revision : ℕ) (start_is : case.ask.start ≡ FromRev
       absurd (cc)
 
   one_allowed : MayStart case revision
-  one_allowed = subst (λ (start : Start). IsAllowed (log_of case) start revision) (sym start_is) refl
+  one_allowed = subst (λ (start : Start). IsAllowed (record_log case) start revision) (sym start_is) refl
 
   only_allowed : (at : ℕ) → MayStart case at → at ≡ revision
-  only_allowed at allowed = subst (λ (start : Start). IsAllowed (log_of case) start at) start_is allowed
+  only_allowed at allowed = subst (λ (start : Start). IsAllowed (record_log case) start at) start_is allowed
 
   pub one_lawful : (to : ℕ) → IsReachedBy (IsToldBy case revision) case.lines.items to → IsLawfulFrom case revision to
   one_lawful to is = record {
@@ -72,7 +72,7 @@ decided case at best to allowed is tried = record {
   least_position = is.least;
 }
 
-pub finished : (case : Record) (next best : ℕ) → IsRanged case.ask.start → end_of (log_of case) < next → IsTriedBy case next best → IsUnlawfulAt case best
+pub finished : (case : Record) (next best : ℕ) → IsRanged case.ask.start → end_of (record_log case) < next → IsTriedBy case next best → IsUnlawfulAt case best
 finished case next best ranged past tried = record {
   none = λ at p allowed told. tried.none at p allowed (below at allowed) told;
   within = tried.within;
@@ -81,7 +81,7 @@ finished case next best ranged past tried = record {
 }
   where
     below : (at : ℕ) → MayStart case at → at < next
-    below at allowed = let parts = allowed_parts (log_of case) case.ask.start at ranged allowed in omega (arith, parts.1)
+    below at allowed = let parts = allowed_parts (record_log case) case.ask.start at ranged allowed in omega (arith, parts.1)
 
 -- ---- one judgement
 

@@ -18,7 +18,7 @@ use Rattle.body_check.specs.declared.found.Found.{Found}
 use Rattle.body_check.specs.declared.found.Found.TheVariants.{Reached, Broken}
 use Rattle.body_check.specs.Courses.{text_in, course_of}
 use Rattle.body_check.specs.Findings.{IsFound, later}
-use Rattle.body_check.specs.Judging.{log_of}
+use Rattle.body_check.specs.Judging.{record_log}
 use Rattle.body_check.specs.Losses.{is_lost}
 use Rattle.body_check.specs.Reading.{Course, highest, IsMark, IsLoss, IsNext, IsUnderWay, Reads, AreToldApart}
 use Rattle.body_check.specs.Steps.{MarksAt, LosesAt, IsOneWith, GoesOn, EndsAt}
@@ -27,9 +27,9 @@ use Rattle.body_check.proofs.Findings.{later-adds}
 use Rattle.body_check.proofs.Reading.{found_told, found_mark, found_lost, found_past, found_neither, found_whole, found_within}
 
 module _ (case : Record) where
-  lost_low : (at floor : ℕ) → is_lost (log_of case) case.floor case.window case.ask.selection.resource at floor ≡ true → (at ≤ 2 ^ 62) × (floor ≤ 2 ^ 62)
+  lost_low : (at floor : ℕ) → is_lost (record_log case) case.floor case.window case.ask.selection.resource at floor ≡ true → (at ≤ 2 ^ 62) × (floor ≤ 2 ^ 62)
   lost_low at floor is =
-      let within = lost_within (log_of case) case.ask.selection.resource case.floor case.window at floor case.floor_in_range.1 is in
+      let within = lost_within (record_log case) case.ask.selection.resource case.floor case.window at floor case.floor_in_range.1 is in
       (omega (arith, within.0, within.1, case.ends), omega (arith, within.1, case.ends))
 
   -- the texts of a record's lines are told apart
@@ -48,7 +48,7 @@ module _ (case : Record) where
   marks_none low high text none n mark = none n (omega (arith, mark.reached, case.ends)) mark.text_is
 
   pub marks_then : (low high : ℕ) (text : List ℕ) (at end : ℕ) (r : Option ℕ) → case.ask.bookmarks ≡ true → at ≤ 2 ^ 62 → text ≡ bookmark_line Whole case.ask.selection.resource at false
-      → (low ≤ at) × (at ≤ high) → end ≡ end_of (log_of case) → r ≡ (if leb at end then Some at else None) → IsOneWith (MarksAt case low high text) r
+      → (low ≤ at) × (at ≤ high) → end ≡ end_of (record_log case) → r ≡ (if leb at end then Some at else None) → IsOneWith (MarksAt case low high text) r
   marks_then low high text at end r wanted small is from end_is r_is = elim (cases_lt end at) [
     | inl past ↦
         let none : r ≡ None = r_is ∙ ap (λ (b : Bool). if b then Some at else None) (lt-leb at end past) in
@@ -72,8 +72,8 @@ module _ (case : Record) where
   loses_none low high text none n loss = let small = lost_low n loss.floor loss.borne in none n loss.floor small.0 small.1 loss.text_is
 
   pub loses_then : (low high : ℕ) (text : List ℕ) (at floor : ℕ) (r : Option ℕ) → at ≤ 2 ^ 62 → floor ≤ 2 ^ 62 → text ≡ expired_line at floor → (low ≤ at) × (at ≤ high)
-      → r ≡ (if is_lost (log_of case) case.floor case.window case.ask.selection.resource at floor then Some at else None) → IsOneWith (LosesAt case low high text) r
-  loses_then low high text at floor r small floor_small is from r_is = elim (cases_Bool (is_lost (log_of case) case.floor case.window case.ask.selection.resource at floor)) [
+      → r ≡ (if is_lost (record_log case) case.floor case.window case.ask.selection.resource at floor then Some at else None) → IsOneWith (LosesAt case low high text) r
+  loses_then low high text at floor r small floor_small is from r_is = elim (cases_Bool (is_lost (record_log case) case.floor case.window case.ask.selection.resource at floor)) [
     | inl borne ↦
         let some : r ≡ Some at = r_is ∙ ap (λ (b : Bool). if b then Some at else None) borne in
         subst (IsOneWith (LosesAt case low high text)) (sym some) (record { floor = floor; text_is = is; onward = from.0; within = from.1; borne = borne })
@@ -83,8 +83,8 @@ module _ (case : Record) where
         let lows = lost_low n loss.floor loss.borne in
         let same : n ≡ at = losses_apart n loss.floor at floor lows.0 small (sym loss.text_is ∙ is) in
         let floors : loss.floor ≡ floor = floors_apart n loss.floor at floor lows.1 floor_small (sym loss.text_is ∙ is) in
-        let bad : true ≡ false = sym loss.borne ∙ ap (λ (m : ℕ). is_lost (log_of case) case.floor case.window case.ask.selection.resource m loss.floor) same
-        ∙ ap (λ (m : ℕ). is_lost (log_of case) case.floor case.window case.ask.selection.resource at m) floors ∙ not in
+        let bad : true ≡ false = sym loss.borne ∙ ap (λ (m : ℕ). is_lost (record_log case) case.floor case.window case.ask.selection.resource m loss.floor) same
+        ∙ ap (λ (m : ℕ). is_lost (record_log case) case.floor case.window case.ask.selection.resource at m) floors ∙ not in
         cc)
   ]
 
@@ -100,8 +100,8 @@ module _ (case : Record) where
   goes_told at t more low text is under = record {
     found = λ texts r found. found_told (course_of case at) (apart_of at) t more low text texts r is found;
     under_way = record {
-      position = All-head (λ (u : TransitionData). u.rev ≤ max at (end_of (log_of case))) t more under.untold;
-      untold = All-tail (λ (u : TransitionData). u.rev ≤ max at (end_of (log_of case))) t more under.untold;
+      position = All-head (λ (u : TransitionData). u.rev ≤ max at (end_of (record_log case))) t more under.untold;
+      untold = All-tail (λ (u : TransitionData). u.rev ≤ max at (end_of (record_log case))) t more under.untold;
     };
   }
 

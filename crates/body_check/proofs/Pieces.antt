@@ -9,7 +9,7 @@ use Rattle.select_all.specs.Selecting.{selects}
 use Rattle.select_all.specs.Streams.{TransitionData, transitions}
 use Rattle.select_all.proofs.StreamLaws.{transitions_are_joined, no_transitions}
 use Rattle.select_all.proofs.EventLaws.{all_append}
-use Rattle.watch_rules.specs.Bodies.{Line, Told, Bookmark, Lost, Piece, Upto, Mark, position_after, piece_lines, loss_lines, ArePieces}
+use Rattle.watch_rules.specs.Bodies.{Line, Told, Bookmark, Lost, BodyPiece, Upto, Mark, reached_by, piece_lines, loss_lines, ArePieces}
 use Rattle.body_check.specs.Reading.{Course, highest, IsMark, IsLoss, Reads}
 use Rattle.body_check.proofs.Order.{BeginsAbove, cut, Rise, rise-from, untold_within, untold_rises}
 
@@ -28,12 +28,12 @@ course log text marks is_lost at = record {
 module _ (log : Log) (s : Selection) (text : Line → List ℕ) (marks : Bool) (is_lost : ℕ → ℕ → Bool) where
   -- lawful pieces from q on, and maybe a loss, have these texts and reach p
   pub record Goes (q : ℕ) (texts : List (List ℕ)) (p : ℕ) : Type 0 where
-    pub pieces : List Piece
+    pub pieces : List BodyPiece
     pub loss : Option ℕ
     pub are : ArePieces log marks q pieces
     pub borne : IfSome loss (λ floor. IsTrue (is_lost p floor))
     pub texts_are : texts ≡ map text (piece_lines log s q pieces ++ loss_lines p loss)
-    pub reached : p ≡ position_after q pieces
+    pub reached : p ≡ reached_by q pieces
 
   abbrev pub untold : ℕ → List TransitionData
   untold q = transitions log s q (end_of log)
@@ -229,20 +229,20 @@ module _ (log : Log) (is : IsLog log) (s : Selection) (text : Line → List ℕ)
   mark_then [] q x xs p mark reads = inl (q, mark, reads)
   mark_then (t ∷ more) q x xs p mark reads = inr (inl (q, mark, reads))
 
-  pieces_read : (pieces : List Piece) (q : ℕ) (loss : Option ℕ) → q ≤ c.stop → ArePieces log marks q pieces
-      → IfSome loss (λ floor. IsTrue (is_lost (position_after q pieces) floor))
-      → Reads c (untold log s text marks is_lost q) q (map text (piece_lines log s q pieces ++ loss_lines (position_after q pieces) loss)) (position_after q pieces)
+  pieces_read : (pieces : List BodyPiece) (q : ℕ) (loss : Option ℕ) → q ≤ c.stop → ArePieces log marks q pieces
+      → IfSome loss (λ floor. IsTrue (is_lost (reached_by q pieces) floor))
+      → Reads c (untold log s text marks is_lost q) q (map text (piece_lines log s q pieces ++ loss_lines (reached_by q pieces) loss)) (reached_by q pieces)
   pieces_read [] q loss le are borne = last_lines q loss le borne
   pieces_read (Upto to ∷ more) q loss le are borne =
       let next = pieces_read more to loss (omega (arith, are.1)) are.2 borne in
       let joined = transitions_are_joined (selects s) log s.resource q to (end_of log) are.0 are.1 in
-      let last : List Line = loss_lines (position_after to more) loss in
-      subst (λ (l : List TransitionData). Reads c l q (map text (piece_lines log s q (Upto to ∷ more) ++ last)) (position_after to more)) joined
-      (subst (λ (l : List (List ℕ)). Reads c (transitions log s q to ++ untold log s text marks is_lost to) q l (position_after to more))
+      let last : List Line = loss_lines (reached_by to more) loss in
+      subst (λ (l : List TransitionData). Reads c l q (map text (piece_lines log s q (Upto to ∷ more) ++ last)) (reached_by to more)) joined
+      (subst (λ (l : List (List ℕ)). Reads c (transitions log s q to ++ untold log s text marks is_lost to) q l (reached_by to more))
       (sym (joined_texts log s text marks is_lost (transitions log s q to) (piece_lines log s to more) last))
-      (push (transitions log s q to) (untold log s text marks is_lost to) q to (map text (piece_lines log s to more ++ last)) (position_after to more) are.0 (upto_all q to (transitions log s q to) (first_of_all q to)) next))
+      (push (transitions log s q to) (untold log s text marks is_lost to) q to (map text (piece_lines log s to more ++ last)) (reached_by to more) are.0 (upto_all q to (transitions log s q to) (first_of_all q to)) next))
   pieces_read (Mark ∷ more) q loss le are borne =
-      mark_then (untold log s text marks is_lost q) q (text (Bookmark q)) (map text (piece_lines log s q more ++ loss_lines (position_after q more) loss)) (position_after q more)
+      mark_then (untold log s text marks is_lost q) q (text (Bookmark q)) (map text (piece_lines log s q more ++ loss_lines (reached_by q more) loss)) (reached_by q more)
       (record { text_is = refl; wanted = are.0; onward = omega arith; within = highest_untold q le; reached = are.1 })
       (pieces_read more q loss le are.2 borne)
 

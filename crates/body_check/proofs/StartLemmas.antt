@@ -23,13 +23,13 @@ use Rattle.select_all.specs.Streams.{Standing, TransitionData, events_from, tran
 use Rattle.select_all.proofs.ListingLaws.{listings_are_one}
 use Rattle.select_all.proofs.StreamLaws.{transitions_are_joined, no_transitions}
 use Rattle.watch_record.specs.declared.records.Record.{Record}
-use Rattle.watch_rules.specs.Bodies.{Line, Body, position_after, position_of, opening_lines, piece_lines, loss_lines, lines_of, IsOpening, IsWatchBody}
+use Rattle.watch_rules.specs.Bodies.{Line, Body, reached_by, position_of, opening_lines, piece_lines, loss_lines, lines_of, IsOpening, IsWatchBody}
 use Rattle.watch_rules.specs.declared.starts.Start.{Start}
 use Rattle.watch_rules.specs.declared.starts.Start.TheVariants.{FromState, FromHere, FromRevision}
 use Rattle.body_check.specs.declared.found.Found.{Found}
 use Rattle.body_check.specs.Courses.{text_in, course_of, untold_at, rows_told, opening_texts, IsRanged}
 use Rattle.body_check.specs.Findings.{Behind, IsFound}
-use Rattle.body_check.specs.Judging.{log_of, IsToldBy}
+use Rattle.body_check.specs.Judging.{record_log, IsToldBy}
 use Rattle.body_check.specs.Losses.{is_lost}
 use Rattle.body_check.specs.Moves.{standing, drop_upto}
 use Rattle.body_check.specs.Reading.{IsUnderWay, Reads}
@@ -45,8 +45,8 @@ none_rise : AreRising []
 unfolding IsStrictlySortedBy
 none_rise = tt
 
-pub is_log : (case : Record) → IsLog (log_of case)
-is_log case = are_logs (log_of case) case.fitting none_rise (All-from_recursion (λ (row : RowData). row.rev ≤ case.first) [] tt) case.ends
+pub is_log : (case : Record) → IsLog (record_log case)
+is_log case = are_logs (record_log case) case.fitting none_rise (All-from_recursion (λ (row : RowData). row.rev ≤ case.first) [] tt) case.ends
 
 -- there is one list of rows at a start
 one_opening : (log : Log) (s : Selection) (start : Start) (at : ℕ) (rows others : List RowData) → IsOpening log s start at rows → IsOpening log s start at others → rows ≡ others
@@ -63,19 +63,19 @@ drop_first b (x ∷ xs) ys low begins = rw (le-leb x.rev b low.0) (drop_first b 
 
 module _ (case : Record) where
   abbrev log : Log
-  log = log_of case
+  log = record_log case
 
   abbrev s : Selection
   s = case.ask.selection
 
   abbrev lost : ℕ → ℕ → Bool
-  lost p floor = is_lost (log_of case) case.floor case.window case.ask.selection.resource p floor
+  lost p floor = is_lost (record_log case) case.floor case.window case.ask.selection.resource p floor
 
   abbrev Going : ℕ → List (List ℕ) → ℕ → Type 0
-  Going at texts p = Goes (log_of case) case.ask.selection (text_in case) case.ask.bookmarks (λ q floor. is_lost (log_of case) case.floor case.window case.ask.selection.resource q floor) at texts p
+  Going at texts p = Goes (record_log case) case.ask.selection (text_in case) case.ask.bookmarks (λ q floor. is_lost (record_log case) case.floor case.window case.ask.selection.resource q floor) at texts p
 
   abbrev IsEvictedHere : ℕ → ℕ → Type 0
-  IsEvictedHere p floor = IsEvicted (log_of case) case.floor case.window case.ask.selection.resource p floor
+  IsEvictedHere p floor = IsEvicted (record_log case) case.floor case.window case.ask.selection.resource p floor
 
   -- ---- the texts of a body
 
@@ -84,13 +84,13 @@ module _ (case : Record) where
 
   as_evicted : (p q : ℕ) (loss : Option ℕ) → p ≡ q → IfSome loss (λ floor. IsTrue (lost p floor)) → IfSome loss (λ floor. IsEvictedHere q floor)
   as_evicted p q None same borne = tt
-  as_evicted p q (Some floor) same borne = subst (λ (n : ℕ). IsEvictedHere n floor) same (lost_evicted (log_of case) case.ask.selection.resource case.floor case.window p floor borne)
+  as_evicted p q (Some floor) same borne = subst (λ (n : ℕ). IsEvictedHere n floor) same (lost_evicted (record_log case) case.ask.selection.resource case.floor case.window p floor borne)
 
   as_lost : (p : ℕ) (loss : Option ℕ) → IfSome loss (λ floor. IsEvictedHere p floor) → IfSome loss (λ floor. IsTrue (lost p floor))
   as_lost p None evicted = tt
-  as_lost p (Some floor) evicted = evicted_lost (log_of case) case.ask.selection.resource case.floor case.window p floor evicted
+  as_lost p (Some floor) evicted = evicted_lost (record_log case) case.ask.selection.resource case.floor case.window p floor evicted
 
-  module _ (at : ℕ) (rows : List RowData) (is : IsOpening (log_of case) case.ask.selection case.ask.start at rows) where
+  module _ (at : ℕ) (rows : List RowData) (is : IsOpening (record_log case) case.ask.selection case.ask.start at rows) where
     abbrev opening : List (List ℕ)
     opening = map (text_in case) (opening_lines case.ask at rows)
 
@@ -99,54 +99,54 @@ module _ (case : Record) where
     going_told more p goes =
         let body : Body = record { at = at; rows = rows; pieces = goes.pieces; loss = goes.loss } in
         record {
-          lines = lines_of (log_of case) case.ask body;
+          lines = lines_of (record_log case) case.ask body;
           tells = record {
             body = body;
-            lawful = record { opening = is; pieces = goes.are; lost = as_evicted p (position_after at goes.pieces) goes.loss goes.reached goes.borne };
+            lawful = record { opening = is; pieces = goes.are; lost = as_evicted p (reached_by at goes.pieces) goes.loss goes.reached goes.borne };
             begins = refl;
             lines_are = refl;
             reached = goes.reached;
           };
           texts_are =
               ap (λ (l : List (List ℕ)). map (text_in case) (opening_lines case.ask at rows) ++ l)
-              (goes.texts_are ∙ ap (λ (n : ℕ). map (text_in case) (piece_lines (log_of case) case.ask.selection at goes.pieces ++ loss_lines n goes.loss)) goes.reached)
-              ∙ sym (regrouped (opening_lines case.ask at rows) (piece_lines (log_of case) case.ask.selection at goes.pieces) (loss_lines (position_after at goes.pieces) goes.loss));
+              (goes.texts_are ∙ ap (λ (n : ℕ). map (text_in case) (piece_lines (record_log case) case.ask.selection at goes.pieces ++ loss_lines n goes.loss)) goes.reached)
+              ∙ sym (regrouped (opening_lines case.ask at rows) (piece_lines (record_log case) case.ask.selection at goes.pieces) (loss_lines (reached_by at goes.pieces) goes.loss));
         }
 
   -- a body's texts are those of its opening and what goes on from there
-  body_goes : (body : Body) → IsWatchBody (log_of case) case.floor case.window case.ask body
-      → Behind (map (text_in case) (opening_lines case.ask body.at body.rows)) (Going body.at) (map (text_in case) (lines_of (log_of case) case.ask body)) (position_of body)
+  body_goes : (body : Body) → IsWatchBody (record_log case) case.floor case.window case.ask body
+      → Behind (map (text_in case) (opening_lines case.ask body.at body.rows)) (Going body.at) (map (text_in case) (lines_of (record_log case) case.ask body)) (position_of body)
   body_goes body is = (
-    map (text_in case) (piece_lines (log_of case) case.ask.selection body.at body.pieces ++ loss_lines (position_of body) body.loss),
-    regrouped (opening_lines case.ask body.at body.rows) (piece_lines (log_of case) case.ask.selection body.at body.pieces) (loss_lines (position_of body) body.loss),
+    map (text_in case) (piece_lines (record_log case) case.ask.selection body.at body.pieces ++ loss_lines (position_of body) body.loss),
+    regrouped (opening_lines case.ask body.at body.rows) (piece_lines (record_log case) case.ask.selection body.at body.pieces) (loss_lines (position_of body) body.loss),
     record { pieces = body.pieces; loss = body.loss; are = is.pieces; borne = as_lost (position_of body) body.loss is.lost; texts_are = refl; reached = refl },
   )
 
-  told_goes : (at : ℕ) (rows : List RowData) → IsOpening (log_of case) case.ask.selection case.ask.start at rows → (texts : List (List ℕ)) (p : ℕ) → IsToldBy case at texts p
+  told_goes : (at : ℕ) (rows : List RowData) → IsOpening (record_log case) case.ask.selection case.ask.start at rows → (texts : List (List ℕ)) (p : ℕ) → IsToldBy case at texts p
       → Behind (map (text_in case) (opening_lines case.ask at rows)) (Going at) texts p
   told_goes at rows is texts p told =
       let body : Body = told.tells.body in
-      let here : IsOpening (log_of case) case.ask.selection case.ask.start at body.rows = subst (λ (n : ℕ). IsOpening (log_of case) case.ask.selection case.ask.start n body.rows) told.tells.begins told.tells.lawful.opening in
-      let same : body.rows ≡ rows = one_opening (log_of case) case.ask.selection case.ask.start at body.rows rows here is in
-      let texts_are : texts ≡ map (text_in case) (lines_of (log_of case) case.ask body) = told.texts_are ∙ ap (map (text_in case)) told.tells.lines_are in
+      let here : IsOpening (record_log case) case.ask.selection case.ask.start at body.rows = subst (λ (n : ℕ). IsOpening (record_log case) case.ask.selection case.ask.start n body.rows) told.tells.begins told.tells.lawful.opening in
+      let same : body.rows ≡ rows = one_opening (record_log case) case.ask.selection case.ask.start at body.rows rows here is in
+      let texts_are : texts ≡ map (text_in case) (lines_of (record_log case) case.ask body) = told.texts_are ∙ ap (map (text_in case)) told.tells.lines_are in
       subst (λ (l : List (List ℕ)). Behind (map (text_in case) (opening_lines case.ask at rows)) (Going at) l p) (sym texts_are)
-      (subst (λ (q : ℕ). Behind (map (text_in case) (opening_lines case.ask at rows)) (Going at) (map (text_in case) (lines_of (log_of case) case.ask body)) q) (sym told.tells.reached)
-      (subst (λ (r : List RowData). Behind (map (text_in case) (opening_lines case.ask at r)) (Going at) (map (text_in case) (lines_of (log_of case) case.ask body)) (position_of body)) same
-      (subst (λ (n : ℕ). Behind (map (text_in case) (opening_lines case.ask n body.rows)) (Going n) (map (text_in case) (lines_of (log_of case) case.ask body)) (position_of body)) told.tells.begins
+      (subst (λ (q : ℕ). Behind (map (text_in case) (opening_lines case.ask at rows)) (Going at) (map (text_in case) (lines_of (record_log case) case.ask body)) q) (sym told.tells.reached)
+      (subst (λ (r : List RowData). Behind (map (text_in case) (opening_lines case.ask at r)) (Going at) (map (text_in case) (lines_of (record_log case) case.ask body)) (position_of body)) same
+      (subst (λ (n : ℕ). Behind (map (text_in case) (opening_lines case.ask n body.rows)) (Going n) (map (text_in case) (lines_of (record_log case) case.ask body)) (position_of body)) told.tells.begins
       (body_goes body told.tells.lawful))))
 
   -- so what is found of the lines by reading is found of bodies
   pub found_told_by : (at : ℕ) (rows : List RowData) (texts : List (List ℕ)) (r : Found)
-      → IsOpening (log_of case) case.ask.selection case.ask.start at (rows_told case.ask.start case.ask.selection rows)
+      → IsOpening (record_log case) case.ask.selection case.ask.start at (rows_told case.ask.start case.ask.selection rows)
       → IsFound (Behind (opening_texts case at rows) (Reads (course_of case at) (untold_at case at) at)) texts r → IsFound (IsToldBy case at) texts r
   found_told_by at rows texts r is found =
       found-same (Behind (opening_texts case at rows) (Reads (course_of case at) (untold_at case at) at)) (IsToldBy case at) (
         λ xs p behind. subst (λ (l : List (List ℕ)). IsToldBy case at l p) (sym behind.1)
             (going_told at (rows_told case.ask.start case.ask.selection rows) is behind.0 p
-            (reads_start (log_of case) (is_log case) case.ask.selection (text_in case) case.ask.bookmarks (λ q floor. is_lost (log_of case) case.floor case.window case.ask.selection.resource q floor) at behind.0 p behind.2)),
+            (reads_start (record_log case) (is_log case) case.ask.selection (text_in case) case.ask.bookmarks (λ q floor. is_lost (record_log case) case.floor case.window case.ask.selection.resource q floor) at behind.0 p behind.2)),
         λ xs p told.
             let behind = told_goes at (rows_told case.ask.start case.ask.selection rows) is xs p told in
-            (behind.0, behind.1, starts_reads (log_of case) (is_log case) case.ask.selection (text_in case) case.ask.bookmarks (λ q floor. is_lost (log_of case) case.floor case.window case.ask.selection.resource q floor) at behind.0 p behind.2),
+            (behind.0, behind.1, starts_reads (record_log case) (is_log case) case.ask.selection (text_in case) case.ask.bookmarks (λ q floor. is_lost (record_log case) case.floor case.window case.ask.selection.resource q floor) at behind.0 p behind.2),
       ) texts r found
 
   -- ---- the moves
@@ -154,35 +154,35 @@ module _ (case : Record) where
   pub under_way : (at : ℕ) → IsUnderWay (course_of case at) (untold_at case at) at
   under_way at = record {
     position = omega arith;
-    untold = All-from_recursion (λ (t : TransitionData). t.rev ≤ max at (end_of (log_of case))) (untold_at case at) (upto (untold_at case at) (untold_within (selects case.ask.selection) (log_of case) case.ask.selection.resource (is_log case) at (end_of (log_of case))));
+    untold = All-from_recursion (λ (t : TransitionData). t.rev ≤ max at (end_of (record_log case))) (untold_at case at) (upto (untold_at case at) (untold_within (selects case.ask.selection) (record_log case) case.ask.selection.resource (is_log case) at (end_of (record_log case))));
   }
     where
-      upto : (ts : List TransitionData) → AllByRecursion (λ (t : TransitionData). (at < t.rev) × (t.rev ≤ end_of (log_of case))) ts → AllByRecursion (λ (t : TransitionData). t.rev ≤ max at (end_of (log_of case))) ts
+      upto : (ts : List TransitionData) → AllByRecursion (λ (t : TransitionData). (at < t.rev) × (t.rev ≤ end_of (record_log case))) ts → AllByRecursion (λ (t : TransitionData). t.rev ≤ max at (end_of (record_log case))) ts
       upto [] all = tt
       upto (t ∷ ts) all = (omega (arith, all.0.1), upto ts all.1)
 
   -- the moves from one start to a later one are passed over
   pub untold_later : (at later : ℕ) → at ≤ later → drop_upto later (untold_at case at) ≡ untold_at case later
-  untold_later at later le = elim (cases_lt (end_of (log_of case)) later) [
+  untold_later at later le = elim (cases_lt (end_of (record_log case)) later) [
     | inl past ↦
-        let none : untold_at case later ≡ [] = no_transitions (selects case.ask.selection) (log_of case) case.ask.selection.resource later (end_of (log_of case)) (omega arith) in
+        let none : untold_at case later ≡ [] = no_transitions (selects case.ask.selection) (record_log case) case.ask.selection.resource later (end_of (record_log case)) (omega arith) in
         ap (drop_upto later) (sym (append-nil (untold_at case at)))
-        ∙ drop_first later (untold_at case at) [] (low later (end_of (log_of case)) (untold_at case at) (omega arith) (within at (end_of (log_of case)))) tt ∙ sym none
+        ∙ drop_first later (untold_at case at) [] (low later (end_of (record_log case)) (untold_at case at) (omega arith) (within at (end_of (record_log case)))) tt ∙ sym none
     | inr reached ↦
-        let joined = transitions_are_joined (selects case.ask.selection) (log_of case) case.ask.selection.resource at later (end_of (log_of case)) le reached in
+        let joined = transitions_are_joined (selects case.ask.selection) (record_log case) case.ask.selection.resource at later (end_of (record_log case)) le reached in
         ap (drop_upto later) (sym joined)
-        ∙ drop_first later (transitions (log_of case) case.ask.selection at later) (untold_at case later)
-        (low later later (transitions (log_of case) case.ask.selection at later) (omega arith) (within at later)) (above later (untold_at case later) (within later (end_of (log_of case))))
+        ∙ drop_first later (transitions (record_log case) case.ask.selection at later) (untold_at case later)
+        (low later later (transitions (record_log case) case.ask.selection at later) (omega arith) (within at later)) (above later (untold_at case later) (within later (end_of (record_log case))))
   ]
     where
-      within : (a b : ℕ) → AllByRecursion (λ (t : TransitionData). (a < t.rev) × (t.rev ≤ b)) (transitions (log_of case) case.ask.selection a b)
-      within a b = untold_within (selects case.ask.selection) (log_of case) case.ask.selection.resource (is_log case) a b
+      within : (a b : ℕ) → AllByRecursion (λ (t : TransitionData). (a < t.rev) × (t.rev ≤ b)) (transitions (record_log case) case.ask.selection a b)
+      within a b = untold_within (selects case.ask.selection) (record_log case) case.ask.selection.resource (is_log case) a b
 
       low : (top b : ℕ) (ts : List TransitionData) → b ≤ top → AllByRecursion (λ (t : TransitionData). (at < t.rev) × (t.rev ≤ b)) ts → AllByRecursion (λ (t : TransitionData). t.rev ≤ top) ts
       low top b [] small all = tt
       low top b (t ∷ ts) small all = (omega (arith, all.0.1), low top b ts small all.1)
 
-      above : (b : ℕ) (ts : List TransitionData) → AllByRecursion (λ (t : TransitionData). (b < t.rev) × (t.rev ≤ end_of (log_of case))) ts → BeginsAbove b ts
+      above : (b : ℕ) (ts : List TransitionData) → AllByRecursion (λ (t : TransitionData). (b < t.rev) × (t.rev ≤ end_of (record_log case))) ts → BeginsAbove b ts
       above b [] all = tt
       above b (t ∷ ts) all = all.0.0
 
@@ -191,7 +191,7 @@ module _ (case : Record) where
   abbrev From : ℕ → List TransitionData
   From n =
       filter_map (transition_by (selects case.ask.selection))
-      (events_from case.ask.selection.resource (λ key. fold (row_next case.ask.selection.resource key) (row_in_base [] case.ask.selection.resource key) (take n case.log.items)) (drop n (take (end_of (log_of case) - case.first) case.log.items)))
+      (events_from case.ask.selection.resource (λ key. fold (row_next case.ask.selection.resource key) (row_in_base [] case.ask.selection.resource key) (take n case.log.items)) (drop n (take (end_of (record_log case) - case.first) case.log.items)))
 
   base_none : (resource : Resource) (key : List ℕ) → row_in_base [] resource key ≡ None
   base_none resource key = elim (cases_Bool (same_resource resource Pods)) [ inl pods ↦ rw pods refl | inr other ↦ rw other refl ]
@@ -199,11 +199,11 @@ module _ (case : Record) where
   pub moves_are : told_by case.ask.selection case.log.items ≡ untold_at case case.first
   moves_are =
       let none : case.first - case.first ≡ 0 = omega arith in
-      let all : take (end_of (log_of case) - case.first) case.log.items ≡ case.log.items = take_all case.log.items (end_of (log_of case) - case.first) (omega arith) in
+      let all : take (end_of (record_log case) - case.first) case.log.items ≡ case.log.items = take_all case.log.items (end_of (record_log case) - case.first) (omega arith) in
       let stood : (λ (key : List ℕ). row_in_base [] case.ask.selection.resource key) ≡ (λ key. None) = λ i key. base_none case.ask.selection.resource key i in
       sym (
       ap From none
-      ∙ ap (λ (rows : Standing). filter_map (transition_by (selects case.ask.selection)) (events_from case.ask.selection.resource rows (take (end_of (log_of case) - case.first) case.log.items))) stood
+      ∙ ap (λ (rows : Standing). filter_map (transition_by (selects case.ask.selection)) (events_from case.ask.selection.resource rows (take (end_of (record_log case) - case.first) case.log.items))) stood
       ∙ ap (λ (l : List RevisionData). filter_map (transition_by (selects case.ask.selection)) (events_from case.ask.selection.resource (λ key. None) l)) all
       )
 
@@ -211,10 +211,10 @@ module _ (case : Record) where
   pub untold_before : (at : ℕ) → at < case.first → drop_upto at (untold_at case case.first) ≡ untold_at case at
   untold_before at below =
       let same : case.first - case.first ≡ at - case.first = omega arith in
-      drop_first at [] (untold_at case case.first) tt (above (untold_at case case.first) (untold_within (selects case.ask.selection) (log_of case) case.ask.selection.resource (is_log case) case.first (end_of (log_of case))))
+      drop_first at [] (untold_at case case.first) tt (above (untold_at case case.first) (untold_within (selects case.ask.selection) (record_log case) case.ask.selection.resource (is_log case) case.first (end_of (record_log case))))
       ∙ ap From same
     where
-      above : (ts : List TransitionData) → AllByRecursion (λ (t : TransitionData). (case.first < t.rev) × (t.rev ≤ end_of (log_of case))) ts → BeginsAbove at ts
+      above : (ts : List TransitionData) → AllByRecursion (λ (t : TransitionData). (case.first < t.rev) × (t.rev ≤ end_of (record_log case))) ts → BeginsAbove at ts
       above [] all = tt
       above (t ∷ ts) all = omega (arith, all.0.0)
 
@@ -225,7 +225,7 @@ module _ (case : Record) where
 
   pub opens : (start : Start) → IsRanged start → (place at : ℕ) → at ≡ case.first + place → place ≤ length case.log.items
       → (rows : BTreeMap (List ℕ) RowData) → Holds rows (standing case.ask.selection.resource (take place case.log.items))
-      → IsOpening (log_of case) case.ask.selection start at (rows_told start case.ask.selection (values rows))
+      → IsOpening (record_log case) case.ask.selection start at (rows_told start case.ask.selection (values rows))
   opens (FromState meaning) ranged place at at_is within rows holds =
       let stands : Standing = standing case.ask.selection.resource (take place case.log.items) in
       let here : place ≡ at - case.first = omega (arith, at_is) in (

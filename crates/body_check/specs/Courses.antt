@@ -11,7 +11,7 @@ use Rattle.watch_rules.specs.Bodies.{Line, Told, Bookmark, Closing, Lost, openin
 use Rattle.watch_rules.specs.declared.starts.Start.{Start}
 use Rattle.watch_rules.specs.declared.starts.Start.TheVariants.{FromState, FromHere, FromRevision}
 use Rattle.watch_texts.specs.Texts.{line_text}
-use Rattle.body_check.specs.Judging.{log_of, IsAtLeast}
+use Rattle.body_check.specs.Judging.{record_log, IsAtLeast}
 use Rattle.body_check.specs.Losses.{is_lost}
 use Rattle.body_check.specs.Reading.{Course}
 
@@ -25,14 +25,14 @@ course_of case at = record {
   mark = λ p. text_in case (Bookmark p);
   lost = λ p floor. text_in case (Lost p floor);
   marks = case.ask.bookmarks;
-  end = end_of (log_of case);
-  stop = max at (end_of (log_of case));
-  is_lost = is_lost (log_of case) case.floor case.window case.ask.selection.resource;
+  end = end_of (record_log case);
+  stop = max at (end_of (record_log case));
+  is_lost = is_lost (record_log case) case.floor case.window case.ask.selection.resource;
 }
 
 -- the transitions above a position
 abbrev pub untold_at : Record → ℕ → List TransitionData
-untold_at case at = transitions (log_of case) case.ask.selection at (end_of (log_of case))
+untold_at case at = transitions (record_log case) case.ask.selection at (end_of (record_log case))
 
 -- the rows that are told at a start, where these stand
 abbrev pub rows_told : Start → Selection → List RowData → List RowData

@@ -15,8 +15,8 @@ use Rattle.body_check.specs.declared.judging.Checked.TheVariants.{Lawful, Unlawf
 use Rattle.body_check.specs.Losses.{log_from}
 
 -- the log of a record
-abbrev pub log_of : Record → Log
-log_of case = log_from case.first case.log.items
+abbrev pub record_log : Record → Log
+record_log case = log_from case.first case.log.items
 
 -- ---- where the ask lets a body begin
 
@@ -34,14 +34,14 @@ IsAllowed log (FromHere meaning) at = (log.first ≤ at) × (at ≤ end_of log) 
 IsAllowed log (FromRevision revision) at = at ≡ revision
 
 abbrev pub MayStart : Record → ℕ → Type 0
-MayStart case at = IsAllowed (log_of case) case.ask.start at
+MayStart case at = IsAllowed (record_log case) case.ask.start at
 
 -- ---- texts of bodies
 
 -- The texts are those of a lawful body that begins at `at` and reaches p.
 pub record IsToldBy (case : Record) (at : ℕ) (texts : List (List ℕ)) (p : ℕ) : Type 0 where
   pub lines : List Line
-  pub tells : TellsBody (log_of case) case.floor case.window case.ask at lines p
+  pub tells : TellsBody (record_log case) case.floor case.window case.ask at lines p
   pub texts_are : texts ≡ map (line_text Whole case.ask.selection.resource) lines
 
 -- They are the first ones of such a body.

@@ -10,7 +10,7 @@ use Rattle.body_check.specs.declared.found.Found.TheVariants.{Reached, Broken}
 use Rattle.body_check.specs.declared.found.Found.{Found}
 use Rattle.body_check.specs.Courses.{text_in}
 use Rattle.body_check.specs.Findings.{IsFound, later}
-use Rattle.body_check.specs.Judging.{log_of}
+use Rattle.body_check.specs.Judging.{record_log}
 use Rattle.body_check.specs.Losses.{is_lost}
 use Rattle.body_check.specs.Reading.{Course, IsUnderWay, Reads}
 
@@ -20,7 +20,7 @@ pub record MarksAt (case : Record) (low high : ℕ) (text : List ℕ) (at : ℕ)
   pub wanted : IsTrue case.ask.bookmarks
   pub onward : low ≤ at
   pub within : at ≤ high
-  pub reached : at ≤ end_of (log_of case)
+  pub reached : at ≤ end_of (record_log case)
 
 -- It is a loss there that the log bears out.
 pub record LosesAt (case : Record) (low high : ℕ) (text : List ℕ) (at : ℕ) : Type 0 where
@@ -28,7 +28,7 @@ pub record LosesAt (case : Record) (low high : ℕ) (text : List ℕ) (at : ℕ)
   pub text_is : text ≡ text_in case (Lost at floor)
   pub onward : low ≤ at
   pub within : at ≤ high
-  pub borne : IsTrue (is_lost (log_of case) case.floor case.window case.ask.selection.resource at floor)
+  pub borne : IsTrue (is_lost (record_log case) case.floor case.window case.ask.selection.resource at floor)
 
 -- the number for which a fact holds, if there is one
 abbrev pub IsOneWith : (ℕ → Type 0) → Option ℕ → Type 0

@@ -3,7 +3,7 @@
 ghost use Rattle.std.specs.Prelude.{◌≡◌, ◌≤◌, ◌↔◌, ◌==◌, IsTrue, nat_le, if◌then◌else◌};
 ghost use Rattle.rev_log.specs.Logs.{end_of as log_end};
 ghost use Rattle.body_check.specs.Courses.{course_of};
-ghost use Rattle.body_check.specs.Judging.{log_of};
+ghost use Rattle.body_check.specs.Judging.{record_log};
 ghost use Rattle.body_check.specs.Findings.{IsFound};
 ghost use Rattle.body_check.specs.Losses.{is_lost as is_lost_by};
 ghost use Rattle.body_check.specs.Reading.{IsUnderWay, Reads, highest};
@@ -81,7 +81,7 @@ fn highest_at(case: &Record, at: u64, untold: &[Move]) -> u64
 
 // The last revision of the log.
 fn end_of(case: &Record) -> u64
-    ensures { result ≡ log_end (log_of case.now) }
+    ensures { result ≡ log_end (record_log case.now) }
 {
     case.first + case.log.len() as u64
 }
@@ -154,7 +154,7 @@ fn is_from(at: u64, low: u64, high: u64) -> bool
 
 // The position of a loss, if the log bears it out.
 fn borne_out(case: &Record, at: u64, floor: u64) -> Option<u64>
-    ensures { result ≡ (if is_lost_by (log_of case.now) case.now.floor case.now.window case.now.ask.selection.resource at floor then Some at else None) }
+    ensures { result ≡ (if is_lost_by (record_log case.now) case.now.floor case.now.window case.now.ask.selection.resource at floor then Some at else None) }
 {
     let resource = case.ask.selection.resource;
     if is_lost(

@@ -6,7 +6,7 @@ ghost use Rattle.rev_log.specs.Logs.{end_of};
 ghost use Rattle.rev_log.specs.Rows.{Holds};
 ghost use Rattle.watch_rules.specs.Bodies.{IsOpening};
 ghost use Rattle.body_check.specs.Courses.{rows_told, untold_at, Admits, IsRanged};
-ghost use Rattle.body_check.specs.Judging.{IsAtLeast, IsJudged, JudgementsAreOne, log_of};
+ghost use Rattle.body_check.specs.Judging.{IsAtLeast, IsJudged, JudgementsAreOne, record_log};
 ghost use Rattle.body_check.specs.Moves.{standing};
 ghost use Rattle.body_check.specs.Rounds.{IsTriedBy, IsRoundOf};
 
@@ -86,8 +86,8 @@ fn from_several(alloc: Global, case: &Record, moves: &[Move]) -> Result<Checked,
 fn attempt(case: &Record, at: u64, rows: &Rows, rest: &[Move], best: usize) -> Found
     requires ranged { IsRanged case.now.ask.start }
     requires begun { case.now.first ≤ at }
-    requires reached { at ≤ end_of (log_of case.now) }
-    requires stands { IsOpening (log_of case.now) case.now.ask.selection case.now.ask.start at (rows_told case.now.ask.start case.now.ask.selection (values rows.now)) }
+    requires reached { at ≤ end_of (record_log case.now) }
+    requires stands { IsOpening (record_log case.now) case.now.ask.selection case.now.ask.start at (rows_told case.now.ask.start case.now.ask.selection (values rows.now)) }
     requires rest { rest.now ≡ untold_at case.now at }
     requires tried { IsTriedBy case.now at best }
     ensures { IsRoundOf case.now at result }

@@ -5,7 +5,7 @@ use Rattle.std.proofs.lemmas.Slice.Eq.{bytes_eq-Decides}
 use Rattle.command_line.specs.declared.asked.WordsNo.{WordsNo}
 use Rattle.command_line.specs.declared.asked.WordsNo.TheVariants.{Bad, Memory}
 use Rattle.command_line.specs.Options.{ReadsLoad, ReadsServe}
-use Rattle.command_line.specs.Words.{Reads, asks_other, begins_with}
+use Rattle.command_line.specs.Words.{ReadsWords, asks_other, begins_with}
 
 false-ne-true : false ≡ true → ⊥
 false-ne-true e = cc
@@ -28,7 +28,7 @@ serve-isnt-check e = unequal (sum (codes "serve")) (sum (codes "check")) 549 510
 
 -- what is refused of a server is refused of the words
 pub bad_serve : (words : List (List ℕ)) (fault : WordsNo) → asks_other words ≡ true → begins_with (codes "session") words ≡ false →
-    begins_with (codes "serve") words ≡ true → ReadsServe words (Err fault) → Reads words (Err fault)
+    begins_with (codes "serve") words ≡ true → ReadsServe words (Err fault) → ReadsWords words (Err fault)
 bad_serve words Bad other no-session serve h = (
   other,
   λ s. absurd (false-ne-true (sym no-session ∙ s)),
@@ -40,7 +40,7 @@ bad_serve words Memory other no-session serve h = tt
 
 -- and so is what is refused of a load
 pub bad_load : (words : List (List ℕ)) (fault : WordsNo) → asks_other words ≡ true → begins_with (codes "session") words ≡ false →
-    begins_with (codes "serve") words ≡ false → begins_with (codes "load") words ≡ true → ReadsLoad words (Err fault) → Reads words (Err fault)
+    begins_with (codes "serve") words ≡ false → begins_with (codes "load") words ≡ true → ReadsLoad words (Err fault) → ReadsWords words (Err fault)
 bad_load words Bad other no-session no-serve load h = (
   other,
   λ s. absurd (false-ne-true (sym no-session ∙ s)),

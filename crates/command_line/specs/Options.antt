@@ -52,9 +52,9 @@ within low high (Ok n) = bounded low high n
 within low high (Err fault) = None
 
 -- what is given for an option, in decimal digits
-abbrev pub number : ℕ → ℕ → ℕ → Option Text → Option ℕ
-number low high default None = Some default
-number low high default (Some text) = within low high (revision_of text)
+abbrev pub option_number : ℕ → ℕ → ℕ → Option Text → Option ℕ
+option_number low high default None = Some default
+option_number low high default (Some text) = within low high (revision_of text)
 
 -- what is given for an option that has no usual number, if anything is
 abbrev pub optional : ℕ → ℕ → Option Text → Option (Option ℕ)
@@ -67,29 +67,29 @@ optional low high (Some text) = option_map (λ n. Some n) (within low high (revi
 abbrev pub with_watches : List Row → Settings → Option Settings
 with_watches rows s =
     option_and_then (λ bookmark. option_map (λ timeout. record s { bookmark_ms = bookmark; timeout_s = timeout })
-    (number 1 1000000 usual.timeout_s (first_of (codes "timeout-s") rows)))
-    (number 1 86400000 usual.bookmark_ms (first_of (codes "bookmark-ms") rows))
+    (option_number 1 1000000 usual.timeout_s (first_of (codes "timeout-s") rows)))
+    (option_number 1 86400000 usual.bookmark_ms (first_of (codes "bookmark-ms") rows))
 
 -- the settings with what is given of how much waits for a watcher and is told at once, and of a watch's times
 abbrev pub with_turns : List Row → Settings → Option Settings
 with_turns rows s =
     option_and_then (λ lane. option_and_then (λ batch. with_watches rows (record s { lane = lane; batch = batch }))
-    (number 1 10000 usual.batch (first_of (codes "batch") rows)))
-    (number 1 1024 usual.lane (first_of (codes "lane") rows))
+    (option_number 1 10000 usual.batch (first_of (codes "batch") rows)))
+    (option_number 1 1024 usual.lane (first_of (codes "lane") rows))
 
 -- the settings with what is given of how long changes are kept, in milliseconds, of how many states are, and of watches
 abbrev pub with_ages : List Row → Settings → Option Settings
 with_ages rows s =
     option_and_then (λ fresh. option_and_then (λ history. with_turns rows (record s { fresh_ms = fresh; history = history }))
-    (number 1 1000000 usual.history (first_of (codes "history") rows)))
-    (number 1 86400000 usual.fresh_ms (first_of (codes "fresh-ms") rows))
+    (option_number 1 1000000 usual.history (first_of (codes "history") rows)))
+    (option_number 1 86400000 usual.fresh_ms (first_of (codes "fresh-ms") rows))
 
 -- the settings that are given; the greatest window is at least the window, and is the window where it isn't given
 abbrev pub settings_of : List Row → Option Settings
 settings_of rows =
     option_and_then (λ window. option_and_then (λ most. with_ages rows (record usual { window = window; window_max = most }))
-    (number window 102400 window (first_of (codes "window-max") rows)))
-    (number 1 102400 usual.window (first_of (codes "window") rows))
+    (option_number window 102400 window (first_of (codes "window-max") rows)))
+    (option_number 1 102400 usual.window (first_of (codes "window") rows))
 
 -- a server's options with what is given of its peer
 abbrev pub with_peer : List Row → ServeOptions → Option ServeOptions
@@ -100,10 +100,10 @@ with_peer rows options =
 abbrev pub with_connections : List Row → Settings → Option ServeOptions
 with_connections rows settings =
     option_and_then (λ port. option_and_then (λ workers. option_and_then (λ open_at_once. option_and_then (λ connections. with_peer rows (record { port = port; workers = workers; «open» = open_at_once; connections = connections; peer = None; settings = settings }))
-    (number 0 (2 ^ 62) 0 (first_of (codes "connections") rows)))
-    (number 1 65536 16384 (first_of (codes "open") rows)))
-    (number 1 64 4 (first_of (codes "workers") rows)))
-    (number 0 65535 8001 (first_of (codes "port") rows))
+    (option_number 0 (2 ^ 62) 0 (first_of (codes "connections") rows)))
+    (option_number 1 65536 16384 (first_of (codes "open") rows)))
+    (option_number 1 64 4 (first_of (codes "workers") rows)))
+    (option_number 0 65535 8001 (first_of (codes "port") rows))
 
 -- how a server is set by all options of `serve`
 abbrev pub serve_of : List Row → Option ServeOptions
@@ -113,8 +113,8 @@ serve_of rows = option_and_then (λ settings. with_connections rows settings) (s
 abbrev pub load_of : List Row → Option LoadOptions
 load_of rows =
     option_and_then (λ from. option_map (λ requests. record { from = from; requests = requests })
-    (number 0 100000 1000 (first_of (codes "requests") rows)))
-    (number 0 (2 ^ 62) 1 (first_of (codes "from") rows))
+    (option_number 0 100000 1000 (first_of (codes "requests") rows)))
+    (option_number 0 (2 ^ 62) 1 (first_of (codes "from") rows))
 
 -- ---- the words of a command
 

@@ -33,24 +33,24 @@ asks_other words = not (has_word (codes "--help") words) && not (has_word (codes
 
 -- what the words ask for, or why they ask for nothing; a command is its word, and then options as clap takes them, with
 -- numbers in their ranges
-abbrev pub Reads : List (List ℕ) → Result Asked WordsNo → Type 0
-Reads words (Ok Help) = asks_help words ≡ true
-Reads words (Ok Version) = asks_version words ≡ true
-Reads words (Ok (Session settings)) =
+abbrev pub ReadsWords : List (List ℕ) → Result Asked WordsNo → Type 0
+ReadsWords words (Ok Help) = asks_help words ≡ true
+ReadsWords words (Ok Version) = asks_version words ≡ true
+ReadsWords words (Ok (Session settings)) =
     (asks_other words ≡ true) × (begins_with (codes "session") words ≡ true) × ReadsSettings words (Ok settings)
-Reads words (Ok (Serve options)) =
+ReadsWords words (Ok (Serve options)) =
     (asks_other words ≡ true) × (begins_with (codes "serve") words ≡ true) × ReadsServe words (Ok options)
-Reads words (Ok (Load options)) =
+ReadsWords words (Ok (Load options)) =
     (asks_other words ≡ true) × (begins_with (codes "load") words ≡ true) × ReadsLoad words (Ok options)
-Reads words (Ok Check) =
+ReadsWords words (Ok Check) =
     (asks_other words ≡ true) × (begins_with (codes "check") words ≡ true) × ReadsCheck words (Ok tt)
-Reads words (Err Bad) =
+ReadsWords words (Err Bad) =
     (asks_other words ≡ true)
     × (begins_with (codes "session") words ≡ true → ReadsSettings words (Err Bad))
     × (begins_with (codes "serve") words ≡ true → ReadsServe words (Err Bad))
     × (begins_with (codes "load") words ≡ true → ReadsLoad words (Err Bad))
     × (begins_with (codes "check") words ≡ true → ReadsCheck words (Err Bad))
-Reads words (Err Memory) = ⊤
+ReadsWords words (Err Memory) = ⊤
 
 -- a server is set within its ranges
 pub record AreServed (options : ServeOptions) : Type 0 where

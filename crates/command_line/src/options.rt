@@ -58,7 +58,7 @@ pub(crate) fn number(
     usual: u64,
 ) -> Option<u64>
     requires usual { (low ≤ usual) × (usual ≤ high) }
-    ensures value { result ≡ spec.number low high usual (first_of name.now (rows_of (found_of matches.now))) }
+    ensures value { result ≡ spec.option_number low high usual (first_of name.now (rows_of (found_of matches.now))) }
     ensures range { IfSome result (λ n. (low ≤ n) × (n ≤ high)) }
 {
     match matches.get_str(name) {

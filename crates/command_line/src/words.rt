@@ -11,7 +11,7 @@ use std::alloc::Global;
 /// What the words of a command line ask for, behind the program's name: help, the version, one session, a server, a
 /// load, or a check.
 pub fn read_words(alloc: Global, words: &[String]) -> Result<Asked, WordsNo>
-    ensures reads { spec.Reads (map string_bytes words.now) result }
+    ensures reads { spec.ReadsWords (map string_bytes words.now) result }
     ensures range { IfOk result spec.IsInRange }
 {
     if has_word(words, "--help") {

@@ -46,10 +46,10 @@ abbrev pub resources_in : List ℕ → List ℕ → List Resource
 resources_in group version = filter (λ r. bytes_eq group (group_of r) && bytes_eq version (version_of r)) all_resources
 
 -- texts, joined by commas
-abbrev pub joined : List (List ℕ) → List ℕ
-joined [] = []
-joined (text ∷ []) = text
-joined (text ∷ next ∷ more) = text ++ 44 ∷ joined (next ∷ more)
+abbrev pub joined_items : List (List ℕ) → List ℕ
+joined_items [] = []
+joined_items (text ∷ []) = text
+joined_items (text ∷ next ∷ more) = text ++ 44 ∷ joined_items (next ∷ more)
 
 -- ---- groups
 
@@ -72,10 +72,10 @@ document_text Groups = concat (codes "{\"kind\":\"APIGroupList\",\"apiVersion\":
 document_text AppsGroup = concat (codes "{\"kind\":\"APIGroup\",\"apiVersion\":\"v1\"," ∷ apps_members ∷ codes "}" ∷ [])
 document_text CoreResources =
     concat (codes "{\"kind\":\"APIResourceList\",\"groupVersion\":\"v1\",\"resources\":["
-    ∷ joined (namespaces_text ∷ map resource_text (resources_in (codes "") (codes "v1"))) ∷ codes "]}" ∷ [])
+    ∷ joined_items (namespaces_text ∷ map resource_text (resources_in (codes "") (codes "v1"))) ∷ codes "]}" ∷ [])
 document_text AppsResources =
     concat (codes "{\"kind\":\"APIResourceList\",\"apiVersion\":\"v1\",\"groupVersion\":\"apps/v1\",\"resources\":["
-    ∷ joined (map resource_text (resources_in (codes "apps") (codes "v1"))) ∷ codes "]}" ∷ [])
+    ∷ joined_items (map resource_text (resources_in (codes "apps") (codes "v1"))) ∷ codes "]}" ∷ [])
 document_text (Namespace name) =
     concat (codes "{\"kind\":\"Namespace\",\"apiVersion\":\"v1\",\"metadata\":{\"name\":\"" ∷ name
     ∷ codes "\",\"labels\":{\"kubernetes.io/metadata.name\":\"" ∷ name

@@ -15,7 +15,7 @@ use Rattle.kube_meta.proofs.KeyLemmas.{tested}
 use Rattle.kube_meta.proofs.ResourceLemmas.{plurals}
 use Rattle.kube_meta.proofs.RevisionLemmas.{are_read_back}
 use Rattle.select_all.specs.declared.selection.Selection.{Selection}
-use Rattle.list_rules.specs.Tokens.{TokenTexts, IsOneLine, is_line_feed, line, texts_of, spaced, list_namespace, token_lines, token_body, token_read, texts_read, is_of_list}
+use Rattle.list_rules.specs.Tokens.{TokenTexts, IsOneLine, is_line_feed, line, token_texts, spaced, list_namespace, token_lines, token_body, token_read, texts_read, is_of_list}
 use Rattle.list_rules.proofs.TextLemmas.{line_back}
 use Rattle.list_rules.proofs.NameLemmas.{revision_is_one_line, plural_is_one_line, key_is_one_line}
 
@@ -30,7 +30,7 @@ spaced_is_one_line (b ∷ text) = elim (cases_Bool (is_line_feed b)) [
 ]
 
 six_back : (a b c d e f g : List ℕ) → IsOneLine a → IsOneLine b → IsOneLine c → IsOneLine d → IsOneLine e → IsOneLine f
-    → texts_of (line a (line b (line c (line d (line e (line f g))))))
+    → token_texts (line a (line b (line c (line d (line e (line f g))))))
     ≡ Some (record { version = a; revision = b; resource = c; namespace = d; key = e; label = f; field = g })
 six_back a b c d e f g ha hb hc hd he hf =
     rw (
@@ -57,11 +57,11 @@ pub read_back : (s : Selection) (label field : List ℕ) (rev : ℕ) (key text :
     → token_body text ≡ Some (token_lines s label field rev key) → token_read text s label field ≡ Ok (rev, key)
 read_back s label field rev key text pos low is one body =
     let t : TokenTexts = record { version = codes "1"; revision = decimal rev; resource = plural_of s.resource; namespace = list_namespace s.ns; key = key; label = spaced label; field = field } in
-    let parts : texts_of (token_lines s label field rev key) ≡ Some t =
+    let parts : token_texts (token_lines s label field rev key) ≡ Some t =
     six_back (codes "1") (decimal rev) (plural_of s.resource) (list_namespace s.ns) key (spaced label) field
     refl (revision_is_one_line rev low) (plural_is_one_line s.resource) one (key_is_one_line key is) (spaced_is_one_line label) in
     let list : is_of_list t s label field ≡ true = rw (same_text (plural_of s.resource), same_text (list_namespace s.ns), same_text (spaced label), same_text field) refl in
-    ap (λ (b : Option (List ℕ)). texts_read (option_and_then texts_of b) s label field) body
+    ap (λ (b : Option (List ℕ)). texts_read (option_and_then token_texts b) s label field) body
     ∙ ap (λ (o : Option TokenTexts). texts_read o s label field) parts
     ∙ accepted t s label field rev (are_read_back.0 rev low) (ne_eqb rev 0 (omega arith)) refl (plural_passes s.resource) (key_passes key is) list
 

@@ -8,15 +8,15 @@ use Rattle.list_rules.specs.declared.refusal.AskNo.TheVariants.{BadContinue, Mem
 use Rattle.list_rules.specs.declared.refusal.TokenNo.{TokenNo}
 use Rattle.list_rules.specs.declared.refusal.TokenNo.TheVariants as token_no
 use Rattle.list_rules.specs.declared.options.Options.{Options}
-use Rattle.list_rules.specs.Options.{Pairs, given, text_of, options_of, first_fault, means, limit_of}
+use Rattle.list_rules.specs.Options.{QueryPairs, given, parameter_text, options_of, options_fault, means, page_limit}
 use Rattle.list_rules.specs.Tokens.{token_read}
 
 -- what a list with no token asks for: its first page, at a revision of the meaning that its options have
 abbrev pub first_page : Selection → Options → List ℕ → List ℕ → ListAsk
 first_page s o label field = record {
   selection = s;
-  meaning = means o.matching o.revision (limit_of o.limit);
-  limit = limit_of o.limit;
+  meaning = means o.matching o.revision (page_limit o.limit);
+  limit = page_limit o.limit;
   after = None;
   label_text = label;
   field_text = field;
@@ -33,7 +33,7 @@ later_page s o label field (Err fault) = Err (refused_token fault)
 later_page s o label field (Ok place) = Ok (record {
   selection = s;
   meaning = Exact place.0;
-  limit = limit_of o.limit;
+  limit = page_limit o.limit;
   after = Some place.1;
   label_text = label;
   field_text = field;
@@ -50,10 +50,10 @@ unless_fault (Some fault) answer = Err fault
 unless_fault None answer = answer
 
 -- what a query asks for as a list of this selection, or the first reason for which it is refused
-abbrev pub ask_of : Selection → Pairs → Result ListAsk AskNo
+abbrev pub ask_of : Selection → QueryPairs → Result ListAsk AskNo
 ask_of s pairs =
-    unless_fault (first_fault (options_of pairs))
-    (page_by s (options_of pairs) (text_of (codes "labelSelector") pairs) (text_of (codes "fieldSelector") pairs) (given (codes "continue") pairs))
+    unless_fault (options_fault (options_of pairs))
+    (page_by s (options_of pairs) (parameter_text (codes "labelSelector") pairs) (parameter_text (codes "fieldSelector") pairs) (given (codes "continue") pairs))
 
 -- want of memory is told by itself, and never as a fault of the token
 abbrev pub wraps_memory : AskNo → Bool

@@ -14,16 +14,16 @@ use Rattle.list_rules.specs.declared.refusal.AskNo.{AskNo}
 use Rattle.list_rules.specs.declared.refusal.AskNo.TheVariants.{BadRevision, BadMatch, MatchNeedsRevision, ExactZero, MatchWithContinue, RevisionWithContinue, InitialEventsOnList, BadLimit}
 
 -- the pairs of a query
-abbrev pub Pairs : Type 0
-Pairs = List (List ℕ × List ℕ)
+abbrev pub QueryPairs : Type 0
+QueryPairs = List (List ℕ × List ℕ)
 
 -- what a parameter says; an empty value counts as unset
-abbrev pub given : List ℕ → Pairs → Option (List ℕ)
+abbrev pub given : List ℕ → QueryPairs → Option (List ℕ)
 given name pairs = unless_empty (first_value name pairs)
 
 -- what a parameter says, as a text that is empty where it is unset
-abbrev pub text_of : List ℕ → Pairs → List ℕ
-text_of name pairs = unwrap_or (given name pairs) []
+abbrev pub parameter_text : List ℕ → QueryPairs → List ℕ
+parameter_text name pairs = unwrap_or (given name pairs) []
 
 -- the parameter has a value; whether an empty one counts is decided where it is looked up
 abbrev pub is_set : Option (List ℕ) → Bool
@@ -38,9 +38,9 @@ number_read (Ok n) = Is n
 number_read (Err fault) = Refused
 
 -- what a parameter of a number says: nothing, a number, or a text that is none
-abbrev pub number_of : Option (List ℕ) → Number
-number_of None = Unset
-number_of (Some text) = number_read (revision_of text)
+abbrev pub parameter_number : Option (List ℕ) → Number
+parameter_number None = Unset
+parameter_number (Some text) = number_read (revision_of text)
 
 -- what `resourceVersionMatch` says, where capitals count; any text but the API's two is `Other`, which is refused
 abbrev pub match_of : Option (List ℕ) → Match
@@ -50,11 +50,11 @@ match_of (Some text) =
     (if bytes_eq text (codes "NotOlderThan") then NotOlderThan else Other)
 
 -- the options of a list, as its query gives them; `sendInitialEvents` is set also where it is empty
-abbrev pub options_of : Pairs → Options
+abbrev pub options_of : QueryPairs → Options
 options_of pairs = record {
-  revision = number_of (given (codes "resourceVersion") pairs);
+  revision = parameter_number (given (codes "resourceVersion") pairs);
   matching = match_of (given (codes "resourceVersionMatch") pairs);
-  limit = number_of (given (codes "limit") pairs);
+  limit = parameter_number (given (codes "limit") pairs);
   continued = is_set (given (codes "continue") pairs);
   initial_events = is_set (first_value (codes "sendInitialEvents") pairs);
 }
@@ -121,16 +121,16 @@ faults o =
     ∷ []
 
 -- why options are refused, by the first reason that holds; nothing where they are accepted
-abbrev pub first_fault : Options → Option AskNo
-first_fault o = first_of (faults o)
+abbrev pub options_fault : Options → Option AskNo
+options_fault o = first_of (faults o)
 
 -- ---- the meaning, where there is no fault
 
 -- the most rows of a page; 0, as where none is given, is no limit
-abbrev pub limit_of : Number → ℕ
-limit_of Unset = 0
-limit_of Refused = 0
-limit_of (Is n) = n
+abbrev pub page_limit : Number → ℕ
+page_limit Unset = 0
+page_limit Refused = 0
+page_limit (Is n) = n
 
 -- a revision that is asked for with no match: 0 is any; with a limit it is that one, and without one it may be newer
 abbrev pub of_revision : ℕ → ℕ → Meaning

@@ -56,8 +56,8 @@ abbrev pub line_of : List ℕ → Option (List ℕ × List ℕ)
 line_of text = if list_any is_line_feed text then Some (before_first is_line_feed text, after_first is_line_feed text) else None
 
 -- the first six lines and what follows them, if there are six line feeds
-abbrev pub texts_of : List ℕ → Option TokenTexts
-texts_of body =
+abbrev pub token_texts : List ℕ → Option TokenTexts
+token_texts body =
     option_and_then (λ a. option_and_then (λ b. option_and_then (λ c. option_and_then (λ d. option_and_then (λ e. option_map
     (λ f. record { version = a.0; revision = b.0; resource = c.0; namespace = d.0; key = e.0; label = f.0; field = f.1 })
     (line_of e.1)) (line_of d.1)) (line_of c.1)) (line_of b.1)) (line_of a.1)) (line_of body)
@@ -68,8 +68,8 @@ revision_read (Ok n) = if n == 0 then None else Some n
 revision_read (Err fault) = None
 
 -- the revision in texts of the first form, of a resource that there is
-abbrev pub revision_in : TokenTexts → Option ℕ
-revision_in t =
+abbrev pub token_revision : TokenTexts → Option ℕ
+token_revision t =
     if bytes_eq t.version (codes "1") && is_some (of_plural t.resource) then revision_read (revision_of t.revision) else None
 
 -- the key in a token's texts, if it has a namespace and a name as objects have them
@@ -82,14 +82,14 @@ is_of_list t s label field =
     bytes_eq t.resource (plural_of s.resource) && (bytes_eq t.namespace (list_namespace s.ns) && (bytes_eq t.label (spaced label) && bytes_eq t.field field))
 
 -- where the next page begins: at a token's revision and behind its key, if it has both and is of the list
-abbrev pub place_of : Option ℕ → Option (List ℕ) → Bool → Result (ℕ × List ℕ) TokenNo
-place_of (Some rev) (Some key) of_list = if of_list then Ok (rev, key) else Err OtherList
-place_of rev key of_list = Err NotToken
+abbrev pub page_start : Option ℕ → Option (List ℕ) → Bool → Result (ℕ × List ℕ) TokenNo
+page_start (Some rev) (Some key) of_list = if of_list then Ok (rev, key) else Err OtherList
+page_start rev key of_list = Err NotToken
 
 -- the revision and the key of the texts, or why there are none
 abbrev pub texts_read : Option TokenTexts → Selection → List ℕ → List ℕ → Result (ℕ × List ℕ) TokenNo
 texts_read None s label field = Err NotToken
-texts_read (Some t) s label field = place_of (revision_in t) (key_in t) (is_of_list t s label field)
+texts_read (Some t) s label field = page_start (token_revision t) (key_in t) (is_of_list t s label field)
 
 -- the bytes that a text is the encoding of, if it is one
 unfoldable pub token_body : List ℕ → Option (List ℕ)
@@ -97,7 +97,7 @@ token_body text = result_ok (decode_of url_safe_no_pad text)
 
 -- at which revision and behind which key a `continue` text lets this list go on, or why it is refused
 abbrev pub token_read : List ℕ → Selection → List ℕ → List ℕ → Result (ℕ × List ℕ) TokenNo
-token_read text s label field = texts_read (option_and_then texts_of (token_body text)) s label field
+token_read text s label field = texts_read (option_and_then token_texts (token_body text)) s label field
 
 -- What was read is what reading gives; what was refused is what reading refuses, unless memory ran out.
 abbrev pub ReadsToken : Result (ℕ × List ℕ) TokenNo → Result (ℕ × List ℕ) TokenNo → Type 0

@@ -2,7 +2,7 @@
 
 ghost use Rattle.std.specs.Prelude.{◌≡◌, false, IfErr, Err, Some, codes};
 ghost use Rattle.list_rules.specs.Asking.{ask_of, Asks, wraps_memory, refused_token};
-ghost use Rattle.list_rules.specs.Options.{options_of, first_fault};
+ghost use Rattle.list_rules.specs.Options.{options_of, options_fault};
 
 use crate::options::{Options, limit, text};
 use crate::tokens::read_token;
@@ -58,7 +58,7 @@ impl ListAsk {
     ) -> Result<ListAsk, AskNo>
         ensures asked { Asks result (ask_of selection params.now) }
         // A fault of the other options is told whatever memory there is.
-        ensures told { (fault : Fault) → first_fault (options_of params.now) ≡ Some fault → result ≡ Err fault }
+        ensures told { (fault : Fault) → options_fault (options_of params.now) ≡ Some fault → result ≡ Err fault }
         ensures plain { IfErr result (λ fault. wraps_memory fault ≡ false) }
     {
         let options = Options::of(params);

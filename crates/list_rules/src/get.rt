@@ -1,7 +1,7 @@
 //! What a get asks for.
 
 ghost use Rattle.std.specs.Prelude.{◌≡◌, IfOk, IfErr, Ok, Err, codes};
-ghost use Rattle.list_rules.specs.Options.{given, number_of, of_get, IsNeverExact};
+ghost use Rattle.list_rules.specs.Options.{given, parameter_number, of_get, IsNeverExact};
 
 use crate::AskNo;
 use crate::options::{get_meaning, number_of};
@@ -22,8 +22,8 @@ pub struct GetAsk {
 impl GetAsk {
     /// What the parameters of a get ask for: `resourceVersion` alone counts. The only refusal is `BadRevision`.
     pub fn from_params(resource: Resource, key: Key, params: &Params) -> Result<GetAsk, AskNo>
-        ensures ok { IfOk result (λ ask. (of_get (number_of (given (codes "resourceVersion") params.now)) ≡ Ok ask.meaning) × (ask.resource ≡ resource) × (ask.key ≡ key)) }
-        ensures err { IfErr result (λ fault. of_get (number_of (given (codes "resourceVersion") params.now)) ≡ Err fault) }
+        ensures ok { IfOk result (λ ask. (of_get (parameter_number (given (codes "resourceVersion") params.now)) ≡ Ok ask.meaning) × (ask.resource ≡ resource) × (ask.key ≡ key)) }
+        ensures err { IfErr result (λ fault. of_get (parameter_number (given (codes "resourceVersion") params.now)) ≡ Err fault) }
     {
         match get_meaning(number_of(params, "resourceVersion")) {
             Ok(meaning) => Ok(GetAsk {

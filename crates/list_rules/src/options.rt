@@ -2,7 +2,7 @@
 
 ghost use Rattle.std.specs.Prelude.{◌≡◌, IfOk, codes};
 ghost use Rattle.std.specs.Option.{option_map};
-ghost use Rattle.list_rules.specs.Options.{given, text_of, number_of, match_of, options_of, first_fault, limit_of, means, of_get, of_revision, IsNeverExact};
+ghost use Rattle.list_rules.specs.Options.{given, parameter_text, parameter_number, match_of, options_of, options_fault, page_limit, means, of_get, of_revision, IsNeverExact};
 
 use crate::AskNo;
 use http_read::Params;
@@ -44,7 +44,7 @@ pub struct Options {
 
 // The number that a parameter says.
 pub(crate) fn number_of(params: &Params, name: &str) -> Number
-    ensures { result ≡ number_of (given name.now params.now) }
+    ensures { result ≡ parameter_number (given name.now params.now) }
 {
     match params.get(name) {
         None => Number::Unset,
@@ -69,7 +69,7 @@ fn matching(params: &Params) -> Match
 
 // The text of a parameter, empty where it is unset.
 pub(crate) fn text<'a>(params: &'a Params, name: &str) -> &'a str
-    ensures { result.now ≡ text_of name.now params.now }
+    ensures { result.now ≡ parameter_text name.now params.now }
 {
     match params.get(name) {
         Some(text) => text,
@@ -79,7 +79,7 @@ pub(crate) fn text<'a>(params: &'a Params, name: &str) -> &'a str
 
 // The limit, 0 where there is none.
 pub(crate) fn limit(number: Number) -> u64
-    ensures { result ≡ limit_of number }
+    ensures { result ≡ page_limit number }
 {
     match number {
         Number::Is(n) => n,
@@ -139,7 +139,7 @@ impl Options {
 
     // The first fault that holds.
     pub(crate) fn first_fault(self) -> Option<AskNo>
-        ensures { result ≡ first_fault self }
+        ensures { result ≡ options_fault self }
     {
         let matched = self.matching != Match::Absent;
         let unset = self.revision == Number::Unset;
@@ -167,7 +167,7 @@ impl Options {
 
     // The meaning, where there is no fault and no `continue`.
     pub(crate) fn meaning(self) -> Meaning
-        ensures { result ≡ means self.matching self.revision (limit_of self.limit) }
+        ensures { result ≡ means self.matching self.revision (page_limit self.limit) }
     {
         match (self.matching, self.revision) {
             (Match::Absent, Number::Is(r)) => at_revision(r, limit(self.limit)),

@@ -7,7 +7,7 @@ ghost use Rattle.kube_meta.specs.Keys.{IsKey};
 ghost use Rattle.kube_meta.specs.Resources.{plural_of};
 ghost use Rattle.kube_meta.specs.Revisions.{revision_of};
 ghost use Rattle.list_rules.specs.Tokens as spec;
-ghost use Rattle.list_rules.specs.Tokens.{token_lines, token_text, token_read, token_body, ReadsToken, IsOneLine, TokenTexts, line_of, texts_of, spaced, list_namespace, is_of_list, revision_in, place_of, texts_read};
+ghost use Rattle.list_rules.specs.Tokens.{token_lines, token_text, token_read, token_body, ReadsToken, IsOneLine, TokenTexts, line_of, token_texts, spaced, list_namespace, is_of_list, token_revision, page_start, texts_read};
 ghost use Rattle.list_rules.specs.Seen.{seen};
 
 use crate::{ListAsk, TokenNo};
@@ -135,7 +135,7 @@ fn line(text: &[u8]) -> Option<(&[u8], &[u8])>
 
 // The first six lines, and what follows them.
 fn texts_of(body: &[u8]) -> Option<Texts<'_>>
-    ensures { option_map seen result ≡ texts_of body.now }
+    ensures { option_map seen result ≡ token_texts body.now }
 {
     let (version, rest) = line(body)?;
     let (revision, rest) = line(rest)?;
@@ -156,7 +156,7 @@ fn texts_of(body: &[u8]) -> Option<Texts<'_>>
 
 // The revision of at least 1 in texts of the first form, of a resource that there is.
 fn revision(texts: &Texts<'_>) -> Option<u64>
-    ensures { result ≡ revision_in (seen texts.now) }
+    ensures { result ≡ token_revision (seen texts.now) }
 {
     if texts.version != b"1".as_slice() || Resource::of_plural(texts.resource).is_none() {
         return None;
@@ -180,7 +180,7 @@ fn is_of_list(texts: &Texts<'_>, selection: &Selection, label: &[u8], field: &st
 
 // What a token names, from the revision and the key in its texts and from whether it is of the list.
 fn place(rev: Option<u64>, key: Option<Key>, of_list: bool) -> Result<(u64, Key), TokenNo>
-    ensures { result ≡ place_of rev key of_list }
+    ensures { result ≡ page_start rev key of_list }
 {
     match (rev, key) {
         (Some(rev), Some(key)) => match of_list {

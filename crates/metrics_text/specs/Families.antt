@@ -66,15 +66,15 @@ figure_of figure.Cuts told = told.cuts
 -- ---- all families
 
 -- the name of a family
-abbrev pub name_of : Family → List ℕ
-name_of family.Revision = codes "watchcache_log_revision"
-name_of family.Floor = codes "watchcache_log_floor"
-name_of family.Generation = codes "watchcache_log_generation"
-name_of (family.OfCaches of_cache) = figure_name of_cache
-name_of family.Connections = codes "watchcache_connections"
-name_of family.Events = codes "watchcache_events_sent_total"
-name_of family.Requests = codes "apiserver_request_total"
-name_of family.Following = codes "watchcache_mirror_following"
+abbrev pub family_name : Family → List ℕ
+family_name family.Revision = codes "watchcache_log_revision"
+family_name family.Floor = codes "watchcache_log_floor"
+family_name family.Generation = codes "watchcache_log_generation"
+family_name (family.OfCaches of_cache) = figure_name of_cache
+family_name family.Connections = codes "watchcache_connections"
+family_name family.Events = codes "watchcache_events_sent_total"
+family_name family.Requests = codes "apiserver_request_total"
+family_name family.Following = codes "watchcache_mirror_following"
 
 -- what its samples mean
 abbrev pub help_of : Family → List ℕ
@@ -88,15 +88,15 @@ help_of family.Requests = codes "Counter of requests, by verb, resource and stat
 help_of family.Following = codes "Whether the mirror follows its peer."
 
 -- its type
-abbrev pub kind_of : Family → List ℕ
-kind_of family.Revision = codes "gauge"
-kind_of family.Floor = codes "gauge"
-kind_of family.Generation = codes "gauge"
-kind_of (family.OfCaches of_cache) = figure_kind of_cache
-kind_of family.Connections = codes "gauge"
-kind_of family.Events = codes "counter"
-kind_of family.Requests = codes "counter"
-kind_of family.Following = codes "gauge"
+abbrev pub family_kind : Family → List ℕ
+family_kind family.Revision = codes "gauge"
+family_kind family.Floor = codes "gauge"
+family_kind family.Generation = codes "gauge"
+family_kind (family.OfCaches of_cache) = figure_kind of_cache
+family_kind family.Connections = codes "gauge"
+family_kind family.Events = codes "counter"
+family_kind family.Requests = codes "counter"
+family_kind family.Following = codes "gauge"
 
 -- ---- requests
 

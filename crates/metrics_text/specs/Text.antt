@@ -10,7 +10,7 @@ use Rattle.metrics.specs.declared.caches.Metrics.{Metrics}
 use Rattle.metrics.specs.declared.caches.CacheMetrics.{CacheMetrics}
 use Rattle.metrics.specs.declared.served.RequestCount.{RequestCount}
 use Rattle.metrics.specs.declared.served.Served.{Served}
-use Rattle.metrics_text.specs.Families.{name_of, help_of, kind_of, figure_of, all_figures, verb_name}
+use Rattle.metrics_text.specs.Families.{family_name, help_of, family_kind, figure_of, all_figures, verb_name}
 use Rattle.metrics_text.specs.declared.families.Family.{Family}
 use Rattle.metrics_text.specs.declared.families.Family.TheVariants as family
 use Rattle.metrics_text.specs.declared.families.Figure.{Figure}
@@ -18,11 +18,11 @@ use Rattle.metrics_text.specs.declared.text.Cached.{Cached}
 
 -- the two lines in front of a family's samples
 unfoldable pub head : Family → List ℕ
-head f = codes "# HELP " ++ name_of f ++ codes " " ++ help_of f ++ codes "\n# TYPE " ++ name_of f ++ codes " " ++ kind_of f
+head f = codes "# HELP " ++ family_name f ++ codes " " ++ help_of f ++ codes "\n# TYPE " ++ family_name f ++ codes " " ++ family_kind f
 
 -- one sample, behind the line feed before it
 unfoldable pub sample : Family → List ℕ → ℕ → List ℕ
-sample f labels value = codes "\n" ++ name_of f ++ labels ++ codes " " ++ decimal value
+sample f labels value = codes "\n" ++ family_name f ++ labels ++ codes " " ++ decimal value
 
 -- a family of one sample, which has no labels
 abbrev pub alone : Family → ℕ → List ℕ

@@ -49,7 +49,7 @@ pub(crate) const FIGURES: [Figure; 9] = [
 impl Family {
     /// Its name.
     pub(crate) fn name(self) -> &'static str
-        ensures { result.now ≡ families.name_of self }
+        ensures { result.now ≡ families.family_name self }
     {
         match self {
             Family::Revision => "watchcache_log_revision",
@@ -81,7 +81,7 @@ impl Family {
 
     /// The type of its samples.
     pub(crate) fn kind(self) -> &'static str
-        ensures { result.now ≡ families.kind_of self }
+        ensures { result.now ≡ families.family_kind self }
     {
         match self {
             Family::OfCaches(figure) => figure.kind(),

@@ -50,7 +50,7 @@ pub(crate) fn put_next_head(text: &mut Vec<u8>, family: Family) -> Result<(), Me
 
 /// Begins a sample: its name, behind a line feed. Labels may follow.
 pub(crate) fn begin_sample(text: &mut Vec<u8>, family: Family) -> Result<(), Memory>
-    ensures { OnOk result (text.new.items ≡ text.old.items ++ 10 ∷ families.name_of family) }
+    ensures { OnOk result (text.new.items ≡ text.old.items ++ 10 ∷ families.family_name family) }
 {
     put(text, b"\n")?;
     put(text, family.name().as_bytes())

@@ -2,7 +2,7 @@
 
 ghost use Rattle.std.specs.Prelude.{◌≡◌, ◌≤◌, ◌^◌, ℕ, List, [], IfOk, true};
 ghost use Rattle.kube_meta.specs.declared.resources.Resource.TheVariants.{Pods};
-ghost use Rattle.watch_read.specs.Lines.{Reads};
+ghost use Rattle.watch_read.specs.Lines.{ReadsPeerLine};
 
 use crate::openings::{opening_of, tell_rows};
 use crate::streams::bytes_of;
@@ -292,7 +292,7 @@ fn unchanged(alloc: Global, rev: u64) -> Revision
 
 // The line that a word stands for.
 fn line_of(alloc: Global, word: &str) -> Result<Option<PeerLine>, Memory>
-    ensures { IfOk result (λ found. (text : List ℕ) × Reads Pods text found) }
+    ensures { IfOk result (λ found. (text : List ℕ) × ReadsPeerLine Pods text found) }
 {
     let mut text = Vec::new(alloc);
     push_word(alloc, &mut text, word)?;

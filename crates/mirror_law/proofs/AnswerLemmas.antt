@@ -15,7 +15,7 @@ use Rattle.select_all.specs.Listings.{IsListing, IsListingBy, shown_by}
 use Rattle.select_all.proofs.ListingLaws.{listing_by_key, listings_are_by_key}
 use Rattle.watch_rules.specs.declared.starts.Start.{Start}
 use Rattle.watch_rules.specs.declared.starts.Start.TheVariants.{FromState, FromHere, FromRevision}
-use Rattle.watch_rules.specs.Bodies.{Line, Told, Bookmark, Piece, Upto, Mark, position_of, opening_lines, piece_lines, loss_lines, IsOpening, ArePieces}
+use Rattle.watch_rules.specs.Bodies.{Line, Told, Bookmark, BodyPiece, Upto, Mark, position_of, opening_lines, piece_lines, loss_lines, IsOpening, ArePieces}
 use Rattle.mirror_law.specs.Mirrors.{both, IsMirrorOf, SelectsBoth}
 use Rattle.mirror_law.specs.Laws.{MirrorsAnswerLists, MirrorsAnswerWatches, MirrorsCompose}
 use Rattle.mirror_law.proofs.MirrorLemmas.{stands}
@@ -89,12 +89,12 @@ module _ (peer m : Log) (b : ℕ) (s u t : Selection) (is : IsLog peer) (mirrors
   opens (FromHere meaning) at rows from opening = (opening.0, omega (arith, opening.1, mirrors.reached))
   opens (FromRevision revision) at rows from opening = opening
 
-  pieces_are : (bookmarks : Bool) (from : ℕ) (pieces : List Piece) → ArePieces m bookmarks from pieces → ArePieces peer bookmarks from pieces
+  pieces_are : (bookmarks : Bool) (from : ℕ) (pieces : List BodyPiece) → ArePieces m bookmarks from pieces → ArePieces peer bookmarks from pieces
   pieces_are bookmarks from [] are = tt
   pieces_are bookmarks from (Upto to ∷ more) are = (are.0, omega (arith, are.1, mirrors.reached), pieces_are bookmarks to more are.2)
   pieces_are bookmarks from (Mark ∷ more) are = (are.0, omega (arith, are.1, mirrors.reached), pieces_are bookmarks from more are.2)
 
-  pieces_tell : (bookmarks : Bool) (from : ℕ) (pieces : List Piece) → b ≤ from → ArePieces m bookmarks from pieces → piece_lines peer u from pieces ≡ piece_lines m t from pieces
+  pieces_tell : (bookmarks : Bool) (from : ℕ) (pieces : List BodyPiece) → b ≤ from → ArePieces m bookmarks from pieces → piece_lines peer u from pieces ≡ piece_lines m t from pieces
   pieces_tell bookmarks from [] begun are = refl
   pieces_tell bookmarks from (Upto to ∷ more) begun are =
       ap (λ (ts : List TransitionData). map Told ts ++ piece_lines peer u to more) (told from to begun are.0 are.1)

@@ -17,7 +17,7 @@ use Rattle.watch_rules.specs.declared.ask.WatchAsk.{WatchAsk}
 use Rattle.watch_rules.specs.declared.starts.Start.{Start}
 use Rattle.watch_rules.specs.declared.starts.Start.TheVariants.{FromState, FromHere, FromRevision}
 use Rattle.watch_rules.specs.Starts.{is_from_state}
-use Rattle.watch_rules.specs.Bodies.{Line, Told, Bookmark, Closing, Lost, Piece, Upto, Mark, Body, position_of, initial_lines, opening_lines, piece_lines, loss_lines, lines_of, IsOpening, ArePieces, IsWatchBody}
+use Rattle.watch_rules.specs.Bodies.{Line, Told, Bookmark, Closing, Lost, BodyPiece, Upto, Mark, Body, position_of, initial_lines, opening_lines, piece_lines, loss_lines, lines_of, IsOpening, ArePieces, IsWatchBody}
 use Rattle.watch_rules.proofs.BookmarkLemmas.{rest_lines, closing_lines, closings_tell_the_start}
 use Rattle.mirror_law.specs.Following.{upto_of, upto_in}
 use Rattle.mirror_law.specs.Taking.{is_closing, IsPastOpening}
@@ -83,7 +83,7 @@ sooner a c (Bookmark at) order onward = omega (arith, order, onward)
 sooner a c (Closing at) order onward = onward
 sooner a c (Lost at floor) order onward = tt
 
-pub pieces_go_on : (peer : Log) (s : Selection) (bookmarks : Bool) (from : ℕ) (pieces : List Piece) (position : ℕ) (loss : Option ℕ) (heard after : List Line) (line : Line)
+pub pieces_go_on : (peer : Log) (s : Selection) (bookmarks : Bool) (from : ℕ) (pieces : List BodyPiece) (position : ℕ) (loss : Option ℕ) (heard after : List Line) (line : Line)
     → IsLog peer → ArePieces peer bookmarks from pieces → piece_lines peer s from pieces ++ loss_lines position loss ≡ heard ++ line ∷ after → GoesOnward (upto_in from heard) line
 pieces_go_on peer s bookmarks from [] position None heard after line is are same = absurd (nothing heard after line same)
 pieces_go_on peer s bookmarks from [] position (Some floor) [] after line is are same =

@@ -1,7 +1,7 @@
 //! The server of a mirror.
 
 ghost use Rattle.std.specs.Prelude.{◌≡◌, ◌↔◌, ◌<◌, ◌≤◌, ◌^◌, true, IsTrue, IfOk, IfSome};
-ghost use Rattle.net_front.specs.Ends.{MayEnd, limit_of};
+ghost use Rattle.net_front.specs.Ends.{MayEnd, most_connections};
 ghost use Rattle.up_api.specs.Settings.{AreInRange};
 
 use crate::following::follow;
@@ -56,10 +56,10 @@ where
     requires settings { AreInRange settings.now }
     requires mirror { N.mirror ≡ true }
     ensures accepted { IfOk result (λ served. served.accepted ≡ L.given served.listener) }
-    ensures within { IfOk result (λ served. served.accepted ≤ limit_of connections) }
+    ensures within { IfOk result (λ served. served.accepted ≤ most_connections connections) }
     ensures faulted { IfOk result (λ served. IsTrue served.faulted ↔ (0 < L.faults served.listener)) }
     ensures ended { IfOk result
-        (λ served. MayEnd (L.over served.listener) (L.faults served.listener) served.accepted (limit_of connections)) }
+        (λ served. MayEnd (L.over served.listener) (L.faults served.listener) served.accepted (most_connections connections)) }
     ensures sessions { IfOk result (λ served. IfSome served.sessions (λ sessions. sessions ≡ served.accepted)) }
 {
     let counts = Counts::new(alloc)?;

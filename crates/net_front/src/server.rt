@@ -1,7 +1,7 @@
 //! A server: its threads side by side, and what it promises of its connections.
 
 ghost use Rattle.std.specs.Prelude.{◌≡◌, ◌↔◌, ◌<◌, ◌≤◌, ◌^◌, IsTrue, IfOk, IfSome};
-ghost use Rattle.net_front.specs.Ends.{MayEnd, limit_of};
+ghost use Rattle.net_front.specs.Ends.{MayEnd, most_connections};
 ghost use Rattle.up_api.specs.Settings.{AreInRange};
 
 use crate::host::{keep_house, work_side_by_side};
@@ -55,10 +55,10 @@ where
     requires fresh { (L.given listener ≡ 0) × (L.faults listener ≡ 0) }
     requires settings { AreInRange settings.now }
     ensures accepted { IfOk result (λ served. served.accepted ≡ L.given served.listener) }
-    ensures within { IfOk result (λ served. served.accepted ≤ limit_of connections) }
+    ensures within { IfOk result (λ served. served.accepted ≤ most_connections connections) }
     ensures faulted { IfOk result (λ served. IsTrue served.faulted ↔ (0 < L.faults served.listener)) }
     ensures ended { IfOk result
-        (λ served. MayEnd (L.over served.listener) (L.faults served.listener) served.accepted (limit_of connections)) }
+        (λ served. MayEnd (L.over served.listener) (L.faults served.listener) served.accepted (most_connections connections)) }
     ensures sessions { IfOk result (λ served. IfSome served.sessions (λ sessions. sessions ≡ served.accepted)) }
 {
     serve_open(
@@ -98,10 +98,10 @@ where
     requires fresh { (L.given listener ≡ 0) × (L.faults listener ≡ 0) }
     requires settings { AreInRange settings.now }
     ensures accepted { IfOk result (λ served. served.accepted ≡ L.given served.listener) }
-    ensures within { IfOk result (λ served. served.accepted ≤ limit_of connections) }
+    ensures within { IfOk result (λ served. served.accepted ≤ most_connections connections) }
     ensures faulted { IfOk result (λ served. IsTrue served.faulted ↔ (0 < L.faults served.listener)) }
     ensures ended { IfOk result
-        (λ served. MayEnd (L.over served.listener) (L.faults served.listener) served.accepted (limit_of connections)) }
+        (λ served. MayEnd (L.over served.listener) (L.faults served.listener) served.accepted (most_connections connections)) }
     ensures sessions { IfOk result (λ served. IfSome served.sessions (λ sessions. sessions ≡ served.accepted)) }
 {
     let counts = Counts::new(alloc)?;
@@ -127,10 +127,10 @@ where
     requires connections { connections ≤ 2 ^ 62 }
     requires fresh { (L.given listener ≡ 0) × (L.faults listener ≡ 0) }
     ensures accepted { IfOk result (λ served. served.accepted ≡ L.given served.listener) }
-    ensures within { IfOk result (λ served. served.accepted ≤ limit_of connections) }
+    ensures within { IfOk result (λ served. served.accepted ≤ most_connections connections) }
     ensures faulted { IfOk result (λ served. IsTrue served.faulted ↔ (0 < L.faults served.listener)) }
     ensures ended { IfOk result
-        (λ served. MayEnd (L.over served.listener) (L.faults served.listener) served.accepted (limit_of connections)) }
+        (λ served. MayEnd (L.over served.listener) (L.faults served.listener) served.accepted (most_connections connections)) }
     ensures sessions { IfOk result (λ served. IfSome served.sessions (λ sessions. sessions ≡ served.accepted)) }
 {
     let limit = if connections == 0 { MOST } else { connections };

@@ -28,7 +28,7 @@ use Rattle.json_obj.proofs.PieceTexts.{quoted_then}
 use Rattle.json_obj.proofs.ReadBack.{read-compact_text}
 use Rattle.rev_log.specs.Changes.{ChangeData, HasItsKey}
 use Rattle.record_laws.specs.Lines.{IsStoredFor, LinesAreReadBack}
-use Rattle.watch_record.specs.Revisions.{resource_text, change_text, line_front, line_text, text_of_change, Told, is_change, told_in, all_told, changes_in, text_of_told, is_line_of, IsChangeOf, AreChangesOf}
+use Rattle.watch_record.specs.Revisions.{resource_member, change_text, line_front, recorded_line, text_of_change, Told, is_change, told_in, all_told, told_changes, text_of_told, is_line_of, IsChangeOf, AreChangesOf}
 use Rattle.record_laws.proofs.KeyTexts.{key-plain}
 use Rattle.watch_record.proofs.ReadLemmas.{same-length, revision-in-order}
 
@@ -52,13 +52,13 @@ value-text told = refl
 change-text : (told : Told) → escape told.key ≡ told.key → compact_text (value_of told) ≡ text_of_told told
 change-text told plain =
     let tail = codes ",\"resource\":" ++ (quoted (plural_of told.resource) ++ codes "}") in
-    let resource : tail ≡ resource_text told.resource =
+    let resource : tail ≡ resource_member told.resource =
     ap (λ q. codes ",\"resource\":" ++ (q ++ codes "}")) (plural-quoted told.resource)
     ∙ ap (λ l. codes ",\"resource\":\"" ++ l) (append_assoc (plural_of told.resource) (34 ∷ []) (codes "}")) in
     value-text told
     ∙ ap (λ l. codes "{\"key\":" ++ l) (quoted_then told.key (codes ",\"object\":" ++ (compact_text told.object ++ tail)) plain)
     ∙ ap (λ l. codes "{\"key\":\"" ++ (told.key ++ (codes "\",\"object\":" ++ (compact_text told.object ++ l)))) resource
-    ∙ ap (λ l. codes "{\"key\":\"" ++ l) (sym (append_assoc told.key (codes "\",\"object\":") (compact_text told.object ++ resource_text told.resource)))
+    ∙ ap (λ l. codes "{\"key\":\"" ++ l) (sym (append_assoc told.key (codes "\",\"object\":") (compact_text told.object ++ resource_member told.resource)))
 
 value-told : (key : List ℕ) (d : Data) (resource : Resource) → is_change (record { key = key; object = d; resource = resource }) ≡ true
     → told_in (value_of (record { key = key; object = d; resource = resource })) ≡ Some (record { key = key; object = d; resource = resource })
@@ -177,22 +177,22 @@ line-shape : (values : Items) (rev : ℕ) → compact_text (line_value values re
 unfolding escape_byte
 line-shape values rev = refl
 
-line-text : (rev : ℕ) (changes : List ChangeData) (all : AllTold rev changes) → compact_text (line_value (values_of all.told) rev) ≡ line_text (map text_of_change changes) rev
+line-text : (rev : ℕ) (changes : List ChangeData) (all : AllTold rev changes) → compact_text (line_value (values_of all.told) rev) ≡ recorded_line (map text_of_change changes) rev
 line-text rev changes all =
     line-shape (values_of all.told) rev
     ∙ ap (λ l. line_front ++ (l ++ (codes ",\"rev\":" ++ (decimal rev ++ codes "}")))) all.first
     ∙ ap (λ l. line_front ++ l) (append_assoc (items_text (map text_of_told all.told)) (93 ∷ []) (codes ",\"rev\":" ++ (decimal rev ++ codes "}")))
-    ∙ ap (λ texts. line_text texts rev) all.texts
+    ∙ ap (λ texts. recorded_line texts rev) all.texts
 
 line-found : (rev : ℕ) (changes : List ChangeData) (all : AllTold rev changes) → rev ≤ 2 ^ 62
-    → option_and_then changes_in (read (line_text (map text_of_change changes) rev)) ≡ Some all.told
+    → option_and_then told_changes (read (recorded_line (map text_of_change changes) rev)) ≡ Some all.told
 line-found rev changes all within =
     let value = line_value (values_of all.told) rev in
     let plain : has_float value ≡ false = rw all.plain refl in
     let small : rev < 2 ^ 64 = omega arith in
     let is : read (compact_text value) ≡ Some value =
     read-compact_text value (all.orderly, refl, (small, tt, tt)) plain (omega (arith, all.shallow)) in
-    ap (λ l. option_and_then changes_in (read l)) (sym (line-text rev changes all)) ∙ ap (option_and_then changes_in) is ∙ all.found
+    ap (λ l. option_and_then told_changes (read l)) (sym (line-text rev changes all)) ∙ ap (option_and_then told_changes) is ∙ all.found
 
 pub lines-read-back : LinesAreReadBack
 lines-read-back revision accepted =
@@ -200,12 +200,12 @@ lines-read-back revision accepted =
     let changes = revision.changes in
     let form = accepted.form in
     let all : AllTold rev changes = all-told rev changes accepted.within form.numbered form.keyed accepted.stored in
-    let line : List ℕ = line_text (map text_of_change changes) rev in
-    let found : option_and_then changes_in (read line) ≡ Some all.told = line-found rev changes all accepted.within in
+    let line : List ℕ = recorded_line (map text_of_change changes) rev in
+    let found : option_and_then told_changes (read line) ≡ Some all.told = line-found rev changes all accepted.within in
     let size : length changes ≡ length all.told = same-length rev all.told changes all.are in
-    let same : line_text (map text_of_told all.told) rev ≡ line = ap (λ texts. line_text texts rev) all.texts in
+    let same : recorded_line (map text_of_told all.told) rev ≡ line = ap (λ texts. recorded_line texts rev) all.texts in
     let some : nat_le 1 (length all.told) ≡ true = le-leb 1 (length all.told) (omega (arith, accepted.some_changes, size)) in
     let test : is_line_of rev line all.told ≡ true =
-    and_from _ _ (and_from _ _ some (and_from _ _ (le-leb rev (2 ^ 62) accepted.within) ((bytes_eq-Decides (line_text (map text_of_told all.told) rev) line).1 same)))
+    and_from _ _ (and_from _ _ some (and_from _ _ (le-leb rev (2 ^ 62) accepted.within) ((bytes_eq-Decides (recorded_line (map text_of_told all.told) rev) line).1 same)))
     (revision-in-order rev all.told changes all.are form) in
     (ap (λ t. option_map_or (is_line_of rev line) t false) found ∙ test, record { told = all.told; read_is = found; rev_is = refl; changes = all.are })

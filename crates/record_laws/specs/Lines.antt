@@ -5,7 +5,7 @@ use Rattle.kube_meta.specs.Keys.{namespace_of, IsKey}
 use Rattle.json_obj.specs.Objects.{refusal, IsObjectOf}
 use Rattle.json_obj.specs.Orderly.{IsOrderly}
 use Rattle.rev_log.specs.Changes.{ChangeData, RevisionData, IsRevision}
-use Rattle.watch_record.specs.Revisions.{line_text, text_of_change, is_next, IsRevisionOf}
+use Rattle.watch_record.specs.Revisions.{recorded_line, text_of_change, tells_revision, IsRecordedRevision}
 
 -- the object of a change, if it has one, is that of a value that was read and that nothing refused at some path
 pub record IsStoredFor (change : ChangeData) : Type 0 where
@@ -24,5 +24,5 @@ pub record IsAccepted (revision : RevisionData) : Type 0 where
 abbrev pub LinesAreReadBack : Type 0
 LinesAreReadBack =
     (revision : RevisionData) → IsAccepted revision →
-    let line : List ℕ = line_text (map text_of_change revision.changes) revision.rev in
-    (is_next revision.rev line ≡ true) × IsRevisionOf revision.rev line revision
+    let line : List ℕ = recorded_line (map text_of_change revision.changes) revision.rev in
+    (tells_revision revision.rev line ≡ true) × IsRecordedRevision revision.rev line revision

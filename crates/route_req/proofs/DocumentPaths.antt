@@ -9,7 +9,7 @@ use Rattle.kube_meta.specs.declared.resources.Resource.TheVariants.{Pods, Config
 use Rattle.discovery.specs.declared.documents.Document.{Document}
 use Rattle.discovery.specs.declared.documents.Document.TheVariants.{Version, CoreVersions, Groups, AppsGroup, CoreResources, AppsResources, Namespace, Probe}
 use Rattle.discovery.specs.declared.documents.Probe.TheVariants.{Livez, Readyz, Healthz}
-use Rattle.route_req.specs.Places.{document_path, IsDocument, path_of}
+use Rattle.route_req.specs.Places.{document_path, IsDocument, place_path}
 use Rattle.route_req.specs.Lookup.{last_kept, before_slash, document_word, document_pair, apps_document, namespace_document, document_at}
 use Rattle.route_req.specs.declared.places.Place.TheVariants.{Everywhere, Namespaced, Named}
 
@@ -180,17 +180,17 @@ text_at_slash (Probe Healthz) h = refl
 
 -- ---- the paths of resources are no text's
 
-pub no_text_everywhere : (r : Resource) → document_at (before_slash (path_of (Everywhere r))) ≡ None
+pub no_text_everywhere : (r : Resource) → document_at (before_slash (place_path (Everywhere r))) ≡ None
 no_text_everywhere Pods = refl
 no_text_everywhere ConfigMaps = refl
 no_text_everywhere Deployments = refl
 
-pub no_text_namespaced : (r : Resource) (ns : List ℕ) → document_at (before_slash (path_of (Namespaced r ns))) ≡ None
+pub no_text_namespaced : (r : Resource) (ns : List ℕ) → document_at (before_slash (place_path (Namespaced r ns))) ≡ None
 no_text_namespaced Pods ns = refl
 no_text_namespaced ConfigMaps ns = refl
 no_text_namespaced Deployments ns = refl
 
-pub no_text_named : (r : Resource) (ns name : List ℕ) → document_at (before_slash (path_of (Named r ns name))) ≡ None
+pub no_text_named : (r : Resource) (ns name : List ℕ) → document_at (before_slash (place_path (Named r ns name))) ≡ None
 no_text_named Pods ns name = refl
 no_text_named ConfigMaps ns name = refl
 no_text_named Deployments ns name = refl

@@ -16,7 +16,7 @@ use Rattle.route_req.specs.declared.transactions.ItemNo.{ItemNo}
 use Rattle.route_req.specs.declared.transactions.ItemNo.TheVariants as item_no
 use Rattle.route_req.specs.declared.transactions.TxTextNo.{TxTextNo}
 use Rattle.route_req.specs.declared.transactions.TxTextNo.TheVariants as text_no
-use Rattle.route_req.specs.Texts.{AsksItem, RefusesObject, is_item, AskAll, IsListOfItems, RefusesItems, RefusesText, placed, not_read, not_distinct}
+use Rattle.route_req.specs.Texts.{AsksItem, RefusesItem, is_item, AskAll, IsListOfItems, RefusesItems, RefusesText, placed, not_read, not_distinct}
 
 -- one item more
 pub AskAll-push : (ds : List Data) (asks : List WriteAsk) (d : Data) (ask : WriteAsk) →
@@ -77,7 +77,7 @@ AskAll-next values i v asks asks' ask h e before this pushed =
 pub RefusesItems-placed : (values : List Value) (i : ℕ) (v : Value) (asks : List WriteAsk)
     → i < length values → v ≡ get_or values i v → AskAll (map view (take i values)) asks → (why : ItemNo)
     → (◌≡◌ {A = Result WriteAsk ItemNo} (Err why) (Err item_no.Bad) → is_item (view v) ≡ false)
-    → ((fault : ObjNo) → ◌≡◌ {A = Result WriteAsk ItemNo} (Err why) (Err (item_no.Object fault)) → RefusesObject (view v) fault)
+    → ((fault : ObjNo) → ◌≡◌ {A = Result WriteAsk ItemNo} (Err why) (Err (item_no.Object fault)) → RefusesItem (view v) fault)
     → RefusesItems (map view values) (placed i why)
 RefusesItems-placed values i v asks h e before item_no.Bad bad refused =
     (view v, ((asks, subst (λ ds. AskAll ds asks) (sym (take-map view i values)) before), data_at values i v h e), bad refl)

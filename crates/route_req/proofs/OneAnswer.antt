@@ -15,7 +15,7 @@ use Rattle.http_read.specs.declared.request.Req.{Req}
 use Rattle.select_all.specs.declared.selection.Meaning.{Meaning}
 use Rattle.select_all.specs.declared.selection.Selection.{Selection}
 use Rattle.list_rules.specs.declared.get.GetAsk.{GetAsk}
-use Rattle.list_rules.specs.Options.{Pairs, IsNeverExact}
+use Rattle.list_rules.specs.Options.{QueryPairs, IsNeverExact}
 use Rattle.watch_rules.specs.declared.ask.WatchAsk.{WatchAsk}
 use Rattle.watch_rules.specs.declared.starts.Start.{Start}
 use Rattle.watch_rules.specs.Options.{MeansWatch}
@@ -27,7 +27,7 @@ use Rattle.up_store.specs.declared.writes.WriteAsk.{WriteAsk}
 use Rattle.up_store.specs.declared.writes.WriteAsk.TheVariants as write
 use Rattle.up_store.specs.declared.operations.Operate.TheVariants as operate
 use Rattle.route_req.specs.Texts as texts
-use Rattle.route_req.specs.Texts.{AsksItem, AskAll, IsList, AsksTransaction, operation_in, resource_in, namespace_in, object_in, Creates, Replaces}
+use Rattle.route_req.specs.Texts.{AsksItem, AskAll, IsList, AsksTransaction, operation_in, item_resource, namespace_in, object_in, Creates, Replaces}
 use Rattle.route_req.specs.Asks.{is_watch, AsksList, AsksWatch, AsksCreate, AsksReplace, Asks}
 use Rattle.route_req.specs.Outcomes.{AnswersAgree}
 use Rattle.route_req.specs.declared.places.Action.{Action}
@@ -59,7 +59,7 @@ made_once d e same f g =
     let P : WatchData → Type 0 = λ x. (h : WatchFacts x) → watch_made d f ≡ watch_made x h in
     subst P same (λ h. ap (watch_made d) (WatchFacts-prop d f h)) g
 
-watches_once : (s : Selection) (params : Pairs) (x y : WatchAsk) → MeansWatch s params x → MeansWatch s params y → x ≡ y
+watches_once : (s : Selection) (params : QueryPairs) (x y : WatchAsk) → MeansWatch s params x → MeansWatch s params y → x ≡ y
 unfolding watch_made
 watches_once s params x y a b =
     let selection = a.of ∙ sym b.of in
@@ -152,8 +152,8 @@ abbrev pub ItemForm : Data → WriteAsk → Type 0
 ItemForm d ask =
     ((r : Resource) × (ns : List ℕ) × (o : Data) × (obj : Obj) × (ask ≡ write.Create r obj) × Creates d r ns o × IsObjectOf r ns o obj)
     ⊎ (((r : Resource) × (ns : List ℕ) × (name : List ℕ) × (o : Data) × (obj : Obj) × (n : Option ℕ) × (ask ≡ write.Replace r obj n) × Replaces d r ns name o × Stores r ns o (obj, n))
-    ⊎ ((r : Resource) × (ns : List ℕ) × (name : List ℕ) × (ask ≡ write.Remove r (joined ns name)) × (operation_in d ≡ Some operation.Remove) × (resource_in d ≡ Some r)
-    × (namespace_in d ≡ Some ns) × (texts.name_in d ≡ Some name)))
+    ⊎ ((r : Resource) × (ns : List ℕ) × (name : List ℕ) × (ask ≡ write.Remove r (joined ns name)) × (operation_in d ≡ Some operation.Remove) × (item_resource d ≡ Some r)
+    × (namespace_in d ≡ Some ns) × (texts.item_name d ≡ Some name)))
 
 item_form : (d : Data) (ask : WriteAsk) → AsksItem d ask → ItemForm d ask
 item_form d (write.Create r obj) is = inl (r, is.0, is.1, obj, refl, is.2, is.4)
@@ -211,7 +211,7 @@ one_transaction body asks others a b =
 
 -- ---- the whole
 
-either_once : (kind : Bool) (s : Selection) (params : Pairs) (a b : Routed) → MatchBool kind (AsksWatch s params a) (AsksList s params a) → MatchBool kind (AsksWatch s params b) (AsksList s params b) → a ≡ b
+either_once : (kind : Bool) (s : Selection) (params : QueryPairs) (a b : Routed) → MatchBool kind (AsksWatch s params a) (AsksList s params a) → MatchBool kind (AsksWatch s params b) (AsksList s params b) → a ≡ b
 either_once true s params a b ha hb =
     let x = watch_asks s params a ha in
     let y = watch_asks s params b hb in

@@ -13,10 +13,10 @@ use Rattle.list_rules.specs.declared.ask.ListAsk.{ListAsk}
 use Rattle.list_rules.specs.declared.get.GetAsk.{GetAsk}
 use Rattle.list_rules.specs.declared.refusal.AskNo.{AskNo}
 use Rattle.list_rules.specs.declared.refusal.AskNo.TheVariants as ask_no
-use Rattle.list_rules.specs.Options.{Pairs, given, text_of, number_of, of_get}
+use Rattle.list_rules.specs.Options.{QueryPairs, given, parameter_text, parameter_number, of_get}
 use Rattle.list_rules.specs.Asking.{ask_of}
 use Rattle.watch_rules.specs.declared.ask.WatchAsk.{WatchAsk}
-use Rattle.watch_rules.specs.Options.{first_fault, MeansWatch}
+use Rattle.watch_rules.specs.Options.{query_fault, MeansWatch}
 use Rattle.json_obj.specs.Objects.{IsTextOf, refusal}
 use Rattle.json_obj.specs.declared.refusals.ObjNo.{ObjNo}
 use Rattle.json_obj.specs.declared.refusals.ObjNo.TheVariants as object_no
@@ -25,7 +25,7 @@ use Rattle.up_store.specs.declared.writes.WriteAsk.TheVariants as write
 use Rattle.up_store.specs.declared.operations.Operate.TheVariants as operate
 use Rattle.route_req.specs.Places.{Names, action_at, takes_memory}
 use Rattle.route_req.specs.Texts.{AsksTransaction, RefusesText}
-use Rattle.route_req.specs.Asks.{is_watch, IsSelection, compacts_at, RefusesBody, AsksList, AsksWatch, AsksRead, AsksCreate, AsksReplace, AsksGet, AsksCompact, AsksTransact, Asks, RefusesList, RefusesWatch, RefusesRead, RefusesObject, RefusesGet, RefusesCompact, RefusesTransact, Refuses, AsksAtPath, RefusesAtPath, IsRefusal}
+use Rattle.route_req.specs.Asks.{is_watch, IsSelection, compacts_at, HoldsNoObject, AsksList, AsksWatch, AsksRead, AsksCreate, AsksReplace, AsksGet, AsksCompact, AsksTransact, Asks, RefusesList, RefusesWatch, RefusesRead, RefusesObject, RefusesGet, RefusesCompact, RefusesTransact, Refuses, AsksAtPath, RefusesAtPath, IsRefusal}
 use Rattle.route_req.specs.Outcomes.{RoutesAreNotRefused, RefusalsAgree}
 use Rattle.route_req.specs.declared.places.Place.{Place}
 use Rattle.route_req.specs.declared.places.Place.TheVariants.{Described, Everywhere, Namespaced, Named, OfMetrics, OfCut, OfCompact, OfRestart, OfTransaction}
@@ -73,10 +73,10 @@ err_once r x y ex ey = same_Err x y (sym ex ∙ ey)
 
 -- ---- the reasons
 
-abbrev pub ListFault : Selection → Pairs → AskNo → Type 0
+abbrev pub ListFault : Selection → QueryPairs → AskNo → Type 0
 ListFault s params why = ask_of s params ≡ Err why
 
-list_tells : (s : Selection) (params : Pairs) (fault : RouteNo) → RefusesList s params fault → Tells fault (λ why. route_no.List why) (ListFault s params)
+list_tells : (s : Selection) (params : QueryPairs) (fault : RouteNo) → RefusesList s params fault → Tells fault (λ why. route_no.List why) (ListFault s params)
 list_tells s params (route_no.List ask_no.BadRevision) is = inr (ask_no.BadRevision, refl, is)
 list_tells s params (route_no.List ask_no.BadMatch) is = inr (ask_no.BadMatch, refl, is)
 list_tells s params (route_no.List ask_no.MatchNeedsRevision) is = inr (ask_no.MatchNeedsRevision, refl, is)
@@ -97,7 +97,7 @@ list_tells s params route_no.Operation is = absurd is
 list_tells s params (route_no.Transaction why) is = absurd is
 list_tells s params route_no.Memory is = inl refl
 
-watch_tells : (params : Pairs) (fault : RouteNo) → RefusesWatch params fault → Tells fault (λ why. route_no.Watch why) (λ why. first_fault params ≡ Some why)
+watch_tells : (params : QueryPairs) (fault : RouteNo) → RefusesWatch params fault → Tells fault (λ why. route_no.Watch why) (λ why. query_fault params ≡ Some why)
 watch_tells params (route_no.Watch why) is = inr (why, refl, is)
 watch_tells params (route_no.List why) is = absurd is
 watch_tells params route_no.ForeignSite is = absurd is
@@ -110,12 +110,12 @@ watch_tells params (route_no.Transaction why) is = absurd is
 watch_tells params route_no.Memory is = absurd is
 
 -- a read: the selectors' reason, or that of the options of the selection
-abbrev pub ReadTells : Resource → Option (List ℕ) → Pairs → RouteNo → Type 0
+abbrev pub ReadTells : Resource → Option (List ℕ) → QueryPairs → RouteNo → Type 0
 ReadTells r ns params fault =
-    Tells fault (λ why. route_no.Selector why) (λ why. selection_of r ns (text_of (codes "labelSelector") params) (text_of (codes "fieldSelector") params) ≡ Err why)
+    Tells fault (λ why. route_no.Selector why) (λ why. selection_of r ns (parameter_text (codes "labelSelector") params) (parameter_text (codes "fieldSelector") params) ≡ Err why)
     ⊎ ((s : Selection) × IsSelection r ns params s × MatchBool (is_watch params) (RefusesWatch params fault) (RefusesList s params fault))
 
-read_tells : (r : Resource) (ns : Option (List ℕ)) (params : Pairs) (fault : RouteNo) → RefusesRead r ns params fault → ReadTells r ns params fault
+read_tells : (r : Resource) (ns : Option (List ℕ)) (params : QueryPairs) (fault : RouteNo) → RefusesRead r ns params fault → ReadTells r ns params fault
 read_tells r ns params (route_no.Selector (select_no.Label why)) is = inl (inr (select_no.Label why, refl, is))
 read_tells r ns params (route_no.Selector (select_no.Field why)) is = inl (inr (select_no.Field why, refl, is))
 read_tells r ns params (route_no.Selector select_no.Memory) is = absurd is
@@ -130,7 +130,7 @@ read_tells r ns params route_no.Operation is = inr is
 read_tells r ns params route_no.Memory is = inl (inl refl)
 
 body_tells : (r : Resource) (ns : List ℕ) (name : Option (List ℕ)) (body : List ℕ) (fault : RouteNo) → RefusesObject r ns name body fault
-    → Tells fault (λ why. route_no.Object why) (RefusesBody r ns name body)
+    → Tells fault (λ why. route_no.Object why) (HoldsNoObject r ns name body)
 body_tells r ns name body (route_no.Object object_no.NotJson) is = inr (object_no.NotJson, refl, is)
 body_tells r ns name body (route_no.Object object_no.Float) is = inr (object_no.Float, refl, is)
 body_tells r ns name body (route_no.Object object_no.TooDeep) is = inr (object_no.TooDeep, refl, is)
@@ -147,8 +147,8 @@ body_tells r ns name body route_no.Operation is = absurd is
 body_tells r ns name body (route_no.Transaction why) is = absurd is
 body_tells r ns name body route_no.Memory is = inl refl
 
-get_tells : (params : Pairs) (fault : RouteNo) → RefusesGet params fault
-    → Tells fault (λ why. route_no.List why) (λ why. of_get (number_of (given (codes "resourceVersion") params)) ≡ Err why)
+get_tells : (params : QueryPairs) (fault : RouteNo) → RefusesGet params fault
+    → Tells fault (λ why. route_no.List why) (λ why. of_get (parameter_number (given (codes "resourceVersion") params)) ≡ Err why)
 get_tells params (route_no.List ask_no.BadRevision) is = inr (ask_no.BadRevision, refl, is)
 get_tells params (route_no.List ask_no.BadMatch) is = inr (ask_no.BadMatch, refl, is)
 get_tells params (route_no.List ask_no.MatchNeedsRevision) is = inr (ask_no.MatchNeedsRevision, refl, is)
@@ -169,7 +169,7 @@ get_tells params route_no.Operation is = absurd is
 get_tells params (route_no.Transaction why) is = absurd is
 get_tells params route_no.Memory is = inl refl
 
-compact_tells : (params : Pairs) (fault : RouteNo) → RefusesCompact params fault → (fault ≡ route_no.Operation) × ((at : ℕ) → compacts_at params ≡ Some (Ok at) → ⊥)
+compact_tells : (params : QueryPairs) (fault : RouteNo) → RefusesCompact params fault → (fault ≡ route_no.Operation) × ((at : ℕ) → compacts_at params ≡ Some (Ok at) → ⊥)
 compact_tells params route_no.Operation is = (refl, is)
 compact_tells params route_no.ForeignSite is = absurd is
 compact_tells params route_no.NoPath is = absurd is
@@ -212,7 +212,7 @@ text_tells body route_no.Memory is = inl refl
 abbrev pub BodyFault : Resource → List ℕ → Option (List ℕ) → List ℕ → ObjNo → Type 0
 BodyFault r ns name body why = ((why ≡ object_no.NotJson) × ((d : Data) → IsTextOf body d → ⊥)) ⊎ ((d : Data) × IsTextOf body d × (refusal r ns name d ≡ Some why))
 
-body_fault : (r : Resource) (ns : List ℕ) (name : Option (List ℕ)) (body : List ℕ) (why : ObjNo) → RefusesBody r ns name body why → BodyFault r ns name body why
+body_fault : (r : Resource) (ns : List ℕ) (name : Option (List ℕ)) (body : List ℕ) (why : ObjNo) → HoldsNoObject r ns name body why → BodyFault r ns name body why
 body_fault r ns name body object_no.NotJson is = inl (refl, is)
 body_fault r ns name body object_no.Float is = inr is
 body_fault r ns name body object_no.TooDeep is = inr is
@@ -220,7 +220,7 @@ body_fault r ns name body object_no.WrongKind is = inr is
 body_fault r ns name body object_no.BadMeta is = inr is
 body_fault r ns name body object_no.Memory is = inr is
 
-bodies_agree : (r : Resource) (ns : List ℕ) (name : Option (List ℕ)) (body : List ℕ) (x y : ObjNo) → RefusesBody r ns name body x → RefusesBody r ns name body y → x ≡ y
+bodies_agree : (r : Resource) (ns : List ℕ) (name : Option (List ℕ)) (body : List ℕ) (x y : ObjNo) → HoldsNoObject r ns name body x → HoldsNoObject r ns name body y → x ≡ y
 bodies_agree r ns name body x y is also = by_faults (body_fault r ns name body x is) (body_fault r ns name body y also)
   where
     by_faults : BodyFault r ns name body x → BodyFault r ns name body y → x ≡ y
@@ -231,7 +231,7 @@ bodies_agree r ns name body x y is also = by_faults (body_fault r ns name body x
         let same : a.0 ≡ b.0 = one_text body a.0 b.0 a.1 b.1 in
         same_Some x y (sym a.2 ∙ ap (refusal r ns name) same ∙ b.2)
 
-body_unrefused : (r : Resource) (ns : List ℕ) (name : Option (List ℕ)) (body : List ℕ) (d : Data) (x : ObjNo) → IsTextOf body d → refusal r ns name d ≡ None → RefusesBody r ns name body x → ⊥
+body_unrefused : (r : Resource) (ns : List ℕ) (name : Option (List ℕ)) (body : List ℕ) (d : Data) (x : ObjNo) → IsTextOf body d → refusal r ns name d ≡ None → HoldsNoObject r ns name body x → ⊥
 body_unrefused r ns name body d x is none refused = by_fault (body_fault r ns name body x refused)
   where
     by_fault : BodyFault r ns name body x → ⊥
@@ -242,7 +242,7 @@ body_unrefused r ns name body d x is none refused = by_fault (body_fault r ns na
 
 -- ---- what an answer asks for
 
-pub list_asks : (s : Selection) (params : Pairs) (answer : Routed) → AsksList s params answer → (ask : ListAsk) × (answer ≡ routed.List ask) × (ask_of s params ≡ Ok ask)
+pub list_asks : (s : Selection) (params : QueryPairs) (answer : Routed) → AsksList s params answer → (ask : ListAsk) × (answer ≡ routed.List ask) × (ask_of s params ≡ Ok ask)
 list_asks s params (routed.List ask) is = (ask, refl, is)
 list_asks s params (routed.Write ask) is = absurd is
 list_asks s params (routed.Get ask) is = absurd is
@@ -252,7 +252,7 @@ list_asks s params (routed.Transact ask) is = absurd is
 list_asks s params (routed.Describe text) is = absurd is
 list_asks s params routed.Metrics is = absurd is
 
-pub watch_asks : (s : Selection) (params : Pairs) (answer : Routed) → AsksWatch s params answer → (ask : WatchAsk) × (answer ≡ routed.Watch ask) × MeansWatch s params ask
+pub watch_asks : (s : Selection) (params : QueryPairs) (answer : Routed) → AsksWatch s params answer → (ask : WatchAsk) × (answer ≡ routed.Watch ask) × MeansWatch s params ask
 watch_asks s params (routed.Watch ask) is = (ask, refl, is)
 watch_asks s params (routed.List ask) is = absurd is
 watch_asks s params (routed.Write ask) is = absurd is
@@ -262,8 +262,8 @@ watch_asks s params (routed.Transact ask) is = absurd is
 watch_asks s params (routed.Describe text) is = absurd is
 watch_asks s params routed.Metrics is = absurd is
 
-pub get_asks : (r : Resource) (ns name : List ℕ) (params : Pairs) (answer : Routed) → AsksGet r ns name params answer
-    → (ask : GetAsk) × (answer ≡ routed.Get ask) × (ask.resource ≡ r) × (ask.key ≡ joined ns name) × (of_get (number_of (given (codes "resourceVersion") params)) ≡ Ok ask.meaning)
+pub get_asks : (r : Resource) (ns name : List ℕ) (params : QueryPairs) (answer : Routed) → AsksGet r ns name params answer
+    → (ask : GetAsk) × (answer ≡ routed.Get ask) × (ask.resource ≡ r) × (ask.key ≡ joined ns name) × (of_get (parameter_number (given (codes "resourceVersion") params)) ≡ Ok ask.meaning)
 get_asks r ns name params (routed.Get ask) is = (ask, refl, is.0, is.1, is.2)
 get_asks r ns name params (routed.Watch ask) is = absurd is
 get_asks r ns name params (routed.List ask) is = absurd is
@@ -301,7 +301,7 @@ replace_asks r ns name body (routed.Transact ask) is = absurd is
 replace_asks r ns name body (routed.Describe text) is = absurd is
 replace_asks r ns name body routed.Metrics is = absurd is
 
-pub compact_asks : (params : Pairs) (answer : Routed) → AsksCompact params answer → (at : ℕ) × (answer ≡ routed.Operate (operate.Compact at)) × (compacts_at params ≡ Some (Ok at))
+pub compact_asks : (params : QueryPairs) (answer : Routed) → AsksCompact params answer → (at : ℕ) × (answer ≡ routed.Operate (operate.Compact at)) × (compacts_at params ≡ Some (Ok at))
 compact_asks params (routed.Operate (operate.Compact at)) is = (at, refl, is)
 compact_asks params (routed.Operate operate.Cut) is = absurd is
 compact_asks params (routed.Operate operate.Restart) is = absurd is
@@ -335,11 +335,11 @@ tells_placed : {Why : Type 0} (fault : RouteNo) (wrap : Why → RouteNo) (Holds 
 tells_placed fault wrap Holds each (inl e) = subst Placed (sym e) tt
 tells_placed fault wrap Holds each (inr x) = subst Placed (sym x.1) (each x.0)
 
-kind_placed : (kind : Bool) (s : Selection) (params : Pairs) (fault : RouteNo) → MatchBool kind (RefusesWatch params fault) (RefusesList s params fault) → Placed fault
+kind_placed : (kind : Bool) (s : Selection) (params : QueryPairs) (fault : RouteNo) → MatchBool kind (RefusesWatch params fault) (RefusesList s params fault) → Placed fault
 kind_placed true s params fault is = tells_placed fault (λ why. route_no.Watch why) _ (λ why. tt) (watch_tells params fault is)
 kind_placed false s params fault is = tells_placed fault (λ why. route_no.List why) _ (λ why. tt) (list_tells s params fault is)
 
-read_placed : (r : Resource) (ns : Option (List ℕ)) (params : Pairs) (fault : RouteNo) → ReadTells r ns params fault → Placed fault
+read_placed : (r : Resource) (ns : Option (List ℕ)) (params : QueryPairs) (fault : RouteNo) → ReadTells r ns params fault → Placed fault
 read_placed r ns params fault (inl tells) = tells_placed fault (λ why. route_no.Selector why) _ (λ why. tt) tells
 read_placed r ns params fault (inr x) = kind_placed (is_watch params) x.0 params fault x.2
 
@@ -391,10 +391,10 @@ refused_at_path req place action fault names at refused = by_fault fault (acts_p
 
 -- ---- an answer beside a refusal
 
-read_excludes : (r : Resource) (ns : Option (List ℕ)) (params : Pairs) (answer : Routed) (fault : RouteNo) → AsksRead r ns params answer → ReadTells r ns params fault → fault ≡ route_no.Memory
+read_excludes : (r : Resource) (ns : Option (List ℕ)) (params : QueryPairs) (answer : Routed) (fault : RouteNo) → AsksRead r ns params answer → ReadTells r ns params fault → fault ≡ route_no.Memory
 read_excludes r ns params answer fault asked (inl tells) =
     told_memory (λ why. route_no.Selector why) _ fault
-    (λ why bad. not_both (selection_of r ns (text_of (codes "labelSelector") params) (text_of (codes "fieldSelector") params)) asked.0 why asked.1 bad) tells
+    (λ why bad. not_both (selection_of r ns (parameter_text (codes "labelSelector") params) (parameter_text (codes "fieldSelector") params)) asked.0 why asked.1 bad) tells
 read_excludes r ns params answer fault asked (inr refused) = by_kind (is_watch params) asked.2 refused.2
   where
     same : refused.0 ≡ asked.0
@@ -411,14 +411,14 @@ read_excludes r ns params answer fault asked (inr refused) = by_kind (is_watch p
 
 body_excludes : (r : Resource) (ns : List ℕ) (name : Option (List ℕ)) (body : List ℕ) (fault : RouteNo) → IsStored r ns name body → RefusesObject r ns name body fault → fault ≡ route_no.Memory
 body_excludes r ns name body fault stored refused =
-    told_memory (λ why. route_no.Object why) (RefusesBody r ns name body) fault (λ why bad. body_unrefused r ns name body stored.0 why stored.1 stored.2 bad) (body_tells r ns name body fault refused)
+    told_memory (λ why. route_no.Object why) (HoldsNoObject r ns name body) fault (λ why bad. body_unrefused r ns name body stored.0 why stored.1 stored.2 bad) (body_tells r ns name body fault refused)
 
-get_excludes : (r : Resource) (ns name : List ℕ) (params : Pairs) (answer : Routed) (fault : RouteNo) → AsksGet r ns name params answer → RefusesGet params fault → fault ≡ route_no.Memory
+get_excludes : (r : Resource) (ns name : List ℕ) (params : QueryPairs) (answer : Routed) (fault : RouteNo) → AsksGet r ns name params answer → RefusesGet params fault → fault ≡ route_no.Memory
 get_excludes r ns name params answer fault asked refused =
     let ask = get_asks r ns name params answer asked in
-    told_memory (λ why. route_no.List why) _ fault (λ why bad. not_both (of_get (number_of (given (codes "resourceVersion") params))) (ask.0).meaning why ask.4 bad) (get_tells params fault refused)
+    told_memory (λ why. route_no.List why) _ fault (λ why bad. not_both (of_get (parameter_number (given (codes "resourceVersion") params))) (ask.0).meaning why ask.4 bad) (get_tells params fault refused)
 
-compact_excludes : (params : Pairs) (answer : Routed) (fault : RouteNo) → AsksCompact params answer → RefusesCompact params fault → fault ≡ route_no.Memory
+compact_excludes : (params : QueryPairs) (answer : Routed) (fault : RouteNo) → AsksCompact params answer → RefusesCompact params fault → fault ≡ route_no.Memory
 compact_excludes params answer fault asked refused =
     let ask = compact_asks params answer asked in
     absurd ((compact_tells params fault refused).1 ask.0 ask.2)
@@ -443,13 +443,13 @@ acts_exclude Transact req answer fault asked refused = text_excludes req.body an
 
 -- ---- two refusals
 
-read_agrees : (r : Resource) (ns : Option (List ℕ)) (params : Pairs) (a b : RouteNo) → ReadTells r ns params a → ReadTells r ns params b → a ≢ route_no.Memory → b ≢ route_no.Memory → a ≡ b
+read_agrees : (r : Resource) (ns : Option (List ℕ)) (params : QueryPairs) (a b : RouteNo) → ReadTells r ns params a → ReadTells r ns params b → a ≢ route_no.Memory → b ≢ route_no.Memory → a ≡ b
 read_agrees r ns params a b (inl ta) (inl tb) na nb =
-    told_once (λ why. route_no.Selector why) _ a b (λ x y hx hy. err_once (selection_of r ns (text_of (codes "labelSelector") params) (text_of (codes "fieldSelector") params)) x y hx hy) ta tb na nb
+    told_once (λ why. route_no.Selector why) _ a b (λ x y hx hy. err_once (selection_of r ns (parameter_text (codes "labelSelector") params) (parameter_text (codes "fieldSelector") params)) x y hx hy) ta tb na nb
 read_agrees r ns params a b (inl ta) (inr tb) na nb =
-    absurd (na (told_memory (λ why. route_no.Selector why) _ a (λ why bad. not_both (selection_of r ns (text_of (codes "labelSelector") params) (text_of (codes "fieldSelector") params)) tb.0 why tb.1 bad) ta))
+    absurd (na (told_memory (λ why. route_no.Selector why) _ a (λ why bad. not_both (selection_of r ns (parameter_text (codes "labelSelector") params) (parameter_text (codes "fieldSelector") params)) tb.0 why tb.1 bad) ta))
 read_agrees r ns params a b (inr ta) (inl tb) na nb =
-    absurd (nb (told_memory (λ why. route_no.Selector why) _ b (λ why bad. not_both (selection_of r ns (text_of (codes "labelSelector") params) (text_of (codes "fieldSelector") params)) ta.0 why ta.1 bad) tb))
+    absurd (nb (told_memory (λ why. route_no.Selector why) _ b (λ why bad. not_both (selection_of r ns (parameter_text (codes "labelSelector") params) (parameter_text (codes "fieldSelector") params)) ta.0 why ta.1 bad) tb))
 read_agrees r ns params a b (inr ta) (inr tb) na nb = by_kind (is_watch params) ta.2 tb.2
   where
     same : tb.0 ≡ ta.0
@@ -464,7 +464,7 @@ read_agrees r ns params a b (inr ta) (inr tb) na nb = by_kind (is_watch params) 
 
 body_agrees : (r : Resource) (ns : List ℕ) (name : Option (List ℕ)) (body : List ℕ) (a b : RouteNo) → RefusesObject r ns name body a → RefusesObject r ns name body b → a ≢ route_no.Memory → b ≢ route_no.Memory → a ≡ b
 body_agrees r ns name body a b ha hb na nb =
-    told_once (λ why. route_no.Object why) (RefusesBody r ns name body) a b (bodies_agree r ns name body) (body_tells r ns name body a ha) (body_tells r ns name body b hb) na nb
+    told_once (λ why. route_no.Object why) (HoldsNoObject r ns name body) a b (bodies_agree r ns name body) (body_tells r ns name body a ha) (body_tells r ns name body b hb) na nb
 
 acts_agree : (action : Action) (req : Req) (a b : RouteNo) → Refuses action req a → Refuses action req b → a ≢ route_no.Memory → b ≢ route_no.Memory → a ≡ b
 acts_agree (Describe text) req a b ha hb na nb = absurd ha
@@ -472,7 +472,7 @@ acts_agree Measure req a b ha hb na nb = absurd ha
 acts_agree (Read r ns) req a b ha hb na nb = read_agrees r ns req.params a b (read_tells r ns req.params a ha) (read_tells r ns req.params b hb) na nb
 acts_agree (Create r ns) req a b ha hb na nb = body_agrees r ns None req.body a b ha hb na nb
 acts_agree (Get r ns name) req a b ha hb na nb =
-    told_once (λ why. route_no.List why) _ a b (λ x y hx hy. err_once (of_get (number_of (given (codes "resourceVersion") req.params))) x y hx hy) (get_tells req.params a ha) (get_tells req.params b hb) na nb
+    told_once (λ why. route_no.List why) _ a b (λ x y hx hy. err_once (of_get (parameter_number (given (codes "resourceVersion") req.params))) x y hx hy) (get_tells req.params a ha) (get_tells req.params b hb) na nb
 acts_agree (Replace r ns name) req a b ha hb na nb = body_agrees r ns (Some name) req.body a b ha hb na nb
 acts_agree (Remove r ns name) req a b ha hb na nb = ha ∙ sym hb
 acts_agree Cut req a b ha hb na nb = absurd ha

@@ -7,7 +7,7 @@ use Rattle.kube_meta.specs.Names.{is_namespace, is_object_name}
 use Rattle.kube_meta.specs.Resources.{plural_of, group_of, version_of, of_group}
 use Rattle.kube_meta.proofs.ResourceLemmas.{groups}
 use Rattle.kube_meta.specs.declared.resources.Resource.{Resource}
-use Rattle.route_req.specs.Places.{base_by, base_of, path_of, document_path, Names, NamesMaybe, PathsNameOnePlace, takes_memory, MayLackMemory}
+use Rattle.route_req.specs.Places.{base_by, base_of, place_path, document_path, Names, NamesMaybe, PathsNameOnePlace, takes_memory, MayLackMemory}
 use Rattle.route_req.specs.Lookup.{behind, namespaced, named, own_word, own_place, metrics_place, place_behind, core_place, group_place, api_place, before_slash, document_at, place_found}
 use Rattle.discovery.specs.declared.documents.Document.{Document}
 use Rattle.route_req.proofs.DocumentPaths.{if_found, first_found, same_text, text_found, slashed, text_at_path, text_at_slash, no_text_everywhere, no_text_namespaced, no_text_named}
@@ -195,16 +195,16 @@ found_for path (Described text) (inr e, h) =
     ap place_found e ∙ ap (λ found. option_map_or (λ t. Some (Described t)) found (api_place (document_path text ++ [] ∷ []))) (text_at_slash text h)
 found_for path (Everywhere r) (e, h) =
     ap place_found e
-    ∙ not_text (path_of (Everywhere r)) (Everywhere r) (no_text_everywhere r)
+    ∙ not_text (place_path (Everywhere r)) (Everywhere r) (no_text_everywhere r)
     (behind_base (group_of r) (version_of r) (plural_of r ∷ []) ∙ ap (option_map (λ r. Everywhere r)) (of_names r))
 found_for path (Namespaced r ns) (e, h) =
     ap place_found e
-    ∙ not_text (path_of (Namespaced r ns)) (Namespaced r ns) (no_text_namespaced r ns)
+    ∙ not_text (place_path (Namespaced r ns)) (Namespaced r ns) (no_text_namespaced r ns)
     (behind_base (group_of r) (version_of r) (codes "namespaces" ∷ ns ∷ plural_of r ∷ [])
     ∙ ap (namespaced (codes "namespaces") ns) (of_names r) ∙ cond-true (is_namespace ns) (Some (Namespaced r ns)) None h)
 found_for path (Named r ns name) (e, h) =
     ap place_found e
-    ∙ not_text (path_of (Named r ns name)) (Named r ns name) (no_text_named r ns name)
+    ∙ not_text (place_path (Named r ns name)) (Named r ns name) (no_text_named r ns name)
     (behind_base (group_of r) (version_of r) (codes "namespaces" ∷ ns ∷ plural_of r ∷ name ∷ [])
     ∙ ap (λ found. named (codes "namespaces") ns found name) (of_names r)
     ∙ cond-true (is_namespace ns && is_object_name name) (Some (Named r ns name)) None (and_from (is_namespace ns) (is_object_name name) h.0 h.1))

@@ -16,7 +16,7 @@ use Rattle.up_store.specs.declared.writes.WriteAsk.TheVariants as write
 use Rattle.route_req.specs.declared.transactions.Operation.{Operation}
 use Rattle.route_req.specs.declared.transactions.Operation.TheVariants as operation
 use Rattle.route_req.specs.Texts as texts
-use Rattle.route_req.specs.Texts.{operation_in, resource_in, namespace_in, object_in, is_item, has_rest, AsksItem, AskAll, IsValue, IsList, IsListOfItems, ReachesItem, AsksTransaction, RefusesText, not_read, Creates, Replaces}
+use Rattle.route_req.specs.Texts.{operation_in, item_resource, namespace_in, object_in, is_item, has_rest, AsksItem, AskAll, IsJsonText, IsList, IsListOfItems, ReachesItem, AsksTransaction, RefusesText, not_read, Creates, Replaces}
 use Rattle.route_req.specs.declared.transactions.TxTextNo.{TxTextNo}
 use Rattle.route_req.specs.declared.transactions.TxTextNo.TheVariants as text_no
 
@@ -24,14 +24,14 @@ use Rattle.route_req.specs.declared.transactions.TxTextNo.TheVariants as text_no
 
 -- why an item asks for no write
 abbrev pub ItemFault : Data → ℕ → TxTextNo → Type 0
-ItemFault d i fault = ((fault ≡ text_no.BadItem i) × (is_item d ≡ false)) ⊎ ((why : ObjNo) × (fault ≡ text_no.BadObject i why) × texts.RefusesObject d why)
+ItemFault d i fault = ((fault ≡ text_no.BadItem i) × (is_item d ≡ false)) ⊎ ((why : ObjNo) × (fault ≡ text_no.BadObject i why) × texts.RefusesItem d why)
 
 some_is : {A : Type 0} (o : Option A) (x : A) → o ≡ Some x → is_some o ≡ true
 some_is o x e = ap is_some e
 
-whole : (d : Data) (op : Operation) (r : Resource) (ns : List ℕ) → operation_in d ≡ Some op → resource_in d ≡ Some r → namespace_in d ≡ Some ns → has_rest (Some op) d ≡ true → is_item d ≡ true
+whole : (d : Data) (op : Operation) (r : Resource) (ns : List ℕ) → operation_in d ≡ Some op → item_resource d ≡ Some r → namespace_in d ≡ Some ns → has_rest (Some op) d ≡ true → is_item d ≡ true
 whole d op r ns is_op is_r is_ns rest =
-    and_from (is_some (resource_in d)) (is_some (namespace_in d) && has_rest (operation_in d) d) (some_is (resource_in d) r is_r)
+    and_from (is_some (item_resource d)) (is_some (namespace_in d) && has_rest (operation_in d) d) (some_is (item_resource d) r is_r)
     (and_from (is_some (namespace_in d)) (has_rest (operation_in d) d) (some_is (namespace_in d) ns is_ns) (ap (λ o. has_rest o d) is_op ∙ rest))
 
 creates_whole : (d : Data) (r : Resource) (ns : List ℕ) (o : Data) → Creates d r ns o → is_item d ≡ true
@@ -40,15 +40,15 @@ creates_whole d r ns o is = whole d operation.Create r ns is.op is.resource is.n
 replaces_whole : (d : Data) (r : Resource) (ns name : List ℕ) (o : Data) → Replaces d r ns name o → is_item d ≡ true
 replaces_whole d r ns name o is =
     whole d operation.Replace r ns is.op is.resource is.namespace
-    (and_from (is_some (texts.name_in d)) (is_some (object_in d)) (some_is (texts.name_in d) name is.name_is) (some_is (object_in d) o is.«object»))
+    (and_from (is_some (texts.item_name d)) (is_some (object_in d)) (some_is (texts.item_name d) name is.name_is) (some_is (object_in d) o is.«object»))
 
 asks_whole : (d : Data) (ask : WriteAsk) → AsksItem d ask → is_item d ≡ true
 asks_whole d (write.Create r obj) is = creates_whole d r is.0 is.1 is.2
 asks_whole d (write.Replace r obj given) is = replaces_whole d r is.0 is.1 is.2 is.3
 asks_whole d (write.Remove r key) is =
-    whole d operation.Remove r is.0 is.2 is.3 is.4 (some_is (texts.name_in d) is.1 is.5)
+    whole d operation.Remove r is.0 is.2 is.3 is.4 (some_is (texts.item_name d) is.1 is.5)
 
-refused_whole : (d : Data) (why : ObjNo) → texts.RefusesObject d why → is_item d ≡ true
+refused_whole : (d : Data) (why : ObjNo) → texts.RefusesItem d why → is_item d ≡ true
 refused_whole d why (inl c) = creates_whole d c.0 c.1 c.2 c.3
 refused_whole d why (inr c) = replaces_whole d c.0 c.1 c.2 c.3 c.4
 
@@ -56,9 +56,9 @@ refused_whole d why (inr c) = replaces_whole d c.0 c.1 c.2 c.3 c.4
 abbrev pub members_in : Option Operation → Data → Option ObjNo
 members_in None d = None
 members_in (Some operation.Create) d =
-    option_and_then (λ r. option_and_then (λ ns. option_and_then (λ o. members_refusal r ns None o) (object_in d)) (namespace_in d)) (resource_in d)
+    option_and_then (λ r. option_and_then (λ ns. option_and_then (λ o. members_refusal r ns None o) (object_in d)) (namespace_in d)) (item_resource d)
 members_in (Some operation.Replace) d =
-    option_and_then (λ r. option_and_then (λ ns. option_and_then (λ name. option_and_then (λ o. members_refusal r ns (Some name) o) (object_in d)) (texts.name_in d)) (namespace_in d)) (resource_in d)
+    option_and_then (λ r. option_and_then (λ ns. option_and_then (λ name. option_and_then (λ o. members_refusal r ns (Some name) o) (object_in d)) (texts.item_name d)) (namespace_in d)) (item_resource d)
 members_in (Some operation.Remove) d = None
 
 create_members : (d : Data) (r : Resource) (ns : List ℕ) (o : Data) → Creates d r ns o → members_in (operation_in d) d ≡ members_refusal r ns None o
@@ -67,7 +67,7 @@ create_members d r ns o is = rw (is.op, is.resource, is.namespace, is.«object»
 replace_members : (d : Data) (r : Resource) (ns name : List ℕ) (o : Data) → Replaces d r ns name o → members_in (operation_in d) d ≡ members_refusal r ns (Some name) o
 replace_members d r ns name o is = rw (is.op, is.resource, is.namespace, is.name_is, is.«object») refl
 
-refused_members : (d : Data) (why : ObjNo) → texts.RefusesObject d why → members_in (operation_in d) d ≡ Some why
+refused_members : (d : Data) (why : ObjNo) → texts.RefusesItem d why → members_in (operation_in d) d ≡ Some why
 refused_members d why (inl c) = create_members d c.0 c.1 c.2 c.3 ∙ c.4
 refused_members d why (inr c) = replace_members d c.0 c.1 c.2 c.3 c.4 ∙ c.5
 
@@ -94,11 +94,11 @@ abbrev pub named_in : Option Operation → Data → Option (List ℕ)
 named_in None d = None
 named_in (Some operation.Create) d = option_and_then (λ o. Some (name_in (metadata_of o))) (object_in d)
 named_in (Some operation.Replace) d = option_and_then (λ o. Some (name_in (metadata_of o))) (object_in d)
-named_in (Some operation.Remove) d = texts.name_in d
+named_in (Some operation.Remove) d = texts.item_name d
 
 abbrev pub IsTarget : Data → Target → Type 0
 IsTarget d target =
-    (r : Resource) × (ns : List ℕ) × (name : List ℕ) × (resource_in d ≡ Some r) × (namespace_in d ≡ Some ns) × (named_in (operation_in d) d ≡ Some name)
+    (r : Resource) × (ns : List ℕ) × (name : List ℕ) × (item_resource d ≡ Some r) × (namespace_in d ≡ Some ns) × (named_in (operation_in d) d ≡ Some name)
     × (target ≡ (r, joined ns name))
 
 ask_target : (d : Data) (ask : WriteAsk) → AsksItem d ask → IsTarget d (target_of ask)

@@ -27,7 +27,7 @@ use Rattle.list_rules.specs.declared.refusal.TokenNo.TheVariants as token_no
 use Rattle.list_rules.specs.declared.options.Number.{Number}
 use Rattle.list_rules.specs.declared.options.Number.TheVariants as number
 use Rattle.list_rules.specs.declared.options.Options.{Options}
-use Rattle.list_rules.specs.Options.{Pairs, given, text_of, number_of, options_of, first_of, faults, first_fault, of_get}
+use Rattle.list_rules.specs.Options.{QueryPairs, given, parameter_text, parameter_number, options_of, first_of, faults, options_fault, of_get}
 use Rattle.list_rules.specs.Asking.{later_page, page_by, unless_fault, ask_of}
 use Rattle.list_rules.specs.Tokens.{token_read}
 use Rattle.json_obj.specs.declared.refusals.ObjNo.{ObjNo}
@@ -88,13 +88,13 @@ fault_told : (fault : Option AskNo) (answer : Result ListAsk AskNo) (why : AskNo
 fault_told (Some fault) answer why e by_fault by_answer = by_fault (cc)
 fault_told None answer why e by_fault by_answer = by_answer e
 
-list_told : (s : Selection) (params : Pairs) (why : AskNo) → ask_of s params ≡ Err why → (why ≡ ask_no.Memory → ⊥) → of_list why ≡ false
+list_told : (s : Selection) (params : QueryPairs) (why : AskNo) → ask_of s params ≡ Err why → (why ≡ ask_no.Memory → ⊥) → of_list why ≡ false
 list_told s params why e other =
     let o : Options = options_of params in
-    let page : Result ListAsk AskNo = page_by s o (text_of (codes "labelSelector") params) (text_of (codes "fieldSelector") params) (given (codes "continue") params) in
-    fault_told (first_fault o) page why e
+    let page : Result ListAsk AskNo = page_by s o (parameter_text (codes "labelSelector") params) (parameter_text (codes "fieldSelector") params) (given (codes "continue") params) in
+    fault_told (options_fault o) page why e
     (λ first. first_told (faults o) why refl first)
-    (λ paged. page_told s o (text_of (codes "labelSelector") params) (text_of (codes "fieldSelector") params) (given (codes "continue") params) why paged other)
+    (λ paged. page_told s o (parameter_text (codes "labelSelector") params) (parameter_text (codes "fieldSelector") params) (given (codes "continue") params) why paged other)
 
 get_told : (n : Number) (why : AskNo) → of_get n ≡ Err why → of_list why ≡ false
 get_told number.Unset why e = absurd (cc)
@@ -116,7 +116,7 @@ item_told i object_no.WrongKind e = refl
 item_told i object_no.BadMeta e = refl
 item_told i object_no.Memory e = absurd (cc)
 
-object_told : (d : Data) (why : ObjNo) → texts.RefusesObject d why → of_object why ≡ false
+object_told : (d : Data) (why : ObjNo) → texts.RefusesItem d why → of_object why ≡ false
 object_told d why is = elim is [
   | inl c ↦ members_told _ _ why c.4
   | inr c ↦ members_told _ _ why c.5
@@ -124,7 +124,7 @@ object_told d why is = elim is [
 
 -- ---- what is asked for
 
-list_plain : (s : Selection) (params : Pairs) (fault : RouteNo) → RefusesList s params fault → wraps_memory fault ≡ false
+list_plain : (s : Selection) (params : QueryPairs) (fault : RouteNo) → RefusesList s params fault → wraps_memory fault ≡ false
 list_plain s params (route_no.List why) is = by_why why is
   where
     by_why : (why : AskNo) → RefusesList s params (route_no.List why) → of_list why ≡ false
@@ -148,7 +148,7 @@ list_plain s params route_no.Operation is = refl
 list_plain s params (route_no.Transaction why) is = absurd is
 list_plain s params route_no.Memory is = refl
 
-watch_plain : (params : Pairs) (fault : RouteNo) → RefusesWatch params fault → wraps_memory fault ≡ false
+watch_plain : (params : QueryPairs) (fault : RouteNo) → RefusesWatch params fault → wraps_memory fault ≡ false
 watch_plain params (route_no.Watch why) is = refl
 watch_plain params route_no.ForeignSite is = refl
 watch_plain params route_no.NoPath is = refl
@@ -160,16 +160,16 @@ watch_plain params route_no.Operation is = refl
 watch_plain params (route_no.Transaction why) is = absurd is
 watch_plain params route_no.Memory is = refl
 
-either_plain : (b : Bool) (s : Selection) (params : Pairs) (fault : RouteNo) → MatchBool b (RefusesWatch params fault) (RefusesList s params fault) → wraps_memory fault ≡ false
+either_plain : (b : Bool) (s : Selection) (params : QueryPairs) (fault : RouteNo) → MatchBool b (RefusesWatch params fault) (RefusesList s params fault) → wraps_memory fault ≡ false
 either_plain true s params fault is = watch_plain params fault is
 either_plain false s params fault is = list_plain s params fault is
 
-read_plain : (r : Resource) (ns : Option (List ℕ)) (params : Pairs) (fault : RouteNo) → RefusesRead r ns params fault → wraps_memory fault ≡ false
+read_plain : (r : Resource) (ns : Option (List ℕ)) (params : QueryPairs) (fault : RouteNo) → RefusesRead r ns params fault → wraps_memory fault ≡ false
 read_plain r ns params (route_no.Selector select_no.Memory) is = absurd is
 read_plain r ns params (route_no.Selector (select_no.Label why)) is =
-    selector_told r ns (label_selector_of (text_of (codes "labelSelector") params)) (field_selector_of r (text_of (codes "fieldSelector") params)) (select_no.Label why) is (λ e. cc)
+    selector_told r ns (label_selector_of (parameter_text (codes "labelSelector") params)) (field_selector_of r (parameter_text (codes "fieldSelector") params)) (select_no.Label why) is (λ e. cc)
 read_plain r ns params (route_no.Selector (select_no.Field why)) is =
-    selector_told r ns (label_selector_of (text_of (codes "labelSelector") params)) (field_selector_of r (text_of (codes "fieldSelector") params)) (select_no.Field why) is (λ e. cc)
+    selector_told r ns (label_selector_of (parameter_text (codes "labelSelector") params)) (field_selector_of r (parameter_text (codes "fieldSelector") params)) (select_no.Field why) is (λ e. cc)
 read_plain r ns params (route_no.List why) is = either_plain (is_watch params) is.0 params (route_no.List why) is.2
 read_plain r ns params (route_no.Watch why) is = refl
 read_plain r ns params (route_no.Object why) is = either_plain (is_watch params) is.0 params (route_no.Object why) is.2
@@ -197,7 +197,7 @@ body_plain r ns name body route_no.Operation is = refl
 body_plain r ns name body (route_no.Transaction why) is = absurd is
 body_plain r ns name body route_no.Memory is = refl
 
-get_plain : (params : Pairs) (fault : RouteNo) → RefusesGet params fault → wraps_memory fault ≡ false
+get_plain : (params : QueryPairs) (fault : RouteNo) → RefusesGet params fault → wraps_memory fault ≡ false
 get_plain params (route_no.List why) is = by_why why is
   where
     by_why : (why : AskNo) → RefusesGet params (route_no.List why) → of_list why ≡ false
@@ -209,7 +209,7 @@ get_plain params (route_no.List why) is = by_why why is
     by_why ask_no.RevisionWithContinue is = refl
     by_why ask_no.InitialEventsOnList is = refl
     by_why ask_no.BadLimit is = refl
-    by_why (ask_no.BadContinue token) is = get_told (number_of (given (codes "resourceVersion") params)) (ask_no.BadContinue token) is
+    by_why (ask_no.BadContinue token) is = get_told (parameter_number (given (codes "resourceVersion") params)) (ask_no.BadContinue token) is
     by_why ask_no.Memory is = absurd is
 get_plain params route_no.ForeignSite is = refl
 get_plain params route_no.NoPath is = refl
@@ -242,7 +242,7 @@ text_plain body (route_no.Object why) is = absurd is
 text_plain body route_no.Operation is = refl
 text_plain body route_no.Memory is = refl
 
-compact_plain : (params : Pairs) (fault : RouteNo) → RefusesCompact params fault → wraps_memory fault ≡ false
+compact_plain : (params : QueryPairs) (fault : RouteNo) → RefusesCompact params fault → wraps_memory fault ≡ false
 compact_plain params route_no.Operation is = refl
 compact_plain params route_no.ForeignSite is = refl
 compact_plain params route_no.NoPath is = refl

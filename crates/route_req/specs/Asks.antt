@@ -15,12 +15,12 @@ use Rattle.select_all.specs.declared.selection.SelNo.{SelNo}
 use Rattle.select_all.specs.declared.selection.SelNo.TheVariants as select_no
 use Rattle.label_select.specs.declared.refusal.LabelNo.TheVariants as label_no
 use Rattle.field_select.specs.declared.refusal.FieldNo.TheVariants as field_no
-use Rattle.list_rules.specs.Options.{Pairs, given, text_of, number_of, of_get}
+use Rattle.list_rules.specs.Options.{QueryPairs, given, parameter_text, parameter_number, of_get}
 use Rattle.list_rules.specs.Asking.{ask_of}
 use Rattle.list_rules.specs.declared.refusal.AskNo.{AskNo}
 use Rattle.list_rules.specs.declared.refusal.AskNo.TheVariants as ask_no
 use Rattle.list_rules.specs.declared.refusal.TokenNo.TheVariants as token_no
-use Rattle.watch_rules.specs.Options.{first_fault, MeansWatch}
+use Rattle.watch_rules.specs.Options.{query_fault, MeansWatch}
 use Rattle.json_obj.specs.Objects.{IsTextOf, refusal, IsObjectOf, Stores}
 use Rattle.json_obj.specs.declared.refusals.ObjNo.{ObjNo}
 use Rattle.json_obj.specs.declared.refusals.ObjNo.TheVariants as object_no
@@ -39,36 +39,36 @@ use Rattle.route_req.specs.declared.routing.RouteNo.{RouteNo}
 use Rattle.route_req.specs.declared.routing.RouteNo.TheVariants as route_no
 
 -- a read of a collection is a watch exactly where the truth parameter `watch` is true
-abbrev pub is_watch : Pairs → Bool
+abbrev pub is_watch : QueryPairs → Bool
 is_watch params = option_map_or is_truth (first_value (codes "watch") params) false
 
 -- what the texts of the two selectors are read as
-abbrev pub IsSelection : Resource → Option (List ℕ) → Pairs → Selection → Type 0
-IsSelection r ns params s = selection_of r ns (text_of (codes "labelSelector") params) (text_of (codes "fieldSelector") params) ≡ Ok s
+abbrev pub IsSelection : Resource → Option (List ℕ) → QueryPairs → Selection → Type 0
+IsSelection r ns params s = selection_of r ns (parameter_text (codes "labelSelector") params) (parameter_text (codes "fieldSelector") params) ≡ Ok s
 
 -- the revision of a compaction
-abbrev pub compacts_at : Pairs → Option (Result ℕ RevNo)
+abbrev pub compacts_at : QueryPairs → Option (Result ℕ RevNo)
 compacts_at params = option_map revision_of (given (codes "revision") params)
 
 -- why a body holds no object for the path
-abbrev pub RefusesBody : Resource → List ℕ → Option (List ℕ) → List ℕ → ObjNo → Type 0
-RefusesBody r ns name body object_no.NotJson = (d : Data) → ¬ (IsTextOf body d)
-RefusesBody r ns name body fault = (d : Data) × IsTextOf body d × (refusal r ns name d ≡ Some fault)
+abbrev pub HoldsNoObject : Resource → List ℕ → Option (List ℕ) → List ℕ → ObjNo → Type 0
+HoldsNoObject r ns name body object_no.NotJson = (d : Data) → ¬ (IsTextOf body d)
+HoldsNoObject r ns name body fault = (d : Data) × IsTextOf body d × (refusal r ns name d ≡ Some fault)
 
 -- ---- what is asked for at a place that has the method
 
 -- a list of this selection, of the page and at the revision that the parameters ask for
-abbrev pub AsksList : Selection → Pairs → Routed → Type 0
+abbrev pub AsksList : Selection → QueryPairs → Routed → Type 0
 AsksList s params (routed.List ask) = ask_of s params ≡ Ok ask
 AsksList s params answer = ⊥
 
 -- a watch of this selection, which starts and ends as the parameters ask for
-abbrev pub AsksWatch : Selection → Pairs → Routed → Type 0
+abbrev pub AsksWatch : Selection → QueryPairs → Routed → Type 0
 AsksWatch s params (routed.Watch ask) = MeansWatch s params ask
 AsksWatch s params answer = ⊥
 
 -- a read of a resource's collection: a watch or a list of what its two selectors select there
-abbrev pub AsksRead : Resource → Option (List ℕ) → Pairs → Routed → Type 0
+abbrev pub AsksRead : Resource → Option (List ℕ) → QueryPairs → Routed → Type 0
 AsksRead r ns params answer =
     (s : Selection) × IsSelection r ns params s
     × MatchBool (is_watch params) (AsksWatch s params answer) (AsksList s params answer)
@@ -86,14 +86,14 @@ AsksReplace r ns name body (routed.Write (write.Replace resource obj revision)) 
 AsksReplace r ns name body answer = ⊥
 
 -- a get of the object that the path names, by `resourceVersion` alone; `watch` and the body are ignored
-abbrev pub AsksGet : Resource → List ℕ → List ℕ → Pairs → Routed → Type 0
+abbrev pub AsksGet : Resource → List ℕ → List ℕ → QueryPairs → Routed → Type 0
 AsksGet r ns name params (routed.Get ask) =
     (ask.resource ≡ r) × (ask.key ≡ joined ns name)
-    × (of_get (number_of (given (codes "resourceVersion") params)) ≡ Ok ask.meaning)
+    × (of_get (parameter_number (given (codes "resourceVersion") params)) ≡ Ok ask.meaning)
 AsksGet r ns name params answer = ⊥
 
 -- a compaction up to the revision in the parameter `revision`; the body is ignored
-abbrev pub AsksCompact : Pairs → Routed → Type 0
+abbrev pub AsksCompact : QueryPairs → Routed → Type 0
 AsksCompact params (routed.Operate (operate.Compact at)) = compacts_at params ≡ Some (Ok at)
 AsksCompact params answer = ⊥
 
@@ -136,22 +136,22 @@ refused_transaction text_no.Memory = route_no.Memory
 refused_transaction fault = route_no.Transaction fault
 
 -- why a list of this selection is refused: for its options or its token, or for want of memory
-abbrev pub RefusesList : Selection → Pairs → RouteNo → Type 0
+abbrev pub RefusesList : Selection → QueryPairs → RouteNo → Type 0
 RefusesList s params (route_no.List ask_no.Memory) = ⊥
 RefusesList s params (route_no.List fault) = ask_of s params ≡ Err fault
 RefusesList s params route_no.Memory = Unit {0}
 RefusesList s params fault = ⊥
 
 -- why a watch is refused: for the first fault of its options, whose reading takes no memory
-abbrev pub RefusesWatch : Pairs → RouteNo → Type 0
-RefusesWatch params (route_no.Watch fault) = first_fault params ≡ Some fault
+abbrev pub RefusesWatch : QueryPairs → RouteNo → Type 0
+RefusesWatch params (route_no.Watch fault) = query_fault params ≡ Some fault
 RefusesWatch params fault = ⊥
 
 -- why a read of a collection is refused: for its selectors first, then for the options of the watch or of the list
-abbrev pub RefusesRead : Resource → Option (List ℕ) → Pairs → RouteNo → Type 0
+abbrev pub RefusesRead : Resource → Option (List ℕ) → QueryPairs → RouteNo → Type 0
 RefusesRead r ns params (route_no.Selector select_no.Memory) = ⊥
 RefusesRead r ns params (route_no.Selector fault) =
-    selection_of r ns (text_of (codes "labelSelector") params) (text_of (codes "fieldSelector") params) ≡ Err fault
+    selection_of r ns (parameter_text (codes "labelSelector") params) (parameter_text (codes "fieldSelector") params) ≡ Err fault
 RefusesRead r ns params route_no.Memory = Unit {0}
 RefusesRead r ns params fault =
     (s : Selection) × IsSelection r ns params s
@@ -165,19 +165,19 @@ refused_object fault = route_no.Object fault
 -- why a create or a replacement isn't tried: its body holds no object for the path, or there was no memory
 abbrev pub RefusesObject : Resource → List ℕ → Option (List ℕ) → List ℕ → RouteNo → Type 0
 RefusesObject r ns name body (route_no.Object object_no.Memory) = ⊥
-RefusesObject r ns name body (route_no.Object fault) = RefusesBody r ns name body fault
+RefusesObject r ns name body (route_no.Object fault) = HoldsNoObject r ns name body fault
 RefusesObject r ns name body route_no.Memory = Unit {0}
 RefusesObject r ns name body fault = ⊥
 
 -- why a get isn't tried: its `resourceVersion` is no revision, or there was no memory
-abbrev pub RefusesGet : Pairs → RouteNo → Type 0
+abbrev pub RefusesGet : QueryPairs → RouteNo → Type 0
 RefusesGet params (route_no.List ask_no.Memory) = ⊥
-RefusesGet params (route_no.List fault) = of_get (number_of (given (codes "resourceVersion") params)) ≡ Err fault
+RefusesGet params (route_no.List fault) = of_get (parameter_number (given (codes "resourceVersion") params)) ≡ Err fault
 RefusesGet params route_no.Memory = Unit {0}
 RefusesGet params fault = ⊥
 
 -- why a compaction isn't tried: the parameter `revision` is absent or is no revision
-abbrev pub RefusesCompact : Pairs → RouteNo → Type 0
+abbrev pub RefusesCompact : QueryPairs → RouteNo → Type 0
 RefusesCompact params route_no.Operation = (at : ℕ) → ¬ (compacts_at params ≡ Some (Ok at))
 RefusesCompact params fault = ⊥
 

@@ -44,23 +44,23 @@ metrics_path = codes "metrics" ∷ []
 
 -- the path of each place, in segments: behind the base path /{resource}, /namespaces/{ns}/{resource} and
 -- /namespaces/{ns}/{resource}/{name}; and /watchcache/cut, /compact, /restart and /transaction
-abbrev pub path_of : Place → List (List ℕ)
-path_of (Described text) = document_path text
-path_of (Everywhere r) = base_of r ++ plural_of r ∷ []
-path_of (Namespaced r ns) = base_of r ++ codes "namespaces" ∷ ns ∷ plural_of r ∷ []
-path_of (Named r ns name) = base_of r ++ codes "namespaces" ∷ ns ∷ plural_of r ∷ name ∷ []
-path_of OfMetrics = metrics_path
-path_of OfCut = codes "watchcache" ∷ codes "cut" ∷ []
-path_of OfCompact = codes "watchcache" ∷ codes "compact" ∷ []
-path_of OfRestart = codes "watchcache" ∷ codes "restart" ∷ []
-path_of OfTransaction = codes "watchcache" ∷ codes "transaction" ∷ []
+abbrev pub place_path : Place → List (List ℕ)
+place_path (Described text) = document_path text
+place_path (Everywhere r) = base_of r ++ plural_of r ∷ []
+place_path (Namespaced r ns) = base_of r ++ codes "namespaces" ∷ ns ∷ plural_of r ∷ []
+place_path (Named r ns name) = base_of r ++ codes "namespaces" ∷ ns ∷ plural_of r ∷ name ∷ []
+place_path OfMetrics = metrics_path
+place_path OfCut = codes "watchcache" ∷ codes "cut" ∷ []
+place_path OfCompact = codes "watchcache" ∷ codes "compact" ∷ []
+place_path OfRestart = codes "watchcache" ∷ codes "restart" ∷ []
+place_path OfTransaction = codes "watchcache" ∷ codes "transaction" ∷ []
 
 -- the path is that of the place; a text that describes the server, and metrics, have it with a slash behind it too, which
 -- is an empty last segment
 abbrev pub IsPathOf : List (List ℕ) → Place → Type 0
 IsPathOf path (Described text) = (path ≡ document_path text) ⊎ (path ≡ document_path text ++ [] ∷ [])
 IsPathOf path OfMetrics = (path ≡ metrics_path) ⊎ (path ≡ metrics_path ++ [] ∷ [])
-IsPathOf path place = path ≡ path_of place
+IsPathOf path place = path ≡ place_path place
 
 -- the namespace that is described, if it is one, is in the grammar of such names
 abbrev pub IsDocument : Document → Type 0

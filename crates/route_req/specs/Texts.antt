@@ -27,8 +27,8 @@ use Rattle.route_req.specs.declared.transactions.TxTextNo.TheVariants.{NotJson, 
 -- ---- the members of an item
 
 -- what an item says at the member `name`, if it has that and it is a text
-abbrev pub text_at : List ℕ → Data → Option (List ℕ)
-text_at name d = option_and_then as_str (get name d)
+abbrev pub item_text : List ℕ → Data → Option (List ℕ)
+item_text name d = option_and_then as_str (get name d)
 
 -- the operation that a word stands for; capitals count
 abbrev pub operation_named : List ℕ → Option Operation
@@ -47,19 +47,19 @@ checked_object d = if is_some (as_object d) then Some d else None
 
 -- which write an item is, by its member `op`
 abbrev pub operation_in : Data → Option Operation
-operation_in d = option_and_then operation_named (text_at (codes "op") d)
+operation_in d = option_and_then operation_named (item_text (codes "op") d)
 
 -- of which resource an item's object is, by its member `resource`: the plural, as in paths
-abbrev pub resource_in : Data → Option Resource
-resource_in d = option_and_then of_plural (text_at (codes "resource") d)
+abbrev pub item_resource : Data → Option Resource
+item_resource d = option_and_then of_plural (item_text (codes "resource") d)
 
 -- in which namespace an item's object is, by its member `namespace`, which has to be in the grammar
 abbrev pub namespace_in : Data → Option (List ℕ)
-namespace_in d = option_and_then (checked is_namespace) (text_at (codes "namespace") d)
+namespace_in d = option_and_then (checked is_namespace) (item_text (codes "namespace") d)
 
 -- the name of the object that an item replaces or removes, by its member `name`, which has to be in the grammar
-abbrev pub name_in : Data → Option (List ℕ)
-name_in d = option_and_then (checked is_object_name) (text_at (codes "name") d)
+abbrev pub item_name : Data → Option (List ℕ)
+item_name d = option_and_then (checked is_object_name) (item_text (codes "name") d)
 
 -- what an item creates, or puts in place of another: its member `object`, which has to be a JSON object
 abbrev pub object_in : Data → Option Data
@@ -69,28 +69,28 @@ object_in d = option_and_then checked_object (get (codes "object") d)
 abbrev pub has_rest : Option Operation → Data → Bool
 has_rest None d = false
 has_rest (Some operation.Create) d = is_some (object_in d)
-has_rest (Some operation.Replace) d = is_some (name_in d) && is_some (object_in d)
-has_rest (Some operation.Remove) d = is_some (name_in d)
+has_rest (Some operation.Replace) d = is_some (item_name d) && is_some (object_in d)
+has_rest (Some operation.Remove) d = is_some (item_name d)
 
 -- each member that it needs is there, and is what it has to be
 abbrev pub is_item : Data → Bool
-is_item d = is_some (resource_in d) && (is_some (namespace_in d) && has_rest (operation_in d) d)
+is_item d = is_some (item_resource d) && (is_some (namespace_in d) && has_rest (operation_in d) d)
 
 -- ---- what an item asks for
 
 -- the item is of a create of this object, in this namespace
 pub record Creates (d : Data) (r : Resource) (ns : List ℕ) (o : Data) : Type 0 where
   pub op : operation_in d ≡ Some operation.Create
-  pub resource : resource_in d ≡ Some r
+  pub resource : item_resource d ≡ Some r
   pub namespace : namespace_in d ≡ Some ns
   pub «object» : object_in d ≡ Some o
 
 -- the item is of a replacement of the object with this name by this one, in this namespace
 pub record Replaces (d : Data) (r : Resource) (ns name : List ℕ) (o : Data) : Type 0 where
   pub op : operation_in d ≡ Some operation.Replace
-  pub resource : resource_in d ≡ Some r
+  pub resource : item_resource d ≡ Some r
   pub namespace : namespace_in d ≡ Some ns
-  pub name_is : name_in d ≡ Some name
+  pub name_is : item_name d ≡ Some name
   pub «object» : object_in d ≡ Some o
 
 -- the write that an item asks for; its members say what the method, the path and the body of a single write say
@@ -101,12 +101,12 @@ AsksItem d (Replace r obj given) =
     (ns : List ℕ) × (name : List ℕ) × (o : Data) × Replaces d r ns name o
     × (members_refusal r ns (Some name) o ≡ None) × Stores r ns o (obj, given)
 AsksItem d (Remove r key) =
-    (ns : List ℕ) × (name : List ℕ) × (operation_in d ≡ Some operation.Remove) × (resource_in d ≡ Some r)
-    × (namespace_in d ≡ Some ns) × (name_in d ≡ Some name) × (key ≡ joined ns name)
+    (ns : List ℕ) × (name : List ℕ) × (operation_in d ≡ Some operation.Remove) × (item_resource d ≡ Some r)
+    × (namespace_in d ≡ Some ns) × (item_name d ≡ Some name) × (key ≡ joined ns name)
 
 -- an item's object can't be stored there, because of its kind or its metadata, as the body of a single write couldn't
-abbrev pub RefusesObject : Data → ObjNo → Type 0
-RefusesObject d why =
+abbrev pub RefusesItem : Data → ObjNo → Type 0
+RefusesItem d why =
     ((r : Resource) × (ns : List ℕ) × (o : Data) × Creates d r ns o × (members_refusal r ns None o ≡ Some why))
     ⊎ ((r : Resource) × (ns : List ℕ) × (name : List ℕ) × (o : Data) × Replaces d r ns name o × (members_refusal r ns (Some name) o ≡ Some why))
 
@@ -120,12 +120,12 @@ AskAll (d ∷ ds) (ask ∷ asks) = AsksItem d ask × AskAll ds asks
 -- ---- the whole text
 
 -- the body is one JSON text, of a value with no float that isn't too deep
-abbrev pub IsValue : List ℕ → Data → Type 0
-IsValue body d = IsTextOf body d × (value_refusal d ≡ None)
+abbrev pub IsJsonText : List ℕ → Data → Type 0
+IsJsonText body d = IsTextOf body d × (value_refusal d ≡ None)
 
 -- the body is one JSON text, a list of these items; it has no float and isn't too deep
 abbrev pub IsList : List ℕ → List Data → Type 0
-IsList body ds = (d : Data) × IsValue body d × (as_array d ≡ Some (items_of ds))
+IsList body ds = (d : Data) × IsJsonText body d × (as_array d ≡ Some (items_of ds))
 
 -- the body is one JSON text, a list of these items, of which there are 1 to 64; it has no float and isn't too deep
 abbrev pub IsListOfItems : List ℕ → List Data → Type 0
@@ -144,11 +144,11 @@ abbrev pub RefusesText : List ℕ → TxTextNo → Type 0
 RefusesText body NotJson = (d : Data) → ¬ (IsTextOf body d)
 RefusesText body Float = (d : Data) × IsTextOf body d × (value_refusal d ≡ Some object_no.Float)
 RefusesText body TooDeep = (d : Data) × IsTextOf body d × (value_refusal d ≡ Some object_no.TooDeep)
-RefusesText body NotList = (d : Data) × IsValue body d × (as_array d ≡ None)
+RefusesText body NotList = (d : Data) × IsJsonText body d × (as_array d ≡ None)
 RefusesText body Empty = IsList body []
 RefusesText body TooManyItems = (ds : List Data) × IsList body ds × (64 < length ds)
 RefusesText body (BadItem i) = (ds : List Data) × (d : Data) × IsListOfItems body ds × ReachesItem ds i d × (is_item d ≡ false)
-RefusesText body (BadObject i why) = (ds : List Data) × (d : Data) × IsListOfItems body ds × ReachesItem ds i d × RefusesObject d why
+RefusesText body (BadObject i why) = (ds : List Data) × (d : Data) × IsListOfItems body ds × ReachesItem ds i d × RefusesItem d why
 RefusesText body (Repeated i) =
     (ds : List Data) × (asks : List WriteAsk) × IsListOfItems body ds × AskAll ds asks × IsFirstRepeat (map target_of asks) i
 RefusesText body Memory = Unit {0}
@@ -163,7 +163,7 @@ placed i item_no.Memory = Memory
 -- of the items alone
 abbrev pub RefusesItems : List Data → TxTextNo → Type 0
 RefusesItems ds (BadItem i) = (d : Data) × ReachesItem ds i d × (is_item d ≡ false)
-RefusesItems ds (BadObject i why) = (d : Data) × ReachesItem ds i d × RefusesObject d why
+RefusesItems ds (BadObject i why) = (d : Data) × ReachesItem ds i d × RefusesItem d why
 RefusesItems ds Memory = Unit {0}
 RefusesItems ds fault = ⊥
 

@@ -9,7 +9,7 @@ ghost use Rattle.kube_meta.specs.Names.{IsNamespace, IsObjectName};
 ghost use Rattle.json_obj.specs.Objects.{members_refusal, IsObjectOf, Stores};
 ghost use Rattle.up_store.specs.Transactions.{target_of, IsFirstRepeat};
 ghost use Rattle.route_req.specs.Texts as texts;
-ghost use Rattle.route_req.specs.Texts.{AsksItem, RefusesObject, AskAll, IsValue, IsList, IsListOfItems, AsksTransaction, RefusesText};
+ghost use Rattle.route_req.specs.Texts.{AsksItem, RefusesItem, AskAll, IsJsonText, IsList, IsListOfItems, AsksTransaction, RefusesText};
 
 use json_obj::{ObjNo, obj_of, read_value};
 use kube_meta::{Key, KeyNo, Memory, Obj, Resource, Text, is_namespace, is_object_name};
@@ -78,7 +78,7 @@ pub(crate) enum ItemNo {
 
 // The text at a member.
 fn text_at<'v>(value: &'v Value, name: &str) -> Option<&'v str>
-    ensures { option_map (λ text. text.now) result ≡ texts.text_at name.now (view value.now) }
+    ensures { option_map (λ text. text.now) result ≡ texts.item_text name.now (view value.now) }
 {
     value.get(name).and_then(Value::as_str)
 }
@@ -104,7 +104,7 @@ fn operation_in(value: &Value) -> Option<Operation>
 }
 
 fn resource_in(value: &Value) -> Option<Resource>
-    ensures { result ≡ texts.resource_in (view value.now) }
+    ensures { result ≡ texts.item_resource (view value.now) }
 {
     match text_at(value, "resource") {
         Some(text) => Resource::of_plural(text.as_bytes()),
@@ -123,7 +123,7 @@ fn namespace_in(value: &Value) -> Option<&str>
 }
 
 fn name_in(value: &Value) -> Option<&str>
-    ensures value { option_map (λ text. text.now) result ≡ texts.name_in (view value.now) }
+    ensures value { option_map (λ text. text.now) result ≡ texts.item_name (view value.now) }
     ensures form { IfSome result (λ text. IsObjectName text.now) }
 {
     match text_at(value, "name") {
@@ -144,12 +144,12 @@ fn object_in(value: &Value) -> Option<&Value>
 // The write of a create.
 fn create(alloc: Global, value: &Value, resource: Resource, ns: &str) -> Result<WriteAsk, ItemNo>
     requires op { texts.operation_in (view value.now) ≡ Some Operation.Create }
-    requires resource { texts.resource_in (view value.now) ≡ Some resource }
+    requires resource { texts.item_resource (view value.now) ≡ Some resource }
     requires namespace { texts.namespace_in (view value.now) ≡ Some ns.now }
     requires form { IsNamespace ns.now }
     ensures ok { IfOk result (AsksItem (view value.now)) }
     ensures bad { result ≡ Err ItemNo.Bad → texts.is_item (view value.now) ≡ false }
-    ensures refused { (no : ObjNo) → result ≡ Err (ItemNo.Object no) → RefusesObject (view value.now) no }
+    ensures refused { (no : ObjNo) → result ≡ Err (ItemNo.Object no) → RefusesItem (view value.now) no }
 {
     let Some(object) = object_in(value) else {
         return Err(ItemNo::Bad);
@@ -168,12 +168,12 @@ fn create(alloc: Global, value: &Value, resource: Resource, ns: &str) -> Result<
 // The write of a replacement.
 fn replace(alloc: Global, value: &Value, resource: Resource, ns: &str) -> Result<WriteAsk, ItemNo>
     requires op { texts.operation_in (view value.now) ≡ Some Operation.Replace }
-    requires resource { texts.resource_in (view value.now) ≡ Some resource }
+    requires resource { texts.item_resource (view value.now) ≡ Some resource }
     requires namespace { texts.namespace_in (view value.now) ≡ Some ns.now }
     requires form { IsNamespace ns.now }
     ensures ok { IfOk result (AsksItem (view value.now)) }
     ensures bad { result ≡ Err ItemNo.Bad → texts.is_item (view value.now) ≡ false }
-    ensures refused { (no : ObjNo) → result ≡ Err (ItemNo.Object no) → RefusesObject (view value.now) no }
+    ensures refused { (no : ObjNo) → result ≡ Err (ItemNo.Object no) → RefusesItem (view value.now) no }
 {
     let Some(name) = name_in(value) else {
         return Err(ItemNo::Bad);
@@ -212,12 +212,12 @@ pub(crate) fn key_of(ns: Text, name: Text) -> Result<Key, Memory>
 // The write of a removal.
 fn remove(alloc: Global, value: &Value, resource: Resource, ns: &str) -> Result<WriteAsk, ItemNo>
     requires op { texts.operation_in (view value.now) ≡ Some Operation.Remove }
-    requires resource { texts.resource_in (view value.now) ≡ Some resource }
+    requires resource { texts.item_resource (view value.now) ≡ Some resource }
     requires namespace { texts.namespace_in (view value.now) ≡ Some ns.now }
     requires form { IsNamespace ns.now }
     ensures ok { IfOk result (AsksItem (view value.now)) }
     ensures bad { result ≡ Err ItemNo.Bad → texts.is_item (view value.now) ≡ false }
-    ensures refused { (no : ObjNo) → result ≡ Err (ItemNo.Object no) → RefusesObject (view value.now) no }
+    ensures refused { (no : ObjNo) → result ≡ Err (ItemNo.Object no) → RefusesItem (view value.now) no }
 {
     let Some(name) = name_in(value) else {
         return Err(ItemNo::Bad);
@@ -236,7 +236,7 @@ fn remove(alloc: Global, value: &Value, resource: Resource, ns: &str) -> Result<
 fn item(alloc: Global, value: &Value) -> Result<WriteAsk, ItemNo>
     ensures ok { IfOk result (AsksItem (view value.now)) }
     ensures bad { result ≡ Err ItemNo.Bad → texts.is_item (view value.now) ≡ false }
-    ensures refused { (no : ObjNo) → result ≡ Err (ItemNo.Object no) → RefusesObject (view value.now) no }
+    ensures refused { (no : ObjNo) → result ≡ Err (ItemNo.Object no) → RefusesItem (view value.now) no }
 {
     let Some(resource) = resource_in(value) else {
         return Err(ItemNo::Bad);

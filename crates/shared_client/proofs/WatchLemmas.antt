@@ -17,7 +17,7 @@ use Rattle.cache_hub.specs.Catching.{CaughtData, IsCaught}
 use Rattle.cache_hub.specs.declared.catching.CatchNo.{CatchNo}
 use Rattle.cache_hub.specs.OpenLanes.{OpenLaneData, GetsAll, GoesAlong}
 use Rattle.client_api.specs.declared.answers.Took.TheVariants.{Events}
-use Rattle.client_api.specs.Turns.{IsTurn}
+use Rattle.client_api.specs.Turns.{IsWatchTurn}
 use Rattle.shared_client.specs.Knowing.{KnowsAllOf}
 use Rattle.shared_client.specs.Watching.{HasMore, IsTold}
 use Rattle.shared_client.proofs.KnowingLemmas.{log_grown, within-known}
@@ -73,7 +73,7 @@ some-in [] some = absurd (some refl)
 some-in (x ∷ xs) some = omega arith
 
 turn-received : (base : List RowData) (window : ℕ) (p q : Pass RevisionData) (batch : BatchData) (lines : Vec TransitionData) → IsBatch base batch → KnowsAllOf batch.note q → lines.items ≡ batch.lines →
-    IsTurn base window p (record { selection = batch.selection; position = batch.from }) (Events batch.from batch.to lines) q
+    IsWatchTurn base window p (record { selection = batch.selection; position = batch.from }) (Events batch.from batch.to lines) q
 turn-received base window p q batch lines is knows same = record {
   begins = refl;
   lines_are = same ∙ is.lines_are ∙ sym (transitions_are_kept (selects batch.selection) (log_of base batch.note) knows.seen_on.0 batch.selection.resource batch.from batch.to (omega (arith, is.within)))
@@ -85,7 +85,7 @@ turn-received base window p q batch lines is knows same = record {
 -- a batch that begins at the position
 pub turn_received : (base : List RowData) (window : ℕ) (p q : Pass RevisionData) (batch : BatchData) (from to : ℕ) (selection : Selection) (lines : Vec TransitionData) (note : Pass RevisionData) →
     record { from = from; to = to; selection = selection; lines = lines.items; note = note } ≡ batch → IsBatch base (record { from = from; to = to; selection = selection; lines = lines.items; note = note }) →
-    KnowsAllOf note q → IsTurn base window p (record { selection = batch.selection; position = batch.from }) (Events from to lines) q
+    KnowsAllOf note q → IsWatchTurn base window p (record { selection = batch.selection; position = batch.from }) (Events from to lines) q
 turn_received base window p q batch from to selection lines note view is knows =
-    subst (λ (b : BatchData). IsTurn base window p (record { selection = b.selection; position = b.from }) (Events from to lines) q) view
+    subst (λ (b : BatchData). IsWatchTurn base window p (record { selection = b.selection; position = b.from }) (Events from to lines) q) view
     (turn-received base window p q (record { from = from; to = to; selection = selection; lines = lines.items; note = note }) lines is knows refl)

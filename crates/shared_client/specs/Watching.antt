@@ -18,7 +18,7 @@ use Rattle.client_api.specs.declared.answers.ListNo.TheVariants as no_memory
 use Rattle.client_api.specs.Answers.{BegunData}
 use Rattle.client_api.specs.declared.answers.Took.{Took}
 use Rattle.client_api.specs.Facts.{HasLoaded, Watched}
-use Rattle.client_api.specs.Turns.{IsTurn}
+use Rattle.client_api.specs.Turns.{IsWatchTurn}
 use Rattle.shared_client.specs.Serving.{IsServed}
 
 -- What a watch at a position is told that catches up, where this was shown and this is known then: all lines up to a
@@ -47,7 +47,7 @@ HasMore s at (Some o) = (o.lane.selection ≡ s) × (o.lane.behind ≡ false) ×
 
 -- what a turn gives, for whoever had loaded before r was known and loads nothing until q is
 abbrev pub IsLoadedTurn : List RowData → ℕ → Pass RevisionData → Watched → Took → Pass RevisionData → Type 0
-IsLoadedTurn base window r watched took q = (p : Pass RevisionData) → HasLoaded p r → IsTurn base window p watched took q
+IsLoadedTurn base window r watched took q = (p : Pass RevisionData) → HasLoaded p r → IsWatchTurn base window p watched took q
 
 -- a watch begins at the end of a cache that has reached what was shown, with these rows of the state there
 pub record BeginsAtEnd (base : List RowData) (s : Selection) (shown : ℕ) (rows_of : List RowData → List RowData) (begun : BegunData) (q : Pass RevisionData) : Type 0 where

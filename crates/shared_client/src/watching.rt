@@ -9,7 +9,7 @@ ghost use Rattle.watch_lane.specs.Batches.{IsBatch};
 ghost use Rattle.client_api.specs.declared.answers.Took.TheVariants.{Quiet};
 ghost use Rattle.client_api.specs.Facts.{IsOnward};
 ghost use Rattle.client_api.specs.Starts.{IsWatchAnswer, IsWatchStart};
-ghost use Rattle.client_api.specs.Turns.{IsTurn, watch_after};
+ghost use Rattle.client_api.specs.Turns.{IsWatchTurn, watch_after};
 ghost use Rattle.select_all.specs.Listings.{listing};
 ghost use Rattle.cache_answers.specs.Turns.{moved_to};
 ghost use Rattle.select_all.specs.declared.selection.Selection.{Selection as SelectionData};
@@ -201,7 +201,7 @@ pub fn turn<N: LogFacts, R: Wait + Copy>(
     requires max { 1 ≤ max }
     ensures onward { IsOnward told.old told.new }
     ensures watch { watch.new ≡ watch.old }
-    ensures turn { IfOk result (λ took. IsTurn N.base N.window told.old watch.old took told.new) }
+    ensures turn { IfOk result (λ took. IsWatchTurn N.base N.window told.old watch.old took told.new) }
 {
     match next_batch(&mut watch.lane.out, &watch.selection, watch.position) {
         Some(batch) => Ok(received(told, batch)),
@@ -236,7 +236,7 @@ fn received<N: LogFacts>(told: &mut Pass<N>, batch: Batch<N>) -> Took
     ensures learns { Learns told.old told.new }
     ensures lawful { IsPass Fits told.new }
     ensures turn { (window : ℕ) (p : PassData RevisionData) →
-        IsTurn N.base window p (record { selection = batch.selection; position = batch.from }) result told.new }
+        IsWatchTurn N.base window p (record { selection = batch.selection; position = batch.from }) result told.new }
 {
     let Batch {
         from,
@@ -267,7 +267,7 @@ fn caught_up<N: LogFacts, R: Wait + Copy>(
     requires max { 1 ≤ max }
     ensures onward { IsOnward told.old told.new }
     ensures watch { watch.new ≡ watch.old }
-    ensures turn { IfOk result (λ took. IsTurn N.base N.window told.old watch.old took told.new) }
+    ensures turn { IfOk result (λ took. IsWatchTurn N.base N.window told.old watch.old took told.new) }
 {
     let loaded = told.look();
     // The sign is read behind the count of rings on which the watcher rests then. So whatever leaves the lane behind

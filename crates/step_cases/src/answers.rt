@@ -1,6 +1,7 @@
 //! Words of answers.
 
-use case_rows::Wording;
+use case_rows::{NO_STEP, Wording};
+use edge_io::{Failed, MemSink};
 
 /// Tells numbers with blanks between them, or `nothing`.
 pub fn tell_numbers(list: &[u64], told: &mut Wording) {
@@ -8,11 +9,16 @@ pub fn tell_numbers(list: &[u64], told: &mut Wording) {
         told.add("nothing");
     }
     for (place, number) in list.iter().enumerate() {
-        if place > 0 {
-            told.add(" ");
-        }
-        told.show(number);
+        tell_next(place, *number, told);
     }
+}
+
+/// Tells the number at a place of a list.
+pub fn tell_next(place: usize, number: u64, told: &mut Wording) {
+    if place > 0 {
+        told.add(" ");
+    }
+    told.show(&number);
 }
 
 /// Tells a number, or `nothing`.
@@ -23,20 +29,38 @@ pub fn tell_one(found: Option<u64>, told: &mut Wording) {
     }
 }
 
+/// Tells what a sink took, unless it failed, or there was nothing that it could be sent.
+pub fn tell_sent(sent: Result<bool, Failed>, sink: &MemSink, told: &mut Wording) {
+    match sent {
+        Ok(true) => tell_bytes(sink.bytes(), told),
+        Ok(false) => told.add(NO_STEP),
+        Err(no) => told.debug(&no),
+    }
+}
+
 /// Tells bytes as they can be read: `<CRLF>`, `<CR>` and `<LF>` are those, and any other byte that isn't printed is
 /// written by its two hexadecimal digits, as `<81>`.
 pub fn tell_bytes(bytes: &[u8], told: &mut Wording) {
-    let mut last = 0u8;
-    for (place, byte) in bytes.iter().enumerate() {
-        let behind = bytes.get(place + 1);
-        match *byte {
-            b'\r' if behind == Some(&b'\n') => told.add("<CR"),
-            b'\n' if last == b'\r' => told.add("LF>"),
-            b'\r' => told.add("<CR>"),
-            b'\n' => told.add("<LF>"),
-            b' '..=b'~' => told.show(&char::from(*byte)),
-            _ => told.show(&format_args!("<{byte:02x}>")),
-        }
-        last = *byte;
+    let mut before = 0u8;
+    for byte in bytes {
+        tell_byte(before, *byte, told);
+        before = *byte;
+    }
+    if before == b'\r' {
+        told.add(">");
+    }
+}
+
+/// Tells a byte behind another one. What is told of a carriage return stays open until the byte behind it.
+fn tell_byte(before: u8, byte: u8, told: &mut Wording) {
+    if before == b'\r' {
+        told.add(if byte == b'\n' { "LF>" } else { ">" });
+    }
+    match byte {
+        b'\r' => told.add("<CR"),
+        b'\n' if before == b'\r' => {}
+        b'\n' => told.add("<LF>"),
+        b' '..=b'~' => told.show(&char::from(byte)),
+        _ => told.show(&format_args!("<{byte:02x}>")),
     }
 }

@@ -5,7 +5,8 @@ ghost use Rattle.std.specs.Prelude.{◌≡◌, ◌<◌, IfOk};
 use crate::answers::tell_bytes;
 use case_rows::{NO_STEP, Steps, Wording, number, split};
 use edge_io::{
-    Clock, Failed, Listener, MemNet, MemSink, MemSource, Net, Sink, Source, StepClock, WriteEnd,
+    Clock, Failed, Listener, MemListener, MemNet, MemSink, MemSource, Net, Sink, Source, StepClock,
+    WriteEnd,
 };
 use kube_meta::Memory;
 use std::alloc::Global;
@@ -37,24 +38,14 @@ impl Steps for Ends {
     fn answer(&mut self, alloc: Global, step: &str, told: &mut Wording) -> Result<(), Memory> {
         let (verb, rest) = split(step);
         match verb {
-            "source" => {
-                self.source = source_of(alloc, rest)?;
-                self.buf = [0u8; 4];
-                told.add("ok");
-            }
+            "source" => open_source(self, source_of(alloc, rest)?, told),
             "read" => read(&mut self.source, &mut self.buf, told),
-            "sink" => {
-                self.sink = sink_of(alloc, rest)?;
-                told.add("ok");
-            }
+            "sink" => open_sink(self, sink_of(alloc, rest)?, told),
             "write" => told.debug(&self.sink.write(rest.as_bytes())),
             "flush" => told.debug(&self.sink.flush()),
             "written" => tell_bytes(self.sink.bytes(), told),
             "now" => told.debug(&self.clock.now()),
-            "rest" => {
-                self.clock.rest();
-                told.add("ok");
-            }
+            "rest" => rest_once(&mut self.clock, told),
             "dial" => dial(alloc, rest, told)?,
             "accept" => accept(alloc, rest, told)?,
             "pass" => pass(alloc, rest, told)?,
@@ -65,6 +56,22 @@ impl Steps for Ends {
     }
 }
 
+fn open_source(ends: &mut Ends, source: MemSource, told: &mut Wording) {
+    ends.source = source;
+    ends.buf = [0u8; 4];
+    told.add("ok");
+}
+
+fn open_sink(ends: &mut Ends, sink: MemSink, told: &mut Wording) {
+    ends.sink = sink;
+    told.add("ok");
+}
+
+fn rest_once(clock: &mut StepClock, told: &mut Wording) {
+    clock.rest();
+    told.add("ok");
+}
+
 fn size(word: &str) -> usize
     ensures { 0 < result }
 {
@@ -73,22 +80,18 @@ fn size(word: &str) -> usize
 
 /// The calls that fail: none, or this one.
 fn fails(alloc: Global, word: &str) -> Result<Vec<u64>, Memory> {
-    let mut fails = Vec::new(alloc);
-    if let Ok(call) = word.parse::<u64>() {
-        fails.push(call)?;
+    match word.parse::<u64>() {
+        Ok(call) => Ok(vec![in alloc; call]?),
+        Err(_) => Ok(Vec::new(alloc)),
     }
-    Ok(fails)
 }
 
 /// How much it gives at a call, which call fails, and its bytes.
 fn source_of(alloc: Global, text: &str) -> Result<MemSource, Memory> {
     let (step, rest) = split(text);
     let (fail, bytes) = split(rest);
-    Ok(MemSource::new(
-        bytes.as_bytes().to_vec(alloc)?,
-        size(step),
-        fails(alloc, fail)?,
-    ))
+    let fails = fails(alloc, fail)?;
+    Ok(MemSource::new(bytes.as_bytes().to_vec(alloc)?, size(step), fails))
 }
 
 /// How much it takes at a call, and which call fails.
@@ -103,10 +106,15 @@ fn net(alloc: Global, text: &str) -> Result<MemNet, Memory>
 {
     let mut list = Vec::new(alloc);
     for word in text.split(' ') {
-        let source = MemSource::new(word.as_bytes().to_vec(alloc)?, 9, Vec::new(alloc));
-        list.push((source, MemSink::new(9, Vec::new(alloc)), StepClock::new()))?;
+        list.push(peer(alloc, word)?)?;
     }
     Ok(MemNet::new(list))
+}
+
+/// A connection that brings a word.
+fn peer(alloc: Global, word: &str) -> Result<(MemSource, MemSink, StepClock), Memory> {
+    let source = MemSource::new(word.as_bytes().to_vec(alloc)?, 9, Vec::new(alloc));
+    Ok((source, MemSink::new(9, Vec::new(alloc)), StepClock::new()))
 }
 
 /// What is read of a source, and the buffer then.
@@ -118,30 +126,47 @@ fn read(source: &mut MemSource, buf: &mut [u8], told: &mut Wording) {
 
 /// What the connection brings that is dialled.
 fn dial(alloc: Global, text: &str, told: &mut Wording) -> Result<(), Memory> {
-    let mut net = net(alloc, text)?;
+    dial_in(&mut net(alloc, text)?, told);
+    Ok(())
+}
+
+fn dial_in(net: &mut MemNet, told: &mut Wording)
+    requires { net.old.faults ≡ 0 }
+{
     match net.dial(8001) {
-        Ok((mut source, sink)) => {
-            read(&mut source, &mut [0u8; 4], told);
-            net.hang_up(source, sink);
-        }
+        Ok((source, sink)) => net.hang_up(read_of(source, told), sink),
         Err(_) => told.add("no peer"),
     }
-    Ok(())
+}
+
+/// Reads a source once, and gives it back.
+fn read_of(mut source: MemSource, told: &mut Wording) -> MemSource {
+    read(&mut source, &mut [0u8; 4], told);
+    source
 }
 
 /// What the connection brings that is accepted first.
 fn accept(alloc: Global, text: &str, told: &mut Wording) -> Result<(), Memory> {
-    let mut net = net(alloc, text)?;
-    let Ok(mut listener) = net.listen(8001) else {
-        told.add("no listener");
-        return Ok(());
-    };
+    accept_in(&mut net(alloc, text)?, told);
+    Ok(())
+}
+
+fn accept_in(net: &mut MemNet, told: &mut Wording) {
+    match net.listen(8001) {
+        Ok(listener) => net.shut(accept_once(listener, told)),
+        Err(_) => told.add("no listener"),
+    }
+}
+
+/// Accepts once, and gives the listener back.
+fn accept_once(mut listener: MemListener, told: &mut Wording) -> MemListener
+    requires { listener.given ≡ 0 }
+{
     match listener.accept() {
-        Ok(Some((mut source, _sink, _clock))) => read(&mut source, &mut [0u8; 4], told),
+        Ok(Some((source, _sink, _clock))) => drop(read_of(source, told)),
         _ => told.add("no connection"),
     }
-    net.shut(listener);
-    Ok(())
+    listener
 }
 
 /// A writer that takes at most 1000 bytes a call, and fails once it has taken `most`.
@@ -190,13 +215,20 @@ fn pass(alloc: Global, text: &str, told: &mut Wording) -> Result<(), Memory> {
         taken: &mut taken,
         most: usize::MAX,
     };
-    let mut sink = WriteEnd::new(alloc, slow);
-    told.debug(&sink.write(word.as_bytes()));
-    told.add(", ");
-    told.debug(&send(&mut sink, long.as_slice()));
-    drop(sink);
+    send_both(
+        WriteEnd::new(alloc, slow),
+        word.as_bytes(),
+        long.as_slice(),
+        told,
+    );
     tell_taken(taken.as_slice(), word.as_bytes(), long.as_slice(), told);
     Ok(())
+}
+
+fn send_both(mut sink: WriteEnd<Slow<'_>>, word: &[u8], long: &[u8], told: &mut Wording) {
+    told.debug(&sink.write(word));
+    told.add(", ");
+    told.debug(&send(&mut sink, long));
 }
 
 fn tell_taken(taken: &[u8], word: &[u8], long: &[u8], told: &mut Wording) {
@@ -211,13 +243,16 @@ fn tell_taken(taken: &[u8], word: &[u8], long: &[u8], told: &mut Wording) {
 
 /// Writes two words to a writer that takes nothing: what the first write, a flush and the second write answer.
 fn broken(alloc: Global, text: &str, told: &mut Wording) {
-    let (word, other) = split(text);
     let mut taken = Vec::new(alloc);
     let slow = Slow {
         taken: &mut taken,
         most: 0,
     };
-    let mut sink = WriteEnd::new(alloc, slow);
+    write_twice(&mut WriteEnd::new(alloc, slow), text, told);
+}
+
+fn write_twice(sink: &mut WriteEnd<Slow<'_>>, text: &str, told: &mut Wording) {
+    let (word, other) = split(text);
     told.debug(&sink.write(word.as_bytes()));
     told.add(", ");
     told.debug(&sink.flush());

@@ -31,17 +31,26 @@ pub fn fails<W: Writing>(
         told.add("fails where no call does");
         return Ok(());
     }
+    fails_at_each(alloc, writing, step, whole.bytes(), told)
+}
+
+fn fails_at_each<W: Writing>(
+    alloc: Global,
+    writing: &W,
+    step: usize,
+    whole: &[u8],
+    told: &mut Wording,
+) -> Result<(), Memory>
+    requires { 0 < step }
+{
     for call in 0..MOST {
         let mut sink = failing(alloc, step, call)?;
-        let met = writing.write(&mut sink);
-        if met {
-            tell_calls(call, sink.bytes() == whole.bytes(), told);
+        if writing.write(&mut sink) {
+            tell_calls(call, sink.bytes() == whole, told);
             return Ok(());
         }
-        if !has_what_went_before(sink.bytes(), whole.bytes(), step.saturating_mul(call)) {
-            told.add("at call ");
-            told.show(&call);
-            told.add(": other bytes");
+        if !has_what_went_before(sink.bytes(), whole, step.saturating_mul(call)) {
+            tell_other(call, told);
             return Ok(());
         }
     }
@@ -59,6 +68,12 @@ fn failing(alloc: Global, step: usize, call: usize) -> Result<MemSink, Memory>
 /// Whether a sink has no more bytes than calls before its fault could write, and they are the first of the whole.
 fn has_what_went_before(bytes: &[u8], whole: &[u8], most: usize) -> bool {
     bytes.len() <= most && whole.starts_with(bytes)
+}
+
+fn tell_other(call: usize, told: &mut Wording) {
+    told.add("at call ");
+    told.show(&call);
+    told.add(": other bytes");
 }
 
 fn tell_calls(calls: usize, is_whole: bool, told: &mut Wording) {

@@ -2,15 +2,15 @@
 
 ghost use Rattle.std.specs.Prelude.{◌≤◌, ◌<◌, ◌^◌, length};
 
-use crate::answers::tell_bytes;
+use crate::answers::tell_sent;
 use crate::faults::{Writing, fails};
 use crate::replies::length_of;
-use case_rows::{NO_STEP, Steps, Wording, number, split};
-use edge_io::{MemSink, Sink};
+use case_rows::{Steps, Wording, number, split};
+use edge_io::{Failed, MemSink, Sink};
 use kube_meta::Memory;
 use std::alloc::Global;
 use tungstenite::{Duplex, Error, Message, NoMask, Role, WebSocket};
-use ws_watch::{WsNo, accept_text, begin_message, begin_socket, end_socket, is_upgrade};
+use ws_watch::{accept_text, begin_message, begin_socket, end_socket, is_upgrade};
 
 /// The key that RFC 6455, section 1.3, answers.
 const KEY: &str = "dGhlIHNhbXBsZSBub25jZQ==";
@@ -36,19 +36,19 @@ impl Steps for Frames {
 /// What is written of a handshake, a message or the close.
 fn tell_written(alloc: Global, verb: &str, rest: &str, told: &mut Wording) {
     let mut sink = MemSink::new(usize::MAX, Vec::new(alloc));
-    let sent = match verb {
-        "socket" => begin_socket(&mut sink, rest),
-        "length" => begin_message(&mut sink, length_of(rest)),
-        "close" => end_socket(&mut sink),
-        _ => {
-            told.add(NO_STEP);
-            return;
-        }
-    };
-    match sent {
-        Ok(()) => tell_bytes(sink.bytes(), told),
-        Err(no) => told.debug(&no),
+    let sent = write(&mut sink, verb, rest);
+    tell_sent(sent, &sink, told);
+}
+
+/// Writes one of these, if the verb is that of one.
+fn write(sink: &mut MemSink, verb: &str, rest: &str) -> Result<bool, Failed> {
+    match verb {
+        "socket" => begin_socket(sink, rest)?,
+        "length" => begin_message(sink, length_of(rest))?,
+        "close" => end_socket(sink)?,
+        _ => return Ok(false),
     }
+    Ok(true)
 }
 
 /// Whether a key and a version are those of a handshake: each stands between quotation marks.
@@ -66,18 +66,15 @@ fn upgrade(text: &str) -> &'static str {
 }
 
 /// One message.
-fn write_line<K: Sink>(sink: &mut K, line: &[u8]) -> Result<(), WsNo>
+fn write_line<K: Sink>(sink: &mut K, line: &[u8]) -> Result<(), Failed>
     requires some { 1 ≤ length line.now }
     requires told { length line.now < 2 ^ 63 }
 {
     begin_message(sink, line.len() as u64)?;
-    match sink.write_all(line) {
-        Ok(()) => Ok(()),
-        Err(_) => Err(WsNo::WriteFault),
-    }
+    sink.write_all(line)
 }
 
-fn write_messages<K: Sink>(sink: &mut K) -> Result<(), WsNo> {
+fn write_messages<K: Sink>(sink: &mut K) -> Result<(), Failed> {
     write_line(sink, b"{\"type\":\"ADDED\"}")?;
     write_line(sink, &[b'x'; 300])?;
     end_socket(sink)
@@ -92,7 +89,7 @@ impl Writing for WholeSocket {
     }
 }
 
-fn write_socket<K: Sink>(sink: &mut K) -> Result<(), WsNo> {
+fn write_socket<K: Sink>(sink: &mut K) -> Result<(), Failed> {
     begin_socket(sink, KEY)?;
     write_messages(sink)
 }
@@ -100,12 +97,15 @@ fn write_socket<K: Sink>(sink: &mut K) -> Result<(), WsNo> {
 /// What a client reads of two messages and the close, so many times.
 fn read_back(alloc: Global, times: u64, told: &mut Wording) {
     let mut sink = MemSink::new(usize::MAX, Vec::new(alloc));
-    if write_messages(&mut sink).is_err() {
-        told.add("no messages");
-        return;
+    match write_messages(&mut sink) {
+        Ok(()) => read_messages(alloc, sink.bytes(), times, told),
+        Err(no) => told.debug(&no),
     }
+}
+
+fn read_messages(alloc: Global, bytes: &[u8], times: u64, told: &mut Wording) {
     let stream = Duplex {
-        reader: sink.bytes(),
+        reader: bytes,
         writer: Vec::new(alloc),
     };
     let mut socket = WebSocket::from_raw_socket(alloc, stream, NoMask, Role::Client, None);

@@ -82,14 +82,16 @@ impl<N: LogName> Steps for Fronts<N> {
         let (verb, rest) = split(step);
         let (first, second) = split(rest);
         match verb {
-            "commit" | "cut" | "compact" | "pen" | "pass" => {
-                write(self, verb, number(rest), told)?;
+            "commit" | "cut" | "compact" | "pen" => write(self, verb, number(rest), told),
+            "pass" => add_pass(self, told)?,
+            "tell" => tell(self, place(rest), told),
+            "learn" => learn(self, place(rest), told),
+            "look" | "look-generation" | "look-floor" | "show" => {
+                read(&mut self.passes, verb, place(rest), told);
             }
-            "tell" | "learn" => meet_pen(self, verb, place(rest), told)?,
-            "split" | "look" | "look-generation" | "look-floor" | "show" => {
-                read(&mut self.passes, verb, place(rest), told)?;
-            }
-            "meet" | "share" => meet(&mut self.passes, verb, place(first), place(second), told)?,
+            "split" => split_pass(&mut self.passes, place(rest), told)?,
+            "meet" => meet(&mut self.passes, place(first), place(second), told),
+            "share" => share(&mut self.passes, place(first), place(second), told)?,
             "close" => close(self, told),
             _ => told.add(NO_STEP),
         }
@@ -101,31 +103,46 @@ fn place(word: &str) -> usize {
     number(word) as usize
 }
 
+/// What is told where the log was closed.
+const NO_PEN: &str = "the pen is gone";
+
+/// What is told where a pass isn't there.
+const NO_PASS: &str = "no such pass";
+
 /// The steps of the pen alone.
-fn write<N: LogName>(
-    fronts: &mut Fronts<N>,
-    verb: &str,
-    at: u64,
-    told: &mut Wording,
-) -> Result<(), Memory> {
+fn write<N: LogName>(fronts: &mut Fronts<N>, verb: &str, at: u64, told: &mut Wording) {
     let Some(pen) = &mut fronts.pen else {
-        told.add("the pen is gone");
-        return Ok(());
+        told.add(NO_PEN);
+        return;
     };
     match verb {
         "commit" => commit_to(pen, at),
         "cut" => cut(pen),
         "compact" => compact(pen, at),
-        "pass" => fronts.passes.push(pen.front()?)?,
         _ => {}
     }
+    tell_pen(pen, told);
+}
+
+/// Adds a new pass.
+fn add_pass<N: LogName>(fronts: &mut Fronts<N>, told: &mut Wording) -> Result<(), Memory> {
+    match &mut fronts.pen {
+        Some(pen) => {
+            fronts.passes.push(pen.front()?)?;
+            tell_pen(pen, told);
+        }
+        None => told.add(NO_PEN),
+    }
+    Ok(())
+}
+
+fn tell_pen<N: LogName>(pen: &Pen<Note, N>, told: &mut Wording) {
     told.add("revision ");
     told.show(&pen.revision());
     told.add(", generation ");
     told.show(&pen.generation());
     told.add(", floor ");
     told.show(&pen.floor());
-    Ok(())
 }
 
 /// Commits the next entries, up to a revision.
@@ -157,21 +174,32 @@ fn read<N: LogName>(
     verb: &str,
     place: usize,
     told: &mut Wording,
-) -> Result<(), Memory> {
+) {
     let Some(pass) = passes.get_mut(place) else {
-        told.add("no such pass");
-        return Ok(());
+        told.add(NO_PASS);
+        return;
     };
     match verb {
         "look" => told.show(&pass.look()),
         "look-generation" => told.show(&pass.look_gen()),
         "look-floor" => told.show(&pass.look_floor()),
-        "split" => {
+        _ => tell_pass(pass, told),
+    }
+}
+
+/// Adds a second pass that knows the same.
+fn split_pass<N: LogName>(
+    passes: &mut Vec<Front<Note, N>>,
+    place: usize,
+    told: &mut Wording,
+) -> Result<(), Memory> {
+    match passes.get_mut(place) {
+        Some(pass) => {
             let copy = pass.split()?;
             passes.push(copy)?;
             told.show(&passes.len());
         }
-        _ => tell_pass(pass, told),
+        None => told.add(NO_PASS),
     }
     Ok(())
 }
@@ -187,51 +215,62 @@ fn tell_pass<N: LogName>(pass: &Front<Note, N>, told: &mut Wording) {
     told.show(&pass.floor());
 }
 
-/// A pass and the pen: the pass is told all, or the pen learns it, and then the pass is gone.
-fn meet_pen<N: LogName>(
-    fronts: &mut Fronts<N>,
-    verb: &str,
-    place: usize,
-    told: &mut Wording,
-) -> Result<(), Memory> {
-    let (Some(pen), true) = (&mut fronts.pen, place < fronts.passes.len()) else {
-        told.add("no such pass");
-        return Ok(());
-    };
-    let mut pass = fronts.passes.remove(place);
-    if verb == "learn" {
-        let learnt = pen.learn(pass).is_ok();
-        told.add(if learnt { "learnt" } else { "not learnt" });
-        return Ok(());
+/// Tells a pass all that the pen knows.
+fn tell<N: LogName>(fronts: &mut Fronts<N>, place: usize, told: &mut Wording) {
+    match (&mut fronts.pen, fronts.passes.get_mut(place)) {
+        (Some(pen), Some(pass)) => {
+            pen.meet(pass);
+            tell_pass(pass, told);
+        }
+        _ => told.add(NO_PASS),
     }
-    pen.meet(&mut pass);
-    tell_pass(&pass, told);
-    fronts.passes.insert(place, pass)?;
-    Ok(())
 }
 
-/// Two passes: the second one, which is behind the first, is taken in and gone, or both go on with what both know.
+/// The pen learns a pass, which is gone then.
+fn learn<N: LogName>(fronts: &mut Fronts<N>, place: usize, told: &mut Wording) {
+    match &mut fronts.pen {
+        Some(pen) if place < fronts.passes.len() => {
+            let learnt = pen.learn(fronts.passes.remove(place)).is_ok();
+            told.add(if learnt { "learnt" } else { "not learnt" });
+        }
+        _ => told.add(NO_PASS),
+    }
+}
+
+/// A pass takes in one behind it, which is gone then.
 fn meet<N: LogName>(
     passes: &mut Vec<Front<Note, N>>,
-    verb: &str,
+    first: usize,
+    second: usize,
+    told: &mut Wording,
+) {
+    if first >= second || second >= passes.len() {
+        told.add(NO_PASS);
+        return;
+    }
+    let other = passes.remove(second);
+    if let Some(pass) = passes.get_mut(first) {
+        let _ = pass.meet(other);
+        tell_pass(pass, told);
+    }
+}
+
+/// A pass and one behind it go on with what both know.
+fn share<N: LogName>(
+    passes: &mut Vec<Front<Note, N>>,
     first: usize,
     second: usize,
     told: &mut Wording,
 ) -> Result<(), Memory> {
     if first >= second || second >= passes.len() {
-        told.add("no such passes");
+        told.add(NO_PASS);
         return Ok(());
     }
     let mut other = passes.remove(second);
     let Some(pass) = passes.get_mut(first) else {
-        told.add("no such pass");
+        told.add(NO_PASS);
         return Ok(());
     };
-    if verb == "meet" {
-        let _ = pass.meet(other);
-        tell_pass(pass, told);
-        return Ok(());
-    }
     pass.share(&mut other);
     tell_pass(pass, told);
     passes.insert(second, other)?;
@@ -240,15 +279,22 @@ fn meet<N: LogName>(
 
 /// Closes the log, where no pass is left.
 fn close<N: LogName>(fronts: &mut Fronts<N>, told: &mut Wording) {
-    let Some(pen) = fronts.pen.take() else {
-        told.add("the pen is gone");
-        return;
-    };
+    match fronts.pen.take() {
+        Some(pen) => fronts.pen = close_by(pen, told),
+        None => told.add(NO_PEN),
+    }
+}
+
+/// Closes the log by its pen, which is given back where a pass is left.
+fn close_by<N: LogName>(pen: Pen<Note, N>, told: &mut Wording) -> Option<Pen<Note, N>> {
     match pen.close() {
-        Ok(found) => told.debug(&found),
+        Ok(found) => {
+            told.debug(&found);
+            None
+        }
         Err(pen) => {
-            fronts.pen = Some(pen);
             told.add("a pass is left");
+            Some(pen)
         }
     }
 }
@@ -269,14 +315,27 @@ fn two_threads_at<N: LogName + Send + Sync, R: Threads + Sync>(
 {
     let mut pen: Pen<Note, N> = start(made);
     let early = pen.front()?;
-    let ((mut pen, written), mut pass) = join(rt, move || committed(pen), move || looked(early));
-    let _ = pass.meet(written?);
+    let ((pen, written), pass) = join(rt, move || committed(pen), move || looked(early));
+    tell_learnt(pen, met(pass, written?, told), told);
+    Ok(())
+}
+
+/// The pass that has met another one, told.
+fn met<N: LogName>(
+    mut pass: Front<Note, N>,
+    other: Front<Note, N>,
+    told: &mut Wording,
+) -> Front<Note, N> {
+    let _ = pass.meet(other);
     tell_both(&pass, told);
+    pass
+}
+
+fn tell_learnt<N: LogName>(mut pen: Pen<Note, N>, pass: Front<Note, N>, told: &mut Wording) {
     told.add(", learnt ");
     told.show(&pen.learn(pass).is_ok());
     told.add(", revision ");
     told.show(&pen.revision());
-    Ok(())
 }
 
 fn tell_both<N: LogName>(pass: &Front<Note, N>, told: &mut Wording) {

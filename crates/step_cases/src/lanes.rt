@@ -1,7 +1,7 @@
 //! Which lanes a change is told to, by the name, the node and the namespace of a pod.
 
 use crate::answers::tell_numbers;
-use case_rows::{NO_STEP, Steps, Wording, key, number, object, split};
+use case_rows::{NO_STEP, Steps, Wording, number, object, split};
 use kube_meta::{Fields, Key, Memory, Obj, Resource, Text};
 use select_all::Selection;
 use std::alloc::Global;
@@ -29,18 +29,25 @@ impl Steps for Lanes {
             "add" => add(alloc, &mut self.index, None, rest, told)?,
             "add-in" => {
                 let (ns, lane) = split(rest);
-                let ns = Text::new(alloc, ns)?;
-                add(alloc, &mut self.index, Some(ns), lane, told)?;
+                add(
+                    alloc,
+                    &mut self.index,
+                    Some(Text::new(alloc, ns)?),
+                    lane,
+                    told,
+                )?;
             }
-            "drop" => {
-                self.index.drop_lane(number(rest));
-                told.add("ok");
-            }
+            "drop" => drop_lane(&mut self.index, number(rest), told),
             "change" => change(alloc, &self.index, rest, told)?,
             _ => told.add(NO_STEP),
         }
         Ok(())
     }
+}
+
+fn drop_lane(index: &mut LaneIndex, id: u64, told: &mut Wording) {
+    index.drop_lane(id);
+    told.add("ok");
 }
 
 /// Adds a lane in a namespace, or in all.
@@ -53,12 +60,13 @@ fn add(
 ) -> Result<(), Memory> {
     let (id, fields) = split(text);
     match Selection::read(alloc, Resource::Pods, ns, "", fields) {
-        Ok(selection) => {
-            index.add(number(id), &selection)?;
-            told.add("ok");
+        Ok(selection) => index.add(number(id), &selection)?,
+        Err(_) => {
+            told.add("no selection");
+            return Ok(());
         }
-        Err(_) => told.add("no selection"),
     }
+    told.add("ok");
     Ok(())
 }
 
@@ -76,9 +84,7 @@ fn pod(alloc: Global, word: &str) -> Result<Option<Obj>, Memory> {
     if word == "none" {
         return Ok(None);
     }
-    let Some((own, node)) = word.split_once('@') else {
-        return Ok(Some(on_node(alloc, key(alloc, "web")?, word)?));
-    };
+    let (own, node) = word.split_once('@').unwrap_or(("default/web", word));
     match Key::read(alloc, own.as_bytes())? {
         Some(key) => Ok(Some(on_node(alloc, key, node)?)),
         None => Ok(None),
@@ -87,11 +93,17 @@ fn pod(alloc: Global, word: &str) -> Result<Option<Obj>, Memory> {
 
 /// The pod with this key, which has no listed field where no node is named.
 fn on_node(alloc: Global, key: Key, node: &str) -> Result<Obj, Memory> {
+    let fields = listed(alloc, node)?;
     let mut pod = object(alloc, key)?;
-    if !node.is_empty() {
-        let node = Text::new(alloc, node)?;
-        let fields = vec![in alloc; node]?;
-        pod.fields = Fields::new(fields);
-    }
+    pod.fields = fields;
     Ok(pod)
+}
+
+/// The listed fields of a pod on a node, or on none.
+fn listed(alloc: Global, node: &str) -> Result<Fields, Memory> {
+    let mut fields = Vec::new(alloc);
+    if !node.is_empty() {
+        fields.push(Text::new(alloc, node)?)?;
+    }
+    Ok(Fields::new(fields))
 }

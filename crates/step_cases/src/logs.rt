@@ -27,11 +27,7 @@ impl Steps for Logs {
     fn answer(&mut self, alloc: Global, step: &str, told: &mut Wording) -> Result<(), Memory> {
         let (verb, rest) = split(step);
         match verb {
-            "base" => {
-                let obj = Arc::new(alloc, object(alloc, key(alloc, rest)?)?)?;
-                self.base.push(Row { obj, rev: 1 })?;
-                told.add("ok");
-            }
+            "base" => put_base(alloc, &mut self.base, rest, told)?,
             "write" => write(alloc, &mut self.log, rest, true, told)?,
             "remove" => write(alloc, &mut self.log, rest, false, told)?,
             "state" => tell_state(alloc, &self.base, &self.log, rest, told)?,
@@ -39,6 +35,19 @@ impl Steps for Logs {
         }
         Ok(())
     }
+}
+
+/// Adds a pod of the first revision.
+fn put_base(
+    alloc: Global,
+    base: &mut Vec<Row>,
+    name: &str,
+    told: &mut Wording,
+) -> Result<(), Memory> {
+    let obj = Arc::new(alloc, object(alloc, key(alloc, name)?)?)?;
+    base.push(Row { obj, rev: 1 })?;
+    told.add("ok");
+    Ok(())
 }
 
 /// Adds the revision that writes or removes one object: `PLURAL NAME`. Its number is the next one.
@@ -93,15 +102,11 @@ fn tell_state(
     let (plural, at) = split(text);
     match Resource::of_plural(plural.as_bytes()) {
         Some(resource) => {
-            let rows = state(alloc, base, log, resource, number(at))?;
-            tell_rows(&rows, told);
-            Ok(())
+            tell_rows(&state(alloc, base, log, resource, number(at))?, told);
         }
-        None => {
-            told.add("no resource");
-            Ok(())
-        }
+        None => told.add("no resource"),
     }
+    Ok(())
 }
 
 fn tell_rows(rows: &[Row], told: &mut Wording) {

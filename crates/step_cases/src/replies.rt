@@ -2,13 +2,11 @@
 
 ghost use Rattle.std.specs.Prelude.{◌≤◌, ◌<◌, ◌^◌};
 
-use crate::answers::tell_bytes;
+use crate::answers::tell_sent;
 use crate::faults::{Writing, fails};
-use case_rows::{NO_STEP, Steps, Wording, number, split};
-use edge_io::{MemSink, Sink};
-use http_send::{
-    SendNo, begin_chunk, begin_reply, begin_stream, end_chunk, end_stream, part, send_chunk,
-};
+use case_rows::{Steps, Wording, number, split};
+use edge_io::{Failed, MemSink, Sink};
+use http_send::{begin_chunk, begin_reply, begin_stream, end_chunk, end_stream, part, send_chunk};
 use kube_meta::Memory;
 use std::alloc::Global;
 
@@ -32,20 +30,20 @@ impl Steps for Replies {
 /// What is written of a reply or a stream.
 fn tell_written(alloc: Global, verb: &str, rest: &str, told: &mut Wording) {
     let mut sink = MemSink::new(usize::MAX, Vec::new(alloc));
-    let sent = match verb {
-        "reply" => reply(&mut sink, rest),
-        "stream" => stream(&mut sink),
-        "length" => begin_chunk(&mut sink, length_of(rest)),
-        "line" => line(&mut sink, rest.as_bytes()),
-        _ => {
-            told.add(NO_STEP);
-            return;
-        }
-    };
-    match sent {
-        Ok(()) => tell_bytes(sink.bytes(), told),
-        Err(no) => told.debug(&no),
+    let sent = write(&mut sink, verb, rest);
+    tell_sent(sent, &sink, told);
+}
+
+/// Writes one of these, if the verb is that of one.
+fn write(sink: &mut MemSink, verb: &str, rest: &str) -> Result<bool, Failed> {
+    match verb {
+        "reply" => reply(sink, rest)?,
+        "stream" => stream(sink)?,
+        "length" => begin_chunk(sink, length_of(rest))?,
+        "line" => line(sink, rest.as_bytes())?,
+        _ => return Ok(false),
     }
+    Ok(true)
 }
 
 /// A length from 1 to 2^63 - 1.
@@ -57,7 +55,7 @@ pub fn length_of(word: &str) -> u64
 }
 
 /// The head of a reply: `CODE LENGTH`, and behind them `again`, `close`, and `body` where a body follows.
-fn reply(sink: &mut MemSink, text: &str) -> Result<(), SendNo> {
+fn reply(sink: &mut MemSink, text: &str) -> Result<(), Failed> {
     let (code, rest) = split(text);
     let (length, flags) = split(rest);
     let code = number(code).min(999) as u16;
@@ -70,13 +68,13 @@ fn reply(sink: &mut MemSink, text: &str) -> Result<(), SendNo> {
 }
 
 /// The head and the end of a stream.
-fn stream(sink: &mut MemSink) -> Result<(), SendNo> {
+fn stream(sink: &mut MemSink) -> Result<(), Failed> {
     begin_stream(sink)?;
     end_stream(sink)
 }
 
 /// The chunk of a line, whose line feed is added.
-fn line(sink: &mut MemSink, text: &[u8]) -> Result<(), SendNo> {
+fn line(sink: &mut MemSink, text: &[u8]) -> Result<(), Failed> {
     begin_chunk(sink, (text.len() as u64 % 1000).saturating_add(1))?;
     part(sink, text)?;
     part(sink, b"\n")?;
@@ -92,7 +90,7 @@ impl Writing for WholeStream {
     }
 }
 
-fn send_all<K: Sink>(sink: &mut K) -> Result<(), SendNo> {
+fn send_all<K: Sink>(sink: &mut K) -> Result<(), Failed> {
     begin_stream(sink)?;
     send_chunk(sink, &[b"{}", b"\n"])?;
     end_stream(sink)

@@ -15,7 +15,7 @@ use Rattle.up_store.specs.declared.writes.WriteNo.{WriteNo}
 use Rattle.up_store.specs.declared.writes.WriteNo.TheVariants as write_no
 use Rattle.up_store.specs.declared.writes.Written.{Written}
 use Rattle.up_store.specs.Hearing.{IsHeard, IsHearAnswer}
-use Rattle.up_store.specs.Replies.{IsRefused, IsTxRefused, IsWriteReply, IsTransactionReply, IsCutReply, IsCompactionReply}
+use Rattle.up_store.specs.Replies.{IsWriteRefused, IsTxRefused, IsWriteReply, IsTransactionReply, IsCutReply, IsCompactionReply}
 use Rattle.up_store.specs.Stores.{KnowsAll, accepted, log_in, IsCutAnswer, IsCompactionAnswer}
 use Rattle.up_store.specs.Transacting.{tx_refusal_of, IsTransactionAnswer}
 use Rattle.up_store.specs.Writes.{refusal_of, write_of, IsWriteAnswer}
@@ -55,7 +55,7 @@ log-upto-end : (base : List RowData) (q : Pass RevisionData) → log_upto base q
 log-upto-end base q = ap (λ xs. record (log_of base q) { revisions = xs }) (upto-end (log_of base q) (end_of (log_of base q)) (omega arith))
 
 module _ (base : List RowData) (mirror : Bool) (history : ℕ) (ask : WriteAsk) (p q : Pass RevisionData) (w after : Whole RevisionData) where
-  refused : (fault : WriteNo) → q.first ≡ w.first → p.shown ≤ revision w → Knows after q → after ≡ w → refusal_of mirror (log_in base w) ask ≡ Some fault → IsRefused base mirror p ask fault q
+  refused : (fault : WriteNo) → q.first ≡ w.first → p.shown ≤ revision w → Knows after q → after ≡ w → refusal_of mirror (log_in base w) ask ≡ Some fault → IsWriteRefused base mirror p ask fault q
   refused fault first above knows same is =
       let log : log_of base q ≡ log_in base w = log-is base q w.first w.log first (knows.seen ∙ ap (λ v. v.log) same) in
       record {

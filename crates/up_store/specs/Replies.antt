@@ -35,7 +35,7 @@ pub record IsAccepted (base : List RowData) (mirror : Bool) (p : Pass RevisionDa
   pub committed : log_of base q ≡ grown before (write_of before ask ∷ [])
 
 -- a refused write: this refusal is the first that holds at a revision that is known
-pub record IsRefused (base : List RowData) (mirror : Bool) (p : Pass RevisionData) (ask : WriteAsk) (fault : WriteNo) (q : Pass RevisionData) : Type 0 where
+pub record IsWriteRefused (base : List RowData) (mirror : Bool) (p : Pass RevisionData) (ask : WriteAsk) (fault : WriteNo) (q : Pass RevisionData) : Type 0 where
   pub at : ℕ
   pub known : IsKnown p at q
   pub refused : refusal_of mirror (log_upto base q at) ask ≡ Some fault
@@ -44,7 +44,7 @@ pub record IsRefused (base : List RowData) (mirror : Bool) (p : Pass RevisionDat
 abbrev pub IsWriteReply : List RowData → Bool → Pass RevisionData → WriteAsk → Result Written WriteNo → Pass RevisionData → Type 0
 IsWriteReply base mirror p ask (Ok written) q = IsAccepted base mirror p ask written q
 IsWriteReply base mirror p ask (Err write_no.Memory) q = Unit {0}
-IsWriteReply base mirror p ask (Err fault) q = IsRefused base mirror p ask fault q
+IsWriteReply base mirror p ask (Err fault) q = IsWriteRefused base mirror p ask fault q
 
 -- ---- transactions
 

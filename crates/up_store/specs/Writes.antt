@@ -57,8 +57,8 @@ new_object (Replace resource obj given) = Some obj
 new_object (Remove resource key) = None
 
 -- the object that a write answers: the new one, or the removed one
-abbrev pub object_of : WriteAsk → Option RowData → Option Obj
-object_of ask row = option_or (new_object ask) (option_map (λ r. r.obj) row)
+abbrev pub written_object : WriteAsk → Option RowData → Option Obj
+written_object ask row = option_or (new_object ask) (option_map (λ r. r.obj) row)
 
 -- the revision of this write alone, after this log
 abbrev pub write_of : Log → WriteAsk → RevisionData
@@ -68,7 +68,7 @@ write_of log ask = record { rev = end_of log + 1; changes = change_of (end_of lo
 pub record IsWritten (log : Log) (ask : WriteAsk) (written : Written) : Type 0 where
   pub number : written.rev ≡ end_of log + 1
   pub row_number : written.row.rev ≡ written.rev
-  pub object : Some written.row.obj ≡ object_of ask (row_before log ask)
+  pub object : Some written.row.obj ≡ written_object ask (row_before log ask)
 
 -- what a write answers, and what it leaves: it is done as a whole, or nothing of it; where there was no memory nothing is
 abbrev pub IsWriteAnswer : List RowData → Bool → ℕ → WriteAsk → Whole RevisionData → Whole RevisionData → Result Written WriteNo → Type 0

@@ -8,7 +8,7 @@ ghost use Rattle.up_api.specs.Sections.{Learns};
 ghost use Rattle.up_store.specs.Kept.{Keeps, AreBounded, HasRoom};
 ghost use Rattle.up_store.specs.Replies.{IsWriteReply};
 ghost use Rattle.up_store.specs.Stores.{KnowsAll, log_in};
-ghost use Rattle.up_store.specs.Writes.{fault_at, stale_at, change_of, new_object, object_of, refusal_of, IsPrepared, IsWriteAnswer};
+ghost use Rattle.up_store.specs.Writes.{fault_at, stale_at, change_of, new_object, written_object, refusal_of, IsPrepared, IsWriteAnswer};
 
 use crate::committing::commit;
 use crate::kept::Kept;
@@ -151,7 +151,7 @@ pub fn object(
 ) -> Result<Arc<Obj>, WriteNo>
     requires { option_map (λ obj. obj.value) shared.now ≡ new_object ask.now }
     ensures unrefused { OnOk result (fault_at at ask.now (option_copied row.entry) ≡ None) }
-    ensures object { IfOk result (λ obj. Some obj.value ≡ object_of ask.now (option_copied row.entry)) }
+    ensures object { IfOk result (λ obj. Some obj.value ≡ written_object ask.now (option_copied row.entry)) }
     ensures refused { IfErr result (λ no. (no ≡ WriteNo.Memory) ⊎ (fault_at at ask.now (option_copied row.entry) ≡ Some no)) }
 {
     if let Some(no) = fault(ask, at, row) {

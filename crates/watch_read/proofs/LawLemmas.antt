@@ -15,7 +15,7 @@ use Rattle.watch_rules.specs.Bodies.{Line, Told, Bookmark, Closing, Lost}
 use Rattle.watch_texts.specs.Texts.{type_of, line_text}
 use Rattle.watch_read.specs.Feeds.{HasNoLineFeed}
 use Rattle.watch_read.specs.Laws.{IsTold, as_read}
-use Rattle.watch_read.specs.Lines.{IsLine}
+use Rattle.watch_read.specs.Lines.{IsPeerLine}
 use Rattle.watch_read.specs.Stored.{IsStatus}
 use Rattle.watch_read.specs.declared.peer_line.PeerLine.{PeerLine}
 use Rattle.watch_read.specs.declared.peer_line.PeerLine.TheVariants as peer
@@ -42,21 +42,21 @@ loss-status at floor small small_floor = record {
   text_is = refl;
 }
 
-is-read : (resource : Resource) (line : Line) → IsTold resource line → IsLine resource (line_text Whole resource line) (as_read line)
+is-read : (resource : Resource) (line : Line) → IsTold resource line → IsPeerLine resource (line_text Whole resource line) (as_read line)
 is-read resource (Told transition) told = (told.0, told.1, refl)
 is-read resource (Bookmark at) told = (told, refl)
 is-read resource (Closing at) told = (told, refl)
 is-read resource (Lost at floor) told = (expired_text at floor, loss-status at floor told.0 told.1, refl)
 
-pub reads-back : ObjectsReadBack → (resource : Resource) (line : Line) (found : PeerLine) → IsTold resource line → IsLine resource (line_text Whole resource line) found ↔ (found ≡ as_read line)
+pub reads-back : ObjectsReadBack → (resource : Resource) (line : Line) (found : PeerLine) → IsTold resource line → IsPeerLine resource (line_text Whole resource line) found ↔ (found ≡ as_read line)
 reads-back law resource line found told = (
   λ is. one-line law resource (line_text Whole resource line) found (as_read line) is (is-read resource line told),
-  λ e. subst (IsLine resource (line_text Whole resource line)) (sym e) (is-read resource line told),
+  λ e. subst (IsPeerLine resource (line_text Whole resource line)) (sym e) (is-read resource line told),
 )
 
 -- ---- no line feed
 
-pub feedless-line : (resource : Resource) (text : List ℕ) (line : PeerLine) → IsLine resource text line → HasNoLineFeed text
+pub feedless-line : (resource : Resource) (text : List ℕ) (line : PeerLine) → IsPeerLine resource text line → HasNoLineFeed text
 feedless-line resource text (peer.Told kind obj rev) is = subst HasNoLineFeed (sym is.2) (feedless-event (type_of kind) (object_json obj rev) (feedless-object resource obj rev is.0))
 feedless-line resource text (peer.Bookmark at closing) is =
     subst HasNoLineFeed (sym is.1) (feedless-event types.Bookmark (bookmark_text (api_version_of resource) (kind_of resource) at closing) (feedless-bookmark resource at closing))

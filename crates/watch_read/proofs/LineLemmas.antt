@@ -17,7 +17,7 @@ use Rattle.select_all.specs.declared.selection.Kind.{Kind}
 use Rattle.select_all.specs.declared.selection.Kind.TheVariants as kinds
 use Rattle.watch_texts.specs.Texts.{type_of}
 use Rattle.watch_texts.proofs.Apart.{marks_apart, told_no_mark}
-use Rattle.watch_read.specs.Lines.{IsLine}
+use Rattle.watch_read.specs.Lines.{IsPeerLine}
 use Rattle.watch_read.specs.Reading.{IsOnly}
 use Rattle.watch_read.specs.Stored.{IsStatus}
 use Rattle.watch_read.specs.declared.peer_line.PeerLine.{PeerLine}
@@ -57,14 +57,14 @@ no-error kinds.Deleted e = cc
 -- ---- what is no line
 
 abbrev pub IsNone : Resource → List ℕ → Type 0
-IsNone resource text = (line : PeerLine) → ¬ (IsLine resource text line)
+IsNone resource text = (line : PeerLine) → ¬ (IsPeerLine resource text line)
 
 record IsEvent (text : List ℕ) : Type 0 where
   type : EventType
   shown : List ℕ
   is : text ≡ event_text type shown
 
-event-of : (resource : Resource) (text : List ℕ) (line : PeerLine) → IsLine resource text line → IsEvent text
+event-of : (resource : Resource) (text : List ℕ) (line : PeerLine) → IsPeerLine resource text line → IsEvent text
 event-of resource text (Told kind obj rev) is = record { type = type_of kind; shown = object_json obj rev; is = is.2 }
 event-of resource text (Bookmark at closing) is = record { type = types.Bookmark; shown = bookmark_text (api_version_of resource) (kind_of resource) at closing; is = is.1 }
 event-of resource text (Error code) is = record { type = types.Error; shown = is.0; is = is.2 }
@@ -92,7 +92,7 @@ other-told resource text shown kind obj rev same only failed = none-told resourc
         failed (same ∙ ap (event_text (type_of kind)) shows ∙ ap (λ o. object_line Whole (type_of kind) o later) (sym one.0) ∙ ap (object_line Whole (type_of kind) obj) (sym one.1))
 
 abbrev pub HasNoMark : Resource → List ℕ → Bool → Type 0
-HasNoMark resource text closing = (at : ℕ) → ¬ (IsLine resource text (Bookmark at closing))
+HasNoMark resource text closing = (at : ℕ) → ¬ (IsPeerLine resource text (Bookmark at closing))
 
 pub none-marked : (resource : Resource) (text shown : List ℕ) → text ≡ event_text types.Bookmark shown → HasNoMark resource text false → HasNoMark resource text true → IsNone resource text
 none-marked resource text shown same first second (Told kind obj rev) is = no-bookmark kind (same-type (type_of kind) types.Bookmark (object_json obj rev) shown (sym is.2 ∙ same))
@@ -126,21 +126,21 @@ closings-apart Pods at other e = let bad : 114 ≡ 97 = ap (λ (l : List ℕ). g
 closings-apart ConfigMaps at other e = let bad : 114 ≡ 97 = ap (λ (l : List ℕ). get_or l 79 0) e in omega (arith, bad)
 closings-apart Deployments at other e = let bad : 114 ≡ 97 = ap (λ (l : List ℕ). get_or l 85 0) e in omega (arith, bad)
 
-one-mark : (resource : Resource) (text : List ℕ) (at other : ℕ) (closing later : Bool) → IsLine resource text (Bookmark at closing) → IsLine resource text (Bookmark other later)
+one-mark : (resource : Resource) (text : List ℕ) (at other : ℕ) (closing later : Bool) → IsPeerLine resource text (Bookmark at closing) → IsPeerLine resource text (Bookmark other later)
     → Bookmark at closing ≡ Bookmark other later
 one-mark resource text at other false false first second = ap (λ n. Bookmark n false) (marks_apart resource false at other first.0.1 second.0.1 (sym first.1 ∙ second.1))
 one-mark resource text at other true true first second = ap (λ n. Bookmark n true) (marks_apart resource true at other first.0.1 second.0.1 (sym first.1 ∙ second.1))
 one-mark resource text at other false true first second = absurd (closings-apart resource at other (sym first.1 ∙ second.1))
 one-mark resource text at other true false first second = absurd (closings-apart resource other at (sym second.1 ∙ first.1))
 
-one-told : ObjectsReadBack → (resource : Resource) (text : List ℕ) (kind other : Kind) (obj told : Obj) (rev later : ℕ) → IsLine resource text (Told kind obj rev) → IsLine resource text (Told other told later)
+one-told : ObjectsReadBack → (resource : Resource) (text : List ℕ) (kind other : Kind) (obj told : Obj) (rev later : ℕ) → IsPeerLine resource text (Told kind obj rev) → IsPeerLine resource text (Told other told later)
     → Told kind obj rev ≡ Told other told later
 one-told law resource text kind other obj told rev later first second =
     let apart = events-apart (type_of kind) (type_of other) (object_json obj rev) (object_json told later) (sym first.2 ∙ second.2) in
     let one = one-object law resource obj told rev later first.0 first.1 second.0 second.1 apart.1 in
     ap (λ k. Told k obj rev) (same-kind kind other apart.0) ∙ ap (λ o. Told other o rev) one.0 ∙ ap (λ r. Told other told r) one.1
 
-pub one-line : ObjectsReadBack → (resource : Resource) (text : List ℕ) (line other : PeerLine) → IsLine resource text line → IsLine resource text other → line ≡ other
+pub one-line : ObjectsReadBack → (resource : Resource) (text : List ℕ) (line other : PeerLine) → IsPeerLine resource text line → IsPeerLine resource text other → line ≡ other
 one-line law resource text (Told kind obj rev) (Told other told later) first second = one-told law resource text kind other obj told rev later first second
 one-line law resource text (Told kind obj rev) (Bookmark at closing) first second = absurd (told_no_mark kind obj rev resource at closing (sym first.2 ∙ second.1))
 one-line law resource text (Told kind obj rev) (Error code) first second = absurd (no-error kind (same-type (type_of kind) types.Error (object_json obj rev) second.0 (sym first.2 ∙ second.2)))

@@ -8,7 +8,7 @@ use Rattle.watch_rules.specs.Bodies.{Line, Told, Bookmark, Closing, Lost}
 use Rattle.watch_texts.specs.Texts.{line_text}
 use Rattle.watch_read.specs.Stored.{IsStored, IsToldAt}
 use Rattle.watch_read.specs.Feeds.{HasNoLineFeed}
-use Rattle.watch_read.specs.Lines.{IsLine}
+use Rattle.watch_read.specs.Lines.{IsPeerLine}
 use Rattle.watch_read.specs.declared.peer_line.PeerLine.{PeerLine}
 use Rattle.watch_read.specs.declared.peer_line.PeerLine.TheVariants as peer
 
@@ -28,11 +28,11 @@ as_read (Lost at floor) = peer.Error 410
 
 -- the text of a body's line is that of the same line as it is read, and of no other
 abbrev pub LinesReadBack : Type 0
-LinesReadBack = (resource : Resource) (line : Line) (found : PeerLine) → IsTold resource line → IsLine resource (line_text Whole resource line) found ↔ (found ≡ as_read line)
+LinesReadBack = (resource : Resource) (line : Line) (found : PeerLine) → IsTold resource line → IsPeerLine resource (line_text Whole resource line) found ↔ (found ≡ as_read line)
 
 -- a text is that of one line at most
 abbrev pub LinesAreOne : Type 0
-LinesAreOne = (resource : Resource) (text : List ℕ) (line other : PeerLine) → IsLine resource text line → IsLine resource text other → line ≡ other
+LinesAreOne = (resource : Resource) (text : List ℕ) (line other : PeerLine) → IsPeerLine resource text line → IsPeerLine resource text other → line ≡ other
 
 -- texts of stored objects tell the objects and the revisions apart
 abbrev pub ShownTextsTellApart : Type 0
@@ -42,4 +42,4 @@ ShownTextsTellApart =
 
 -- no line's text has a line feed, so that one may end it
 abbrev pub TextsHaveNoLineFeed : Type 0
-TextsHaveNoLineFeed = (resource : Resource) (text : List ℕ) (line : PeerLine) → IsLine resource text line → HasNoLineFeed text
+TextsHaveNoLineFeed = (resource : Resource) (text : List ℕ) (line : PeerLine) → IsPeerLine resource text line → HasNoLineFeed text

@@ -11,11 +11,11 @@ use Rattle.watch_read.specs.declared.peer_line.PeerLine.{PeerLine}
 use Rattle.watch_read.specs.declared.peer_line.PeerLine.TheVariants.{Told, Bookmark, Error}
 
 -- the text is that of this line: of an object that is stored, of a bookmark, or of the ERROR with the Status of some refusal
-abbrev pub IsLine : Resource → List ℕ → PeerLine → Type 0
-IsLine resource text (Told kind obj rev) = IsStored resource obj × IsToldAt rev × (text ≡ object_line Whole (type_of kind) obj rev)
-IsLine resource text (Bookmark at closing) = IsToldAt at × (text ≡ bookmark_line Whole resource at closing)
-IsLine resource text (Error code) = (status : List ℕ) × IsStatus status code × (text ≡ event_text types.Error status)
+abbrev pub IsPeerLine : Resource → List ℕ → PeerLine → Type 0
+IsPeerLine resource text (Told kind obj rev) = IsStored resource obj × IsToldAt rev × (text ≡ object_line Whole (type_of kind) obj rev)
+IsPeerLine resource text (Bookmark at closing) = IsToldAt at × (text ≡ bookmark_line Whole resource at closing)
+IsPeerLine resource text (Error code) = (status : List ℕ) × IsStatus status code × (text ≡ event_text types.Error status)
 
 -- what is read of a text: its line, or nothing where it is the text of no line
-abbrev pub Reads : Resource → List ℕ → Option PeerLine → Type 0
-Reads resource text found = MatchOption found ((line : PeerLine) → ¬ (IsLine resource text line)) (λ line. IsLine resource text line)
+abbrev pub ReadsPeerLine : Resource → List ℕ → Option PeerLine → Type 0
+ReadsPeerLine resource text found = MatchOption found ((line : PeerLine) → ¬ (IsPeerLine resource text line)) (λ line. IsPeerLine resource text line)

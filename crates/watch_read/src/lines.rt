@@ -4,7 +4,7 @@ ghost use Rattle.std.specs.Prelude.{◌≡◌, ℕ, false, IfOk, MatchOption};
 ghost use Rattle.json_obj.specs.Replies.{event_text};
 ghost use Rattle.json_obj.specs.declared.pieces.EventType.TheVariants as types;
 ghost use Rattle.watch_texts.specs.Texts.{type_of};
-ghost use Rattle.watch_read.specs.Lines.{IsLine, Reads};
+ghost use Rattle.watch_read.specs.Lines.{IsPeerLine, ReadsPeerLine};
 ghost use Rattle.watch_read.specs.declared.peer_line.PeerLine.TheVariants as lines;
 
 use crate::PeerLine;
@@ -21,7 +21,7 @@ use watch_texts::{bookmark_in, tells};
 /// exactly the line whose text it is, byte for byte: of an object that is stored, at a revision from 1 to 2^62; of a
 /// bookmark at such a revision; or of an ERROR with the Status of a refusal. Any other text is none.
 pub fn read_line(alloc: Global, resource: Resource, text: &[u8]) -> Result<Option<PeerLine>, Memory>
-    ensures { IfOk result (λ found. Reads resource text.now found) }
+    ensures { IfOk result (λ found. ReadsPeerLine resource text.now found) }
 {
     let event = type_of_event(text);
     let Some(shown) = object_in(text, event) else {
@@ -45,7 +45,7 @@ fn told(
     shown: &[u8],
 ) -> Result<Option<PeerLine>, Memory>
     requires { text.now ≡ event_text (type_of kind) shown.now }
-    ensures { IfOk result (λ found. Reads resource text.now found) }
+    ensures { IfOk result (λ found. ReadsPeerLine resource text.now found) }
 {
     let Some((obj, rev)) = only_object(alloc, resource, shown)? else {
         return Ok(None);
@@ -60,7 +60,7 @@ fn told(
 // The line that is a bookmark.
 fn bookmark(resource: Resource, text: &[u8], shown: &[u8]) -> Option<PeerLine>
     requires { text.now ≡ event_text types.Bookmark shown.now }
-    ensures { Reads resource text.now result }
+    ensures { ReadsPeerLine resource text.now result }
 {
     match bookmark_at(resource, text, false) {
         Some(at) => Some(PeerLine::Bookmark { at, closing: false }),
@@ -71,8 +71,8 @@ fn bookmark(resource: Resource, text: &[u8], shown: &[u8]) -> Option<PeerLine>
 // The line that is a bookmark which closes the initial events, where it is no other.
 fn closing(resource: Resource, text: &[u8], shown: &[u8]) -> Option<PeerLine>
     requires event { text.now ≡ event_text types.Bookmark shown.now }
-    requires other { (at : ℕ) → ¬ (IsLine resource text.now (lines.Bookmark at false)) }
-    ensures { Reads resource text.now result }
+    requires other { (at : ℕ) → ¬ (IsPeerLine resource text.now (lines.Bookmark at false)) }
+    ensures { ReadsPeerLine resource text.now result }
 {
     match bookmark_at(resource, text, true) {
         Some(at) => Some(PeerLine::Bookmark { at, closing: true }),
@@ -82,8 +82,8 @@ fn closing(resource: Resource, text: &[u8], shown: &[u8]) -> Option<PeerLine>
 
 // The revision of a bookmark that closes the initial events, or of one that doesn't.
 fn bookmark_at(resource: Resource, text: &[u8], closing: bool) -> Option<u64>
-    ensures { MatchOption result ((at : ℕ) → ¬ (IsLine resource text.now (lines.Bookmark at closing)))
-        (λ at. IsLine resource text.now (lines.Bookmark at closing)) }
+    ensures { MatchOption result ((at : ℕ) → ¬ (IsPeerLine resource text.now (lines.Bookmark at closing)))
+        (λ at. IsPeerLine resource text.now (lines.Bookmark at closing)) }
 {
     let Some(at) = bookmark_in(text, resource, closing) else {
         return None;
@@ -99,7 +99,7 @@ fn error(
     shown: &[u8],
 ) -> Result<Option<PeerLine>, Memory>
     requires { text.now ≡ event_text types.Error shown.now }
-    ensures { IfOk result (λ found. Reads resource text.now found) }
+    ensures { IfOk result (λ found. ReadsPeerLine resource text.now found) }
 {
     match code_in(alloc, shown)? {
         Some(code) => Ok(Some(PeerLine::Error { code })),

@@ -13,7 +13,7 @@ use Rattle.watch_record.specs.Headers.{header_text, is_in_range, header_at, head
 use Rattle.watch_record.specs.Revisions.{AreRevisionsOf}
 use Rattle.watch_record.specs.Reading.{ReadsLog}
 use Rattle.watch_record.specs.Asking.{is_asked, IsAskOf}
-use Rattle.watch_record.specs.Records.{has_floor, ask_fault, log_fault, header_fault, text_fault, is_too_long, fault_of, IsReadOf}
+use Rattle.watch_record.specs.Records.{has_floor, ask_fault, log_fault, header_fault, text_fault, is_too_long, record_fault, IsReadOf}
 use Rattle.watch_record.specs.declared.header.Header.{Header}
 use Rattle.watch_record.specs.declared.records.Record.{Record}
 use Rattle.watch_record.specs.declared.refusals.RecordNo.{RecordNo}
@@ -95,10 +95,10 @@ pub no-end : (header : Header) (found : Option Parts) (ended : Bool) → ended �
 no-end header None ended wrong = refl
 no-end header (Some parts) ended wrong = ap (header_fault (Some header) (Some parts)) wrong
 
-pub of-text : (bytes : List ℕ) → is_too_long bytes ≡ false → IsUtf8 bytes → fault_of bytes ≡ text_fault bytes
+pub of-text : (bytes : List ℕ) → is_too_long bytes ≡ false → IsUtf8 bytes → record_fault bytes ≡ text_fault bytes
 of-text bytes short utf8 = rw (short, is_utf8-from_IsUtf8 bytes utf8) refl
 
-pub no-text : (bytes : List ℕ) → is_too_long bytes ≡ false → ¬ (IsUtf8 bytes) → fault_of bytes ≡ Some BadHeader
+pub no-text : (bytes : List ℕ) → is_too_long bytes ≡ false → ¬ (IsUtf8 bytes) → record_fault bytes ≡ Some BadHeader
 no-text bytes short wrong = rw (short, fails (is_utf8 bytes) (λ e. wrong (IsUtf8-from_is_utf8 bytes e))) refl
   where
     fails : (b : Bool) → (b ≡ true → ⊥) → b ≡ false

@@ -9,7 +9,7 @@ use Rattle.rev_front.specs.Passes.{FitFrom}
 use Rattle.rev_log.specs.Changes.{RevisionData, IsRevision}
 use Rattle.rev_log.specs.Logs.{Fits}
 use Rattle.watch_record.specs.Lines.{Parts, with_line, parts_of}
-use Rattle.watch_record.specs.Revisions.{is_next, bad_place, IsRevisionOf, AreRevisionsOf}
+use Rattle.watch_record.specs.Revisions.{tells_revision, bad_place, IsRecordedRevision, AreRevisionsOf}
 use Rattle.watch_record.specs.Reading.{IsKept, KeepsLog, ReadsLog}
 use Rattle.watch_record.specs.declared.refusals.RecordNo.TheVariants.{BadLog}
 
@@ -65,27 +65,27 @@ counted-on : (n : ℕ) (found : Option ℕ) → option_map (λ m. n + m) (option
 counted-on n None = refl
 counted-on n (Some m) = let same : n + suc m ≡ (n + 1) + m = omega arith in ap Some same
 
-bad-good : (rev : ℕ) (line : List ℕ) (lines : List (List ℕ)) → is_next rev line ≡ true → bad_place rev (line ∷ lines) ≡ option_map suc (bad_place (rev + 1) lines)
+bad-good : (rev : ℕ) (line : List ℕ) (lines : List (List ℕ)) → tells_revision rev line ≡ true → bad_place rev (line ∷ lines) ≡ option_map suc (bad_place (rev + 1) lines)
 bad-good rev line lines is = ap (λ b. if b then option_map suc (bad_place (rev + 1) lines) else Some 0) is
 
-bad-bad : (rev : ℕ) (line : List ℕ) (lines : List (List ℕ)) → is_next rev line ≡ false → bad_place rev (line ∷ lines) ≡ Some 0
+bad-bad : (rev : ℕ) (line : List ℕ) (lines : List (List ℕ)) → tells_revision rev line ≡ false → bad_place rev (line ∷ lines) ≡ Some 0
 bad-bad rev line lines is = ap (λ b. if b then option_map suc (bad_place (rev + 1) lines) else Some 0) is
 
 revisions-push : (rev : ℕ) (lines : List (List ℕ)) (log : List RevisionData) (line : List ℕ) (revision : RevisionData) → AreRevisionsOf rev lines log
-    → IsRevisionOf (rev + length lines) line revision → AreRevisionsOf rev (lines ++ line ∷ []) (log ++ revision ∷ [])
-revisions-push rev [] [] line revision are is = let same : rev + 0 ≡ rev = omega arith in (subst (λ n. IsRevisionOf n line revision) same is, tt)
+    → IsRecordedRevision (rev + length lines) line revision → AreRevisionsOf rev (lines ++ line ∷ []) (log ++ revision ∷ [])
+revisions-push rev [] [] line revision are is = let same : rev + 0 ≡ rev = omega arith in (subst (λ n. IsRecordedRevision n line revision) same is, tt)
 revisions-push rev [] (r ∷ log) line revision are is = absurd are
 revisions-push rev (l ∷ lines) [] line revision are is = absurd are
 revisions-push rev (l ∷ lines) (r ∷ log) line revision are is =
     let same : rev + suc (length lines) ≡ (rev + 1) + length lines = omega arith in
-    (are.0, revisions-push (rev + 1) lines log line revision are.1 (subst (λ n. IsRevisionOf n line revision) same is))
+    (are.0, revisions-push (rev + 1) lines log line revision are.1 (subst (λ n. IsRecordedRevision n line revision) same is))
 
 All-push : (P : RevisionData → Type 0) (log : List RevisionData) (revision : RevisionData) → All P log → P revision → All P (log ++ revision ∷ [])
 All-push P log revision all is = All-append P log (revision ∷ []) all (All-cons P revision [] is (λ k d past. absurd (omega arith)))
 
 pub has_log-more : (first : ℕ) (lines : List (List ℕ)) (log : List RevisionData) (left more : List (List ℕ)) (line : List ℕ) (rev : ℕ) (revision : RevisionData)
     → HasLog first lines log left → left ≡ line ∷ more → 0 < length line → rev ≡ first + 1 + length log
-    → is_next rev line ≡ true → IsRevisionOf rev line revision → IsKept rev revision → HasLog first lines (log ++ revision ∷ []) more
+    → tells_revision rev line ≡ true → IsRecordedRevision rev line revision → IsKept rev revision → HasLog first lines (log ++ revision ∷ []) more
 has_log-more first lines log left more line rev revision so_far is some at next told kept =
     let front = so_far.front in
     let size : length (front ++ line ∷ []) ≡ length front + 1 = length_push front line in
@@ -98,7 +98,7 @@ has_log-more first lines log left more line rev revision so_far is some at next 
           ∙ parts-on front line (parts_of more);
       size = omega (arith, size, size_of_log, so_far.size);
       good = λ rest. good_on rest placed size;
-      log_is = revisions-push (first + 1) front log line revision so_far.log_is (subst (λ n. IsRevisionOf n line revision) placed told);
+      log_is = revisions-push (first + 1) front log line revision so_far.log_is (subst (λ n. IsRecordedRevision n line revision) placed told);
       forms = All-push IsRevision log revision so_far.forms kept.form;
       some_changes = All-push (λ r. 0 < length r.changes) log revision so_far.some_changes kept.some_changes;
       ends = omega (arith, size_of_log, at, kept.within);
@@ -110,7 +110,7 @@ has_log-more first lines log left more line rev revision so_far is some at next 
     good_on rest placed size =
         let front = so_far.front in
         let onward : ((first + 1) + length front) + 1 ≡ first + 1 + (length front + 1) = omega arith in
-        let next_there : is_next ((first + 1) + length front) line ≡ true = subst (λ n. is_next n line ≡ true) placed next in
+        let next_there : tells_revision ((first + 1) + length front) line ≡ true = subst (λ n. tells_revision n line ≡ true) placed next in
         ap (bad_place (first + 1)) (append_assoc front (line ∷ []) rest)
         ∙ so_far.good (line ∷ rest)
         ∙ ap (option_map (λ n. length front + n)) (bad-good ((first + 1) + length front) line rest next_there)
@@ -163,15 +163,15 @@ abbrev IsBadAt : ℕ → ℕ → Option Parts → Type 0
 IsBadAt first place found = IfSome found (λ (parts : Parts). option_map (λ line. BadLog line) (bad_place (first + 1) parts.log) ≡ Some (BadLog place))
 
 pub has_log-bad : (first : ℕ) (lines : List (List ℕ)) (log : List RevisionData) (left more : List (List ℕ)) (line : List ℕ) (rev : ℕ)
-    → HasLog first lines log left → left ≡ line ∷ more → 0 < length line → rev ≡ first + 1 + length log → is_next rev line ≡ false → IsBadAt first (length log) (parts_of lines)
+    → HasLog first lines log left → left ≡ line ∷ more → 0 < length line → rev ≡ first + 1 + length log → tells_revision rev line ≡ false → IsBadAt first (length log) (parts_of lines)
 has_log-bad first lines log left more line rev so_far is some at wrong =
     let front = so_far.front in
     let placed : rev ≡ (first + 1) + length front = omega (arith, so_far.size, at) in
     let found : parts_of lines ≡ option_map (with_lines front) (option_map (with_line line) (parts_of more)) =
     so_far.parts ∙ ap (λ l. option_map (with_lines front) (parts_of l)) is ∙ ap (option_map (with_lines front)) (parts-line line more some) in
-    subst (IsBadAt first (length log)) (sym found) (at_parts (parts_of more) (subst (λ n. is_next n line ≡ false) placed wrong))
+    subst (IsBadAt first (length log)) (sym found) (at_parts (parts_of more) (subst (λ n. tells_revision n line ≡ false) placed wrong))
   where
-    at_parts : (rest : Option Parts) → is_next ((first + 1) + length so_far.front) line ≡ false
+    at_parts : (rest : Option Parts) → tells_revision ((first + 1) + length so_far.front) line ≡ false
         → IsBadAt first (length log) (option_map (with_lines so_far.front) (option_map (with_line line) rest))
     at_parts None there = tt
     at_parts (Some parts) there =

@@ -14,7 +14,7 @@ use Rattle.serde_json.specs.Written.{comma_if}
 use Rattle.serde_json.specs.declared.value.Value.{Value}
 use Rattle.json_obj.specs.Replies.{items_text, later_items}
 use Rattle.rev_log.specs.Changes.{ChangeData, RevisionData, HasItsKey, IsRevision, change_cmp}
-use Rattle.watch_record.specs.Revisions.{Told, told_in, all_told, told_cmp, are_rising, are_in_order, text_of_told, line_front, line_back, line_text, is_text_of, is_line_of, IsChangeOf, AreChangesOf}
+use Rattle.watch_record.specs.Revisions.{Told, told_in, all_told, told_cmp, are_rising, are_in_order, text_of_told, line_front, line_back, recorded_line, is_text_of, is_line_of, IsChangeOf, AreChangesOf}
 use Rattle.watch_record.specs.Reading.{ReadsChange, ReadsChanges, ReadsRevision}
 
 -- ---- one more
@@ -214,7 +214,7 @@ tested : (rev : ℕ) (line : List ℕ) (told : Option (List Told)) (changes : Li
     → (nat_le 1 count && (nat_le rev (2 ^ 62) && bytes_eq text line)) ≡ is_text_of rev line from.reads.values
 tested rev line told changes count text from =
     let values = from.reads.values in
-    let same : text ≡ line_text (map text_of_told values) rev = whole-line from.front from.middle text (items_text (map text_of_told values)) rev from.front_is from.reads.writes from.text_is in
+    let same : text ≡ recorded_line (map text_of_told values) rev = whole-line from.front from.middle text (items_text (map text_of_told values)) rev from.front_is from.reads.writes from.text_is in
     let size : count ≡ length values = from.count_is ∙ same-length rev values changes from.reads.changes_are in
     ap (λ n. nat_le 1 n && (nat_le rev (2 ^ 62) && bytes_eq text line)) size ∙ ap (λ t. nat_le 1 (length values) && (nat_le rev (2 ^ 62) && bytes_eq t line)) same
 

@@ -7,33 +7,35 @@ use Rattle.http_read.specs.Queries.{query_pairs, first_value, unless_empty, is_t
 use Rattle.select_all.specs.Reading.{selection_of}
 use Rattle.select_all.specs.declared.selection.Selection.{Selection}
 use Rattle.select_all.specs.declared.selection.SelNo.{SelNo}
-use Rattle.watch_rules.specs.Options.{Query, first_fault, MeansWatch}
+use Rattle.watch_rules.specs.Options.{Query, query_fault, MeansWatch}
 use Rattle.watch_rules.specs.declared.ask.WatchAsk.{WatchAsk}
 use Rattle.watch_record.specs.declared.header.Header.{Header}
 
 abbrev pub pairs_of : Header → Query
 pairs_of header = query_pairs header.query
 
-abbrev pub namespace_of : Header → Option (List ℕ)
-namespace_of header = unless_empty (Some header.namespace)
+-- the namespace that the header names; nothing where that text is empty
+abbrev pub asked_namespace : Header → Option (List ℕ)
+asked_namespace header = unless_empty (Some header.namespace)
 
 -- the first value of a name, and no text where there is none
-abbrev pub value_of : List ℕ → Query → List ℕ
-value_of name query = unwrap_or (unless_empty (first_value name query)) []
+abbrev pub first_text : List ℕ → Query → List ℕ
+first_text name query = unwrap_or (unless_empty (first_value name query)) []
 
 -- what the texts of the two selectors are read as
 abbrev pub selection_in : Header → Result Selection SelNo
 selection_in header =
-    selection_of header.resource (namespace_of header) (value_of (codes "labelSelector") (pairs_of header)) (value_of (codes "fieldSelector") (pairs_of header))
+    selection_of header.resource (asked_namespace header) (first_text (codes "labelSelector") (pairs_of header)) (first_text (codes "fieldSelector") (pairs_of header))
 
-abbrev pub is_watch : Query → Bool
-is_watch query = option_map_or is_truth (first_value (codes "watch") query) false
+-- the query asks for a watch
+abbrev pub is_watch_request : Query → Bool
+is_watch_request query = option_map_or is_truth (first_value (codes "watch") query) false
 
 -- nothing refuses it
 abbrev pub is_asked : Header → Bool
 is_asked header =
-    option_map_or is_namespace (namespace_of header) true
-    && (is_ok (selection_in header) && (is_none (first_fault (pairs_of header)) && is_watch (pairs_of header)))
+    option_map_or is_namespace (asked_namespace header) true
+    && (is_ok (selection_in header) && (is_none (query_fault (pairs_of header)) && is_watch_request (pairs_of header)))
 
 -- what a reader of selectors keeps of this reading: for private clauses
 abbrev pub KeepsSelection : Result Selection SelNo → Option Selection → Type 0

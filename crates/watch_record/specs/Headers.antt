@@ -28,11 +28,12 @@ header_text h = header_front h ++ header_back h
 abbrev pub number_in : List ℕ → Data → Option ℕ
 number_in name d = option_and_then as_u64 (option_and_then as_number (get name d))
 
-abbrev pub text_in : List ℕ → Data → Option (List ℕ)
-text_in name d = option_and_then as_str (get name d)
+-- the text of this member, if it is there and is one
+abbrev pub text_member : List ℕ → Data → Option (List ℕ)
+text_member name d = option_and_then as_str (get name d)
 
 abbrev pub resource_in : Data → Option Resource
-resource_in d = option_and_then of_plural (text_in (codes "resource") d)
+resource_in d = option_and_then of_plural (text_member (codes "resource") d)
 
 abbrev pub numbers_in : Data → Option (ℕ × ℕ × ℕ)
 numbers_in d =
@@ -42,7 +43,7 @@ numbers_in d =
 abbrev pub texts_in : Data → Option (List ℕ × List ℕ × Resource)
 texts_in d =
     option_and_then (λ namespace. option_and_then (λ query. option_map (λ resource. (namespace, query, resource))
-    (resource_in d)) (text_in (codes "query") d)) (text_in (codes "namespace") d)
+    (resource_in d)) (text_member (codes "query") d)) (text_member (codes "namespace") d)
 
 abbrev pub header_from : Option (ℕ × ℕ × ℕ) → Option (List ℕ × List ℕ × Resource) → Option Header
 header_from None texts = None

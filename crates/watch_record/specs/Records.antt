@@ -49,8 +49,9 @@ header_fault (Some header) (Some parts) true = log_fault header parts.log
 abbrev pub text_fault : List ℕ → Option RecordNo
 text_fault text = header_fault (header_of (first_line text)) (parts_of (later_lines text)) (is_ended text)
 
-abbrev pub fault_of : List ℕ → Option RecordNo
-fault_of bytes = if is_too_long bytes then Some TooLong else (if is_utf8 bytes then text_fault bytes else Some BadHeader)
+-- the first reason why bytes are no record; nothing where they are one
+abbrev pub record_fault : List ℕ → Option RecordNo
+record_fault bytes = if is_too_long bytes then Some TooLong else (if is_utf8 bytes then text_fault bytes else Some BadHeader)
 
 -- ---- what is read
 

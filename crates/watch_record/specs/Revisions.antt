@@ -17,7 +17,7 @@ use Rattle.kube_meta.specs.declared.resources.Resource.{Resource}
 use Rattle.json_obj.specs.Objects.{refusal, IsObjectOf}
 use Rattle.json_obj.specs.Replies.{items_text}
 use Rattle.rev_log.specs.Changes.{ChangeData, RevisionData}
-use Rattle.watch_record.specs.Headers.{text_in, resource_in}
+use Rattle.watch_record.specs.Headers.{text_member, resource_in}
 
 -- ---- how they are written: compact, the members in the order of their names. No byte of a key needs an escape
 
@@ -25,11 +25,12 @@ use Rattle.watch_record.specs.Headers.{text_in, resource_in}
 abbrev pub key_text : List ℕ → List ℕ
 key_text key = concat (codes "{\"key\":\"" ∷ key ∷ codes "\",\"object\":" ∷ [])
 
-abbrev pub resource_text : Resource → List ℕ
-resource_text resource = concat (codes ",\"resource\":\"" ∷ plural_of resource ∷ codes "\"}" ∷ [])
+-- how a change's line names its resource, at its end
+abbrev pub resource_member : Resource → List ℕ
+resource_member resource = concat (codes ",\"resource\":\"" ∷ plural_of resource ∷ codes "\"}" ∷ [])
 
 abbrev pub change_text : List ℕ → List ℕ → Resource → List ℕ
-change_text key object resource = key_text key ++ (object ++ resource_text resource)
+change_text key object resource = key_text key ++ (object ++ resource_member resource)
 
 -- what stands before and after the changes of a line
 abbrev pub line_front : List ℕ
@@ -38,8 +39,9 @@ line_front = codes "{\"changes\":["
 abbrev pub line_back : ℕ → List ℕ
 line_back rev = concat (codes "],\"rev\":" ∷ decimal rev ∷ codes "}" ∷ [])
 
-abbrev pub line_text : List (List ℕ) → ℕ → List ℕ
-line_text changes rev = line_front ++ (items_text changes ++ line_back rev)
+-- the line of a revision, from the texts of its changes and its number
+abbrev pub recorded_line : List (List ℕ) → ℕ → List ℕ
+recorded_line changes rev = line_front ++ (items_text changes ++ line_back rev)
 
 -- the object as it is shown at the revision, and null where there is none
 abbrev pub new_text : ℕ → Option Obj → List ℕ
@@ -51,7 +53,7 @@ text_of_change change = change_text change.key (new_text change.rev change.new) 
 
 -- with its line feed
 abbrev pub revision_line : RevisionData → List ℕ
-revision_line revision = line_text (map text_of_change revision.changes) revision.rev ++ codes "\n"
+revision_line revision = recorded_line (map text_of_change revision.changes) revision.rev ++ codes "\n"
 
 -- ---- how they are read
 
@@ -74,7 +76,7 @@ if_change told = if is_change told then Some told else None
 abbrev pub told_in : Data → Option Told
 told_in d =
     option_and_then (λ key. option_and_then (λ object. option_and_then (λ resource. if_change (record { key = key; object = object; resource = resource }))
-    (resource_in d)) (get (codes "object") d)) (text_in (codes "key") d)
+    (resource_in d)) (get (codes "object") d)) (text_member (codes "key") d)
 
 -- all of them, where each tells a change
 abbrev pub all_told : Items → Option (List Told)
@@ -84,8 +86,9 @@ all_told (item d ds) = option_and_then (λ told. option_map (λ more. told ∷ m
 abbrev pub changes_array : Data → Option Items
 changes_array d = option_and_then as_array (get (codes "changes") d)
 
-abbrev pub changes_in : Data → Option (List Told)
-changes_in d = option_and_then all_told (changes_array d)
+-- the changes that a line tells, if it tells any
+abbrev pub told_changes : Data → Option (List Told)
+told_changes d = option_and_then all_told (changes_array d)
 
 abbrev pub text_of_told : Told → List ℕ
 text_of_told told = change_text told.key (compact_text told.object) told.resource
@@ -104,19 +107,19 @@ are_in_order told = nat_le (length told) 64 && are_rising told
 
 -- there is one, and the line is their text at the revision
 abbrev pub is_text_of : ℕ → List ℕ → List Told → Bool
-is_text_of rev line told = nat_le 1 (length told) && (nat_le rev (2 ^ 62) && bytes_eq (line_text (map text_of_told told) rev) line)
+is_text_of rev line told = nat_le 1 (length told) && (nat_le rev (2 ^ 62) && bytes_eq (recorded_line (map text_of_told told) rev) line)
 
 abbrev pub is_line_of : ℕ → List ℕ → List Told → Bool
 is_line_of rev line told = is_text_of rev line told && are_in_order told
 
 -- the line tells the revision with this number
-abbrev pub is_next : ℕ → List ℕ → Bool
-is_next rev line = option_map_or (is_line_of rev line) (option_and_then changes_in (read line)) false
+abbrev pub tells_revision : ℕ → List ℕ → Bool
+tells_revision rev line = option_map_or (is_line_of rev line) (option_and_then told_changes (read line)) false
 
 -- the place of the first line that doesn't tell the next revision
 abbrev pub bad_place : ℕ → List (List ℕ) → Option ℕ
 bad_place rev [] = None
-bad_place rev (line ∷ lines) = if is_next rev line then option_map suc (bad_place (rev + 1) lines) else Some 0
+bad_place rev (line ∷ lines) = if tells_revision rev line then option_map suc (bad_place (rev + 1) lines) else Some 0
 
 -- ---- what is read of them
 
@@ -137,9 +140,9 @@ AreChangesOf rev (told ∷ more) [] = ⊥
 AreChangesOf rev (told ∷ more) (change ∷ changes) = IsChangeOf rev told change × AreChangesOf rev more changes
 
 -- the revision that a line tells
-pub record IsRevisionOf (rev : ℕ) (line : List ℕ) (revision : RevisionData) : Type 0 where
+pub record IsRecordedRevision (rev : ℕ) (line : List ℕ) (revision : RevisionData) : Type 0 where
   pub told : List Told
-  pub read_is : option_and_then changes_in (read line) ≡ Some told
+  pub read_is : option_and_then told_changes (read line) ≡ Some told
   pub rev_is : revision.rev ≡ rev
   pub changes : AreChangesOf rev told revision.changes
 
@@ -148,4 +151,4 @@ abbrev pub AreRevisionsOf : ℕ → List (List ℕ) → List RevisionData → Ty
 AreRevisionsOf rev [] [] = Unit {0}
 AreRevisionsOf rev [] (revision ∷ revisions) = ⊥
 AreRevisionsOf rev (line ∷ lines) [] = ⊥
-AreRevisionsOf rev (line ∷ lines) (revision ∷ revisions) = IsRevisionOf rev line revision × AreRevisionsOf (rev + 1) lines revisions
+AreRevisionsOf rev (line ∷ lines) (revision ∷ revisions) = IsRecordedRevision rev line revision × AreRevisionsOf (rev + 1) lines revisions

@@ -4,7 +4,7 @@ ghost use Rattle.std.specs.Prelude.{◌≡◌, ◌≢◌, IfOk, OnOk, MatchOptio
 ghost use Rattle.std.specs.Option.{option_map_or};
 ghost use Rattle.kube_meta.specs.Names.{is_namespace as is_name};
 ghost use Rattle.select_all.specs.Reading.{selection_of};
-ghost use Rattle.watch_record.specs.Asking.{namespace_of, value_of, is_watch, is_asked, IsAskOf, KeepsSelection};
+ghost use Rattle.watch_record.specs.Asking.{asked_namespace, first_text, is_watch_request, is_asked, IsAskOf, KeepsSelection};
 
 use crate::header::Header;
 use http_read::Params;
@@ -37,7 +37,7 @@ pub(crate) fn read_ask(alloc: Global, header: &Header) -> Result<Option<WatchAsk
 
 // The namespace, if there is one.
 fn namespace(header: &Header) -> Result<Option<Text>, Memory>
-    ensures { IfOk result (λ ns. ns ≡ namespace_of header.now) }
+    ensures { IfOk result (λ ns. ns ≡ asked_namespace header.now) }
 {
     if header.namespace.as_str().is_empty() {
         Ok(None)
@@ -56,7 +56,7 @@ fn is_allowed(ns: &Option<Text>) -> bool
 }
 
 fn asks_watch(params: &Params) -> bool
-    ensures { result ≡ is_watch params.now }
+    ensures { result ≡ is_watch_request params.now }
 {
     params.truth("watch").unwrap_or(false)
 }
@@ -69,7 +69,7 @@ fn read_selection(
     params: &Params,
 ) -> Result<Option<Selection>, Memory>
     ensures { IfOk result (KeepsSelection (selection_of resource ns
-        (value_of (codes "labelSelector") params.now) (value_of (codes "fieldSelector") params.now))) }
+        (first_text (codes "labelSelector") params.now) (first_text (codes "fieldSelector") params.now))) }
 {
     let label = params.get("labelSelector").unwrap_or("");
     let field = params.get("fieldSelector").unwrap_or("");

@@ -119,7 +119,7 @@ fn number_in(value: &Value, name: &str) -> Option<u64>
 }
 
 pub(crate) fn text_in<'v>(value: &'v Value, name: &str) -> Option<&'v str>
-    ensures { option_map (λ text. text.now) result ≡ headers.text_in name.now (view value.now) }
+    ensures { option_map (λ text. text.now) result ≡ headers.text_member name.now (view value.now) }
 {
     value.get(name).and_then(Value::as_str)
 }

@@ -5,7 +5,7 @@ ghost use Rattle.watch_record.specs.Lines.{Parts, first_line, later_lines, lines
 ghost use Rattle.watch_record.specs.Headers.{is_in_range};
 ghost use Rattle.watch_record.specs.Revisions.{bad_place};
 ghost use Rattle.watch_record.specs.Reading.{KeepsLog, ReadsLog};
-ghost use Rattle.watch_record.specs.Records.{text_fault, log_fault, fault_of, max_bytes, IsReadOf, IsRecordOf};
+ghost use Rattle.watch_record.specs.Records.{text_fault, log_fault, record_fault, max_bytes, IsReadOf, IsRecordOf};
 ghost use Rattle.watch_record.specs.Records as records;
 
 use crate::asking::read_ask;
@@ -27,8 +27,8 @@ const MAX_REVISIONS: usize = 10_000;
 /// Reads a record: a first line that says what was watched, the lines of the log, an empty line, and the lines of the
 /// watch's body. Any bytes are one, or are refused for the first reason that holds; `Memory` alone may come at any.
 pub fn read_record(alloc: Global, bytes: &[u8]) -> Result<Record, RecordNo>
-    ensures read { IfOk result (λ case. (fault_of bytes.now ≡ None) × IsRecordOf bytes.now case) }
-    ensures refused { IfErr result (λ fault. fault ≢ RecordNo.Memory → fault_of bytes.now ≡ Some fault) }
+    ensures read { IfOk result (λ case. (record_fault bytes.now ≡ None) × IsRecordOf bytes.now case) }
+    ensures refused { IfErr result (λ fault. fault ≢ RecordNo.Memory → record_fault bytes.now ≡ Some fault) }
 {
     if is_too_long(bytes) {
         return Err(RecordNo::TooLong);

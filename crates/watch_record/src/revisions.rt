@@ -9,7 +9,7 @@ ghost use Rattle.serde_json.specs.Written.{compact_text};
 ghost use Rattle.kube_meta.specs.Keys.{namespace_of, name_of};
 ghost use Rattle.kube_meta.specs.Names.{IsNamespace};
 ghost use Rattle.json_obj.specs.Objects.{IsTextOf, refusal, IsObjectOf};
-ghost use Rattle.watch_record.specs.Revisions.{changes_array, is_stored, told_in, all_told, is_line_of, is_next, IsRevisionOf};
+ghost use Rattle.watch_record.specs.Revisions.{changes_array, is_stored, told_in, all_told, is_line_of, tells_revision, IsRecordedRevision};
 ghost use Rattle.watch_record.specs.Reading.{KeepsObject, KeepsNew, ReadsChange, ReadsChanges, ReadsRevision, IsKept};
 
 use crate::heading::{resource_in, text_in};
@@ -24,8 +24,8 @@ use std::sync::Arc;
 
 // The revision that a line tells, if it is the one with this number.
 pub(crate) fn read_revision(alloc: Global, line: &str, rev: u64) -> Result<Option<Revision>, Memory>
-    ensures { IfOk result (λ found. MatchOption found (is_next rev line.now ≡ false) (λ revision.
-        (is_next rev line.now ≡ true) × IsRevisionOf rev line.now revision × IsKept rev revision)) }
+    ensures { IfOk result (λ found. MatchOption found (tells_revision rev line.now ≡ false) (λ revision.
+        (tells_revision rev line.now ≡ true) × IsRecordedRevision rev line.now revision × IsKept rev revision)) }
 {
     let Some(value) = value_of(alloc, line)? else {
         return Ok(None);

@@ -2,7 +2,7 @@
 
 ghost use Rattle.std.specs.Prelude.{◌≡◌, ◌++◌, OnOk, codes, decimal};
 ghost use Rattle.serde_json.specs.Written.{comma_if};
-ghost use Rattle.watch_record.specs.Revisions.{key_text, resource_text, line_back};
+ghost use Rattle.watch_record.specs.Revisions.{key_text, resource_member, line_back};
 
 use kube_meta::{Memory, Resource};
 use std::alloc::Global;
@@ -32,7 +32,7 @@ pub(crate) fn push_key(out: &mut Vec<u8>, later: bool, key: &str) -> Result<(), 
 
 // Writes what stands behind a change's object.
 pub(crate) fn push_resource(out: &mut Vec<u8>, resource: Resource) -> Result<(), Memory>
-    ensures { OnOk result (out.new.items ≡ out.old.items ++ resource_text resource) }
+    ensures { OnOk result (out.new.items ≡ out.old.items ++ resource_member resource) }
 {
     out.extend_from_slice(RESOURCE_FRONT)?;
     out.extend_from_slice(resource.plural().as_bytes())?;

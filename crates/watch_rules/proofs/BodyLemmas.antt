@@ -16,17 +16,17 @@ use Rattle.select_all.proofs.FloorSteps.{end-grows, evictions_stay}
 use Rattle.watch_rules.specs.declared.starts.Start.{Start}
 use Rattle.watch_rules.specs.declared.starts.Start.TheVariants.{FromState, FromHere, FromRevision}
 use Rattle.watch_rules.specs.declared.ask.WatchAsk.{WatchAsk}
-use Rattle.watch_rules.specs.Bodies.{Line, Told, Bookmark, Closing, Lost, Piece, Upto, Mark, Body, with_piece, position_after, position_of, initial, initial_lines, opening_lines, piece_lines, loss_lines, IsOpening, ArePieces, told_by, told_in}
+use Rattle.watch_rules.specs.Bodies.{Line, Told, Bookmark, Closing, Lost, BodyPiece, Upto, Mark, Body, with_piece, reached_by, position_of, initial, initial_lines, opening_lines, piece_lines, loss_lines, IsOpening, ArePieces, told_by, told_in}
 use Rattle.watch_rules.specs.Laws.{BodiesTellTheStream, PositionsRise, BodiesStay, BodiesBegin, BodiesGoOn, BodiesEnd}
 
 -- ---- positions
 
-pub position-rises : (log : Log) (bookmarks : Bool) (from : ℕ) (pieces : List Piece) → ArePieces log bookmarks from pieces → from ≤ position_after from pieces
+pub position-rises : (log : Log) (bookmarks : Bool) (from : ℕ) (pieces : List BodyPiece) → ArePieces log bookmarks from pieces → from ≤ reached_by from pieces
 position-rises log bookmarks from [] are = omega arith
 position-rises log bookmarks from (Upto to ∷ more) are = omega (arith, are.0, position-rises log bookmarks to more are.2)
 position-rises log bookmarks from (Mark ∷ more) are = position-rises log bookmarks from more are.2
 
-pub position-within : (log : Log) (bookmarks : Bool) (from : ℕ) (pieces : List Piece) → ArePieces log bookmarks from pieces → position_after from pieces ≤ max from (end_of log)
+pub position-within : (log : Log) (bookmarks : Bool) (from : ℕ) (pieces : List BodyPiece) → ArePieces log bookmarks from pieces → reached_by from pieces ≤ max from (end_of log)
 position-within log bookmarks from [] are = omega arith
 position-within log bookmarks from (Upto to ∷ more) are = omega (arith, are.1, position-within log bookmarks to more are.2)
 position-within log bookmarks from (Mark ∷ more) are = position-within log bookmarks from more are.2
@@ -56,13 +56,13 @@ told_in-loss position (Some floor) = refl
 pub none_told : (log : Log) (s : Selection) (at : ℕ) → transitions log s at at ≡ []
 none_told log s at = no_transitions (selects s) log s.resource at at (omega arith)
 
-pub told_in-pieces : (log : Log) (s : Selection) (bookmarks : Bool) (from : ℕ) (pieces : List Piece) → ArePieces log bookmarks from pieces → told_in (piece_lines log s from pieces) ≡ transitions log s from (position_after from pieces)
+pub told_in-pieces : (log : Log) (s : Selection) (bookmarks : Bool) (from : ℕ) (pieces : List BodyPiece) → ArePieces log bookmarks from pieces → told_in (piece_lines log s from pieces) ≡ transitions log s from (reached_by from pieces)
 told_in-pieces log s bookmarks from [] are = sym (none_told log s from)
 told_in-pieces log s bookmarks from (Upto to ∷ more) are =
     filter_map-append told_by (map Told (transitions log s from to)) (piece_lines log s to more)
     ∙ ap (λ all. all ++ told_in (piece_lines log s to more)) (told_in-map (transitions log s from to))
     ∙ ap (λ rest. transitions log s from to ++ rest) (told_in-pieces log s bookmarks to more are.2)
-    ∙ transitions_are_joined (selects s) log s.resource from to (position_after to more) are.0 (position-rises log bookmarks to more are.2)
+    ∙ transitions_are_joined (selects s) log s.resource from to (reached_by to more) are.0 (position-rises log bookmarks to more are.2)
 told_in-pieces log s bookmarks from (Mark ∷ more) are = told_in-pieces log s bookmarks from more are.2
 
 told_in-opening : (ask : WatchAsk) (body : Body) → told_in (opening_lines ask body.at body.rows) ≡ map initial body.rows
@@ -94,12 +94,12 @@ opening-stays log more s (FromState meaning) at rows is =
 opening-stays log more s (FromHere meaning) at rows is = (is.0, omega (arith, is.1, end-grows log more))
 opening-stays log more s (FromRevision revision) at rows is = is
 
-pieces-stay : (log : Log) (more : List RevisionData) (bookmarks : Bool) (from : ℕ) (pieces : List Piece) → ArePieces log bookmarks from pieces → ArePieces (grown log more) bookmarks from pieces
+pieces-stay : (log : Log) (more : List RevisionData) (bookmarks : Bool) (from : ℕ) (pieces : List BodyPiece) → ArePieces log bookmarks from pieces → ArePieces (grown log more) bookmarks from pieces
 pieces-stay log more bookmarks from [] are = tt
 pieces-stay log more bookmarks from (Upto to ∷ rest) are = (are.0, omega (arith, are.1, end-grows log more), pieces-stay log more bookmarks to rest are.2)
 pieces-stay log more bookmarks from (Mark ∷ rest) are = (are.0, omega (arith, are.1, end-grows log more), pieces-stay log more bookmarks from rest are.2)
 
-pub piece_lines-grown : (log : Log) (more : List RevisionData) (s : Selection) (bookmarks : Bool) (from : ℕ) (pieces : List Piece) → ArePieces log bookmarks from pieces → piece_lines (grown log more) s from pieces ≡ piece_lines log s from pieces
+pub piece_lines-grown : (log : Log) (more : List RevisionData) (s : Selection) (bookmarks : Bool) (from : ℕ) (pieces : List BodyPiece) → ArePieces log bookmarks from pieces → piece_lines (grown log more) s from pieces ≡ piece_lines log s from pieces
 piece_lines-grown log more s bookmarks from [] are = refl
 piece_lines-grown log more s bookmarks from (Upto to ∷ rest) are =
     ap (λ all. map Told all ++ piece_lines (grown log more) s to rest) (transitions_are_kept (selects s) log more s.resource from to (omega (arith, are.1)))
@@ -118,21 +118,21 @@ bodies_are_kept log more log_floor later_floor low ask body rises is = (
 
 -- ---- a body that goes on
 
-pub position-append : (from : ℕ) (pieces more : List Piece) → position_after from (pieces ++ more) ≡ position_after (position_after from pieces) more
+pub position-append : (from : ℕ) (pieces more : List BodyPiece) → reached_by from (pieces ++ more) ≡ reached_by (reached_by from pieces) more
 position-append from [] more = refl
 position-append from (Upto to ∷ rest) more = position-append to rest more
 position-append from (Mark ∷ rest) more = position-append from rest more
 
-pieces-append : (log : Log) (bookmarks : Bool) (from : ℕ) (pieces more : List Piece) → ArePieces log bookmarks from pieces → ArePieces log bookmarks (position_after from pieces) more → ArePieces log bookmarks from (pieces ++ more)
+pieces-append : (log : Log) (bookmarks : Bool) (from : ℕ) (pieces more : List BodyPiece) → ArePieces log bookmarks from pieces → ArePieces log bookmarks (reached_by from pieces) more → ArePieces log bookmarks from (pieces ++ more)
 pieces-append log bookmarks from [] more are then_are = then_are
 pieces-append log bookmarks from (Upto to ∷ rest) more are then_are = (are.0, are.1, pieces-append log bookmarks to rest more are.2 then_are)
 pieces-append log bookmarks from (Mark ∷ rest) more are then_are = (are.0, are.1, pieces-append log bookmarks from rest more are.2 then_are)
 
-piece_lines-append : (log : Log) (s : Selection) (from : ℕ) (pieces more : List Piece) → piece_lines log s from (pieces ++ more) ≡ piece_lines log s from pieces ++ piece_lines log s (position_after from pieces) more
+piece_lines-append : (log : Log) (s : Selection) (from : ℕ) (pieces more : List BodyPiece) → piece_lines log s from (pieces ++ more) ≡ piece_lines log s from pieces ++ piece_lines log s (reached_by from pieces) more
 piece_lines-append log s from [] more = refl
 piece_lines-append log s from (Upto to ∷ rest) more =
     ap (λ lines. map Told (transitions log s from to) ++ lines) (piece_lines-append log s to rest more)
-    ∙ sym (append_assoc (map Told (transitions log s from to)) (piece_lines log s to rest) (piece_lines log s (position_after to rest) more))
+    ∙ sym (append_assoc (map Told (transitions log s from to)) (piece_lines log s to rest) (piece_lines log s (reached_by to rest) more))
 piece_lines-append log s from (Mark ∷ rest) more = ap (λ lines. Bookmark from ∷ lines) (piece_lines-append log s from rest more)
 
 no_loss : (position : ℕ) (loss : Option ℕ) → loss ≡ None → loss_lines position loss ≡ []

@@ -12,7 +12,7 @@ use Rattle.watch_rules.specs.declared.starts.Start.{Start}
 use Rattle.watch_rules.specs.declared.starts.Start.TheVariants.{FromState, FromHere, FromRevision}
 use Rattle.watch_rules.specs.declared.ask.WatchAsk.{WatchAsk}
 use Rattle.watch_rules.specs.Starts.{is_from_state}
-use Rattle.watch_rules.specs.Bodies.{Line, Told, Bookmark, Closing, Lost, Piece, Upto, Mark, Body, position_of, initial, initial_lines, opening_lines, piece_lines, loss_lines, lines_of, IsOpening, ArePieces, told_by, told_in, is_loss}
+use Rattle.watch_rules.specs.Bodies.{Line, Told, Bookmark, Closing, Lost, BodyPiece, Upto, Mark, Body, position_of, initial, initial_lines, opening_lines, piece_lines, loss_lines, lines_of, IsOpening, ArePieces, told_by, told_in, is_loss}
 use Rattle.watch_rules.specs.Laws.{BookmarksTellAll, ClosingsTellTheStart}
 use Rattle.watch_rules.proofs.BodyLemmas.{told_in-map, none_told}
 
@@ -55,7 +55,7 @@ not_in_loss position (Some floor) (b ∷ before) after line other e =
 abbrev pub IsMarked : Log → Selection → Bool → ℕ → List Line → ℕ → Type 0
 IsMarked log s bookmarks from mid p = IsTrue bookmarks × (from ≤ p) × (p ≤ end_of log) × (told_in mid ≡ transitions log s from p)
 
-marked : (log : Log) (s : Selection) (bookmarks : Bool) (from : ℕ) (pieces : List Piece) (position : ℕ) (loss : Option ℕ) (mid after : List Line) (p : ℕ)
+marked : (log : Log) (s : Selection) (bookmarks : Bool) (from : ℕ) (pieces : List BodyPiece) (position : ℕ) (loss : Option ℕ) (mid after : List Line) (p : ℕ)
     → ArePieces log bookmarks from pieces → piece_lines log s from pieces ++ loss_lines position loss ≡ mid ++ Bookmark p ∷ after
     → IsMarked log s bookmarks from mid p
 marked log s bookmarks from [] position loss mid after p are e = absurd (not_in_loss position loss mid after (Bookmark p) refl e)
@@ -79,7 +79,7 @@ marked log s bookmarks from (Mark ∷ more) position loss (m ∷ mid) after p ar
     (later.0, later.1, later.2, ap (λ (l : Line). told_in (l ∷ mid)) (sym first) ∙ later.3)
 
 -- no closing bookmark stands there
-unclosed : (log : Log) (s : Selection) (from : ℕ) (pieces : List Piece) (position : ℕ) (loss : Option ℕ) (mid after : List Line) (p : ℕ)
+unclosed : (log : Log) (s : Selection) (from : ℕ) (pieces : List BodyPiece) (position : ℕ) (loss : Option ℕ) (mid after : List Line) (p : ℕ)
     → piece_lines log s from pieces ++ loss_lines position loss ≡ mid ++ Closing p ∷ after → ⊥
 unclosed log s from [] position loss mid after p e = not_in_loss position loss mid after (Closing p) refl e
 unclosed log s from (Upto to ∷ more) position loss mid after p e =
@@ -114,7 +114,7 @@ parted log ask body =
     ∙ ap (λ (l : List Line). l ++ (closing_lines ask.closing body.at ++ rest_lines log ask body)) (rows_told body.rows)
 
 -- a bookmark that isn't the closing one stands among the pieces
-marked_behind : (log : Log) (s : Selection) (bookmarks closing : Bool) (at : ℕ) (pieces : List Piece) (position : ℕ) (loss : Option ℕ) (mid after : List Line) (p : ℕ)
+marked_behind : (log : Log) (s : Selection) (bookmarks closing : Bool) (at : ℕ) (pieces : List BodyPiece) (position : ℕ) (loss : Option ℕ) (mid after : List Line) (p : ℕ)
     → ArePieces log bookmarks at pieces → closing_lines closing at ++ (piece_lines log s at pieces ++ loss_lines position loss) ≡ mid ++ Bookmark p ∷ after
     → IsMarked log s bookmarks at mid p
 marked_behind log s bookmarks false at pieces position loss mid after p are e = marked log s bookmarks at pieces position loss mid after p are e
@@ -137,7 +137,7 @@ bookmarks_tell_all log log_floor low ask body before after p is e =
       told = told_in-past rows before cut.0 cut.1 ∙ ap (λ (l : List TransitionData). rows ++ l) found.3;
     }
 
-closed : (log : Log) (s : Selection) (closing : Bool) (at : ℕ) (pieces : List Piece) (position : ℕ) (loss : Option ℕ) (mid after : List Line) (p : ℕ)
+closed : (log : Log) (s : Selection) (closing : Bool) (at : ℕ) (pieces : List BodyPiece) (position : ℕ) (loss : Option ℕ) (mid after : List Line) (p : ℕ)
     → closing_lines closing at ++ (piece_lines log s at pieces ++ loss_lines position loss) ≡ mid ++ Closing p ∷ after
     → IsTrue closing × (p ≡ at) × (mid ≡ [])
 closed log s false at pieces position loss mid after p e = absurd (unclosed log s at pieces position loss mid after p e)

@@ -22,30 +22,31 @@ pub data Line : Type 0 where
   Lost : ℕ → ℕ → Line
 
 -- after the opening: the log up to a revision, or a bookmark
-pub data Piece : Type 0 where
-  Upto : ℕ → Piece
-  Mark : Piece
+pub data BodyPiece : Type 0 where
+  Upto : ℕ → BodyPiece
+  Mark : BodyPiece
 
 -- the revision of the start and the rows that stood then, the pieces in order, and maybe the floor of a loss
 pub record Body : Type 0 where
   pub at : ℕ
   pub rows : List RowData
-  pub pieces : List Piece
+  pub pieces : List BodyPiece
   pub loss : Option ℕ
 
 -- the body with one more piece
-abbrev pub with_piece : Body → Piece → Body
+abbrev pub with_piece : Body → BodyPiece → Body
 with_piece body piece = record body { pieces = body.pieces ++ piece ∷ [] }
 
 -- ---- the position that a body has reached: the revision up to which all is told
 
-abbrev pub position_after : ℕ → List Piece → ℕ
-position_after from [] = from
-position_after from (Upto to ∷ more) = position_after to more
-position_after from (Mark ∷ more) = position_after from more
+-- the position behind these pieces, from the one before them
+abbrev pub reached_by : ℕ → List BodyPiece → ℕ
+reached_by from [] = from
+reached_by from (Upto to ∷ more) = reached_by to more
+reached_by from (Mark ∷ more) = reached_by from more
 
 abbrev pub position_of : Body → ℕ
-position_of body = position_after body.at body.pieces
+position_of body = reached_by body.at body.pieces
 
 -- the body with a loss at its end
 abbrev pub with_loss : Body → ℕ → Body
@@ -70,7 +71,7 @@ abbrev pub opening_lines : WatchAsk → ℕ → List RowData → List Line
 opening_lines ask at rows = initial_lines rows ++ (if ask.closing then Closing at ∷ [] else [])
 
 -- a stretch tells the selection's transitions in the revisions above where it begins and up to where it ends
-abbrev pub piece_lines : Log → Selection → ℕ → List Piece → List Line
+abbrev pub piece_lines : Log → Selection → ℕ → List BodyPiece → List Line
 piece_lines log s from [] = []
 piece_lines log s from (Upto to ∷ more) = map Told (transitions log s from to) ++ piece_lines log s to more
 piece_lines log s from (Mark ∷ more) = Bookmark from ∷ piece_lines log s from more
@@ -93,7 +94,7 @@ IsOpening log s (FromRevision revision) at rows = (rows ≡ []) × (at ≡ revis
 
 -- stretches go on from where the body stands, up to the log's end at most; bookmarks stand only where they are
 -- asked for, at a revision that the log has reached
-abbrev pub ArePieces : Log → Bool → ℕ → List Piece → Type 0
+abbrev pub ArePieces : Log → Bool → ℕ → List BodyPiece → Type 0
 ArePieces log bookmarks from [] = Unit {0}
 ArePieces log bookmarks from (Upto to ∷ more) = (from ≤ to) × (to ≤ end_of log) × ArePieces log bookmarks to more
 ArePieces log bookmarks from (Mark ∷ more) = IsTrue bookmarks × (from ≤ end_of log) × ArePieces log bookmarks from more

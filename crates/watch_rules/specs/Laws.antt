@@ -6,7 +6,7 @@ use Rattle.rev_log.specs.Logs.{Log, grown, end_of}
 use Rattle.select_all.specs.Streams.{transitions}
 use Rattle.select_all.specs.Floors.{IsEvicted}
 use Rattle.watch_rules.specs.declared.ask.WatchAsk.{WatchAsk}
-use Rattle.watch_rules.specs.Bodies.{Line, Told, Bookmark, Closing, Lost, Piece, Body, with_piece, with_loss, opened, IsOpening, ArePieces, IsWatchBody, initial, opening_lines, position_of, piece_lines, lines_of, told_in, IsBookmarkOf, IsClosingOf, TellsBody, BeginsBody, AreOpen}
+use Rattle.watch_rules.specs.Bodies.{Line, Told, Bookmark, Closing, Lost, BodyPiece, Body, with_piece, with_loss, opened, IsOpening, ArePieces, IsWatchBody, initial, opening_lines, position_of, piece_lines, lines_of, told_in, IsBookmarkOf, IsClosingOf, TellsBody, BeginsBody, AreOpen}
 
 -- The transitions that a body's lines carry are its initial events and then exactly those from its start to its
 -- position: none is left out, told twice or out of its order.
@@ -37,7 +37,7 @@ BodiesBegin =
 -- A body that hasn't ended by a loss goes on by any lawful piece: what it has told stays, and the piece's lines follow.
 abbrev pub BodiesGoOn : Type 0
 BodiesGoOn =
-    (log : Log) (log_floor low : ℕ) (ask : WatchAsk) (body : Body) (piece : Piece) →
+    (log : Log) (log_floor low : ℕ) (ask : WatchAsk) (body : Body) (piece : BodyPiece) →
     body.loss ≡ None → IsWatchBody log log_floor low ask body → ArePieces log ask.bookmarks (position_of body) (piece ∷ []) →
     IsWatchBody log log_floor low ask (with_piece body piece)
     × (lines_of log ask (with_piece body piece) ≡ lines_of log ask body ++ piece_lines log ask.selection (position_of body) (piece ∷ []))

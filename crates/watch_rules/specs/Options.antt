@@ -43,12 +43,12 @@ allows_bookmarks query = option_map_or is_truth (first_value (codes "allowWatchB
 -- ---- what the texts say; numbers are written as revisions are
 
 -- the number that a text says, in digits with no leading zero, up to 2^62; nothing where it says none
-abbrev pub number_of : List ℕ → Option ℕ
-number_of text = result_ok (revision_of text)
+abbrev pub revision_number : List ℕ → Option ℕ
+revision_number text = result_ok (revision_of text)
 
 -- a time limit is at most 1,000,000 seconds
-abbrev pub seconds_of : List ℕ → Option ℕ
-seconds_of text = option_and_then (λ number. if nat_le number 1000000 then Some number else None) (number_of text)
+abbrev pub timeout_seconds : List ℕ → Option ℕ
+timeout_seconds text = option_and_then (λ number. if nat_le number 1000000 then Some number else None) (revision_number text)
 
 -- the match asks for a state at the given revision or a newer one, as the initial events of a watch must be asked for
 abbrev pub is_not_older_than : List ℕ → Bool
@@ -57,15 +57,15 @@ is_not_older_than text = bytes_eq text (codes "NotOlderThan")
 -- ---- the refusals
 
 -- there is this reason for refusing the query, be there others or not
-abbrev pub holds : Query → WatchNo → Bool
-holds query BadRevision = option_map_or (λ text. is_none (number_of text)) (revision_text query) false
-holds query MatchWithoutInitial = is_some (match_text query) && is_none (initial_events query)
-holds query InitialNeedsNotOlder = is_some (initial_events query) && not (option_map_or is_not_older_than (match_text query) false)
-holds query BadTimeout = option_map_or (λ text. is_none (seconds_of text)) (timeout_text query) false
+abbrev pub has_fault : Query → WatchNo → Bool
+has_fault query BadRevision = option_map_or (λ text. is_none (revision_number text)) (revision_text query) false
+has_fault query MatchWithoutInitial = is_some (match_text query) && is_none (initial_events query)
+has_fault query InitialNeedsNotOlder = is_some (initial_events query) && not (option_map_or is_not_older_than (match_text query) false)
+has_fault query BadTimeout = option_map_or (λ text. is_none (timeout_seconds text)) (timeout_text query) false
 
 -- why a query is refused: the first reason that holds, in this order; nothing where it is accepted
-abbrev pub first_fault : Query → Option WatchNo
-first_fault query = find (holds query) (BadRevision ∷ MatchWithoutInitial ∷ InitialNeedsNotOlder ∷ BadTimeout ∷ [])
+abbrev pub query_fault : Query → Option WatchNo
+query_fault query = find (has_fault query) (BadRevision ∷ MatchWithoutInitial ∷ InitialNeedsNotOlder ∷ BadTimeout ∷ [])
 
 -- ---- the start, by sendInitialEvents and the revision
 
@@ -87,9 +87,9 @@ start_of (Some false) (Some (suc r)) = FromRevision (suc r)
 -- No refusal holds, and this is what the query asks for. A closing bookmark ends the initial events where these are
 -- sent and bookmarks are allowed; 0 seconds stand where no time limit is set.
 pub record MeansWatch (selection : Selection) (query : Query) (ask : WatchAsk) : Type 0 where
-  pub unrefused : first_fault query ≡ None
+  pub unrefused : query_fault query ≡ None
   pub of : ask.selection ≡ selection
-  pub starts : ask.start ≡ start_of (initial_events query) (option_and_then number_of (revision_text query))
+  pub starts : ask.start ≡ start_of (initial_events query) (option_and_then revision_number (revision_text query))
   pub closes : ask.closing ≡ (unwrap_or (initial_events query) false && allows_bookmarks query)
   pub marks : ask.bookmarks ≡ allows_bookmarks query
-  pub ends : ask.timeout_s ≡ unwrap_or (option_and_then seconds_of (timeout_text query)) 0
+  pub ends : ask.timeout_s ≡ unwrap_or (option_and_then timeout_seconds (timeout_text query)) 0

@@ -28,13 +28,13 @@ pub struct WatchAsk {
 
 impl WatchAsk {
     ghost use Rattle.std.specs.Prelude.{Some, IfOk, IfErr};
-    ghost use Rattle.watch_rules.specs.Options.{MeansWatch, first_fault};
+    ghost use Rattle.watch_rules.specs.Options.{MeansWatch, query_fault};
 
     /// The watch that the options of a query ask for; their names are those of the Kubernetes API
     /// concepts, and an empty value counts as none, except for those that are true or false.
     pub fn from_params(selection: Selection, params: &Params) -> Result<WatchAsk, WatchNo>
         ensures asked { IfOk result (λ ask. MeansWatch selection params.now ask) }
-        ensures refused { IfErr result (λ fault. first_fault params.now ≡ Some fault) }
+        ensures refused { IfErr result (λ fault. query_fault params.now ≡ Some fault) }
     {
         let revision = options::revision(params)?;
         if let Some(fault) = options::match_fault(params) {

@@ -1,7 +1,7 @@
 //! The option table of watches.
 
 ghost use Rattle.std.specs.Prelude.{◌≡◌, ◌≤◌, [], ◌∷◌, find, Some, IfSome, IfOk, IfErr, OnOk, OnErr, IsTrue, true, false, unwrap_or, option_and_then};
-ghost use Rattle.watch_rules.specs.Options.{revision_text, timeout_text, number_of, seconds_of, is_not_older_than, holds, start_of};
+ghost use Rattle.watch_rules.specs.Options.{revision_text, timeout_text, revision_number, timeout_seconds, is_not_older_than, has_fault, start_of};
 ghost use Rattle.watch_rules.specs.Starts.{is_never_exact, is_from_state};
 
 use crate::{Start, WatchNo};
@@ -14,14 +14,14 @@ const MAX_TIMEOUT: u64 = 1_000_000;
 
 // The number that a text is, if it is one.
 fn number(text: &str) -> Option<u64>
-    ensures { result ≡ number_of text.now }
+    ensures { result ≡ revision_number text.now }
 {
     Rev::read(text.as_bytes()).ok()
 }
 
 // The time limit that a text is, if it is one.
 fn seconds(text: &str) -> Option<u64>
-    ensures value { result ≡ seconds_of text.now }
+    ensures value { result ≡ timeout_seconds text.now }
     ensures bounded { IfSome result (λ seconds. seconds ≤ 1000000) }
 {
     match number(text) {
@@ -32,10 +32,10 @@ fn seconds(text: &str) -> Option<u64>
 
 /// The revision that is asked for, if one is.
 pub fn revision(params: &Params) -> Result<Option<u64>, WatchNo>
-    ensures read { IfOk result (λ revision. revision ≡ option_and_then number_of (revision_text params.now)) }
-    ensures good { OnOk result (holds params.now WatchNo.BadRevision ≡ false) }
+    ensures read { IfOk result (λ revision. revision ≡ option_and_then revision_number (revision_text params.now)) }
+    ensures good { OnOk result (has_fault params.now WatchNo.BadRevision ≡ false) }
     ensures refused { IfErr result (λ fault. fault ≡ WatchNo.BadRevision) }
-    ensures bad { OnErr result (holds params.now WatchNo.BadRevision ≡ true) }
+    ensures bad { OnErr result (has_fault params.now WatchNo.BadRevision ≡ true) }
 {
     let Some(text) = params.get("resourceVersion") else {
         return Ok(None);
@@ -48,11 +48,11 @@ pub fn revision(params: &Params) -> Result<Option<u64>, WatchNo>
 
 /// The time limit in seconds, and 0 where none is set.
 pub fn timeout(params: &Params) -> Result<u64, WatchNo>
-    ensures read { IfOk result (λ seconds. seconds ≡ unwrap_or (option_and_then seconds_of (timeout_text params.now)) 0) }
+    ensures read { IfOk result (λ seconds. seconds ≡ unwrap_or (option_and_then timeout_seconds (timeout_text params.now)) 0) }
     ensures bounded { IfOk result (λ seconds. seconds ≤ 1000000) }
-    ensures good { OnOk result (holds params.now WatchNo.BadTimeout ≡ false) }
+    ensures good { OnOk result (has_fault params.now WatchNo.BadTimeout ≡ false) }
     ensures refused { IfErr result (λ fault. fault ≡ WatchNo.BadTimeout) }
-    ensures bad { OnErr result (holds params.now WatchNo.BadTimeout ≡ true) }
+    ensures bad { OnErr result (has_fault params.now WatchNo.BadTimeout ≡ true) }
 {
     let Some(text) = params.get("timeoutSeconds") else {
         return Ok(0);
@@ -72,7 +72,7 @@ fn is_not_older_than(text: &str) -> bool
 
 /// What is wrong with the match: neither it nor what is said of initial events comes without the other.
 pub fn match_fault(params: &Params) -> Option<WatchNo>
-    ensures { result ≡ find (holds params.now) (WatchNo.MatchWithoutInitial ∷ WatchNo.InitialNeedsNotOlder ∷ []) }
+    ensures { result ≡ find (has_fault params.now) (WatchNo.MatchWithoutInitial ∷ WatchNo.InitialNeedsNotOlder ∷ []) }
 {
     let wanted = params.get("resourceVersionMatch");
     match (params.truth("sendInitialEvents"), wanted) {

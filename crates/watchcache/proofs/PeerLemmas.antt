@@ -1,12 +1,25 @@
 -- What a server that mirrors a peer comes to.
-use Rattle.std.proofs.Common.{◌≡◌, subst, inl, inr, ℕ, List, Option, Some, None, IfSome}
+use Rattle.std.proofs.Common.{◌≡◌, subst, inl, inr, ℕ, List, Option, Some, None, Ok, Err, IfSome}
+use Rattle.std.specs.Prelude.{Result, IfErr}
 use Rattle.command_line.specs.declared.asked.ServeOptions.{ServeOptions}
-use Rattle.watchcache.specs.Run.{RunsMirror, RunsServer, SendsNone, SendsOpening, Sent}
+use Rattle.edge_io.specs.Counts.{Rose}
+use Rattle.edge_io.specs.Sent.{Sent}
+use Rattle.mirror_opening.specs.Asking.{IsAsked}
+use Rattle.mirror_opening.specs.Openings.{OpeningData}
+use Rattle.mirror_opening.specs.declared.refusal.LinkNo.{LinkNo}
+use Rattle.mirror_opening.specs.declared.refusal.LinkNo.TheVariants.{WriteFault}
+use Rattle.watchcache.specs.Run.{RunsMirror, RunsServer, SendsNone, SendsOpening}
 
 -- what holds of all that a source has left holds of what its peer sends, where that is told
 pub sent_by : (P : List ℕ → Type 0) (peer left : Option (List ℕ)) → IfSome peer (λ bytes. left ≡ Some bytes) → IfSome left P → IfSome peer P
 sent_by P None left same holds = tt
 sent_by P (Some bytes) left same holds = subst (λ l. IfSome l P) same holds
+
+-- where the sink failed that an opening was asked for over, its count of faults rose
+pub rose : (result : Result OpeningData LinkNo) (text : List ℕ) (sent : Sent) → IsAsked result text sent →
+    IfErr result (λ why. why ≡ WriteFault → Rose sent.faults_old sent.faults_new)
+rose (Ok opening) text sent is = tt
+rose (Err why) text sent is = λ fault. (subst (λ (w : LinkNo). IsAsked {A = OpeningData} (Err w) text sent) fault is).1
 
 -- an opening was read, and served over; whatever another peer sends
 pub opened : (options : ServeOptions) (sent : Sent) (status f f-new s s-new : ℕ) (over : Type 0) (left other : Option (List ℕ)) → IfSome left SendsOpening →

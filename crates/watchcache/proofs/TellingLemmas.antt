@@ -2,8 +2,9 @@
 use Rattle.std.proofs.Common.{◌≡◌, ◌∙◌, subst, ap, ℕ, List, ◌++◌, Ok}
 use Rattle.std.specs.Prelude.{codes, decimal}
 use Rattle.body_check.specs.declared.judging.Checked.TheVariants.{Lawful}
+use Rattle.edge_io.specs.Sent.{Sent}
 use Rattle.watchcache.specs.Texts.{verdict}
-use Rattle.watchcache.specs.Run.{Sent, IsTold}
+use Rattle.watchcache.specs.Run.{IsTold}
 
 pub told_as : (text other : List ℕ) (done : ℕ) (sent : Sent) (status : ℕ) → text ≡ other → IsTold text done sent status → IsTold other done sent status
 told_as text other done sent status same told = subst (λ t. IsTold t done sent status) same told

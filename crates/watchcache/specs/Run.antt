@@ -1,9 +1,9 @@
 -- What the program does for the words of its command line: its exit status, the bytes that it took and those that it wrote.
-use Rattle.std.specs.Prelude.{◌≡◌, ℕ, ◌+◌, ◌<◌, ◌≤◌, ◌⊎◌, List, length, [], false, Option, Some, None, IfSome, Result, Ok, Err, ⊤}
+use Rattle.std.specs.Prelude.{◌≡◌, ℕ, ◌+◌, ◌<◌, ◌≤◌, ◌⊎◌, List, length, [], Option, Some, None, IfSome, Result, Ok, Err, ⊤}
 use Rattle.body_check.specs.Judging.{IsJudged}
 use Rattle.body_check.specs.declared.judging.Checked.{Checked}
 use Rattle.body_check.specs.declared.judging.Checked.TheVariants.{Lawful, Unlawful}
-use Rattle.command_line.specs.Words.{Reads}
+use Rattle.command_line.specs.Words.{ReadsWords}
 use Rattle.command_line.specs.declared.asked.Asked.{Asked}
 use Rattle.command_line.specs.declared.asked.Asked.TheVariants.{Help, Version, Session, Serve, Load, Check}
 use Rattle.command_line.specs.declared.asked.LoadOptions.{LoadOptions}
@@ -11,18 +11,19 @@ use Rattle.command_line.specs.declared.asked.ServeOptions.{ServeOptions}
 use Rattle.command_line.specs.declared.asked.WordsNo.{WordsNo}
 use Rattle.command_line.specs.declared.asked.WordsNo.TheVariants.{Bad, Memory}
 use Rattle.edge_io.specs.Counts.{Rose}
-use Rattle.edge_io.specs.Told.{prepended, appended, AppendedSome, Noted, IsExhausted}
+use Rattle.edge_io.specs.Sent.{Sent, IsSentOn, IsBrokenOff}
+use Rattle.edge_io.specs.Told.{prepended, appended, Noted, IsExhausted}
 use Rattle.edge_io.specs.declared.clock.Reading.{Reading}
 use Rattle.kube_meta.specs.declared.resources.Resource.TheVariants.{Pods}
-use Rattle.load_gen.specs.Figures.{lines_of}
+use Rattle.load_gen.specs.Figures.{figure_lines}
 use Rattle.load_gen.specs.Loads.{IsLoad}
-use Rattle.load_gen.specs.NewLogs.{new_pass, terms}
+use Rattle.sess_serve.specs.NewLogs.{new_pass, terms}
 use Rattle.load_gen.specs.declared.figures.Figures.{Figures}
 use Rattle.mirror_opening.specs.Openings.{OpeningData, IsOpeningOf}
 use Rattle.mirror_opening.specs.Reading.{HasOpening, HasNoOpening}
 use Rattle.mirror_opening.specs.declared.refusal.LinkNo.{LinkNo}
 use Rattle.mirror_opening.specs.declared.refusal.LinkNo.TheVariants.{ReadFault, WriteFault, Memory as NoMemory}
-use Rattle.net_front.specs.Ends.{limit_of}
+use Rattle.net_front.specs.Ends.{most_connections}
 use Rattle.rev_front.specs.Passes.{Pass}
 use Rattle.rev_log.specs.Changes.{RevisionData}
 use Rattle.select_all.specs.Reading.{IsRead}
@@ -32,31 +33,12 @@ use Rattle.sess_serve.specs.Session.{IsSession}
 use Rattle.sess_serve.specs.Status.{status_of}
 use Rattle.sess_serve.specs.declared.ends.SessionEnd.{SessionEnd}
 use Rattle.up_api.specs.declared.settings.Settings.{Settings}
-use Rattle.watch_record.specs.Records.{fault_of, max_bytes, IsRecordOf}
+use Rattle.watch_record.specs.Records.{record_fault, max_bytes, IsRecordOf}
 use Rattle.watch_record.specs.declared.records.Record.{Record}
 use Rattle.watch_record.specs.declared.refusals.RecordNo.{RecordNo}
-use Rattle.watchcache.specs.Texts.{help, version, bad_line, sessions, peer_line, verdict}
+use Rattle.watchcache.specs.Texts.{help, version_text, bad_line, sessions, peer_line, verdict}
 
 -- ---- what went through the program's ends
-
--- what went through the sink: what was written, where it is told; whether nothing is held back; and whether its count of
--- faults rose
-pub record Sent : Type 1 where
-  pub written_old : Option (List ℕ)
-  pub written_new : Option (List ℕ)
-  pub settled_old : Type 0
-  pub settled_new : Type 0
-  pub write_fault : Type 0
-
--- what went through a sink, by what it tells before and after
-abbrev pub sent_through : {K : Type 0} → (K → Option (List ℕ)) → (K → Type 0) → (K → ℕ) → K → K → Sent
-sent_through written settled faults old new = record {
-  written_old = written old;
-  written_new = written new;
-  settled_old = settled old;
-  settled_new = settled new;
-  write_fault = Rose (faults old) (faults new);
-}
 
 -- what is left to be read, and the readings of the clock, where they are told; whether the source's count of faults rose;
 -- and what went through the sink
@@ -112,14 +94,6 @@ IsUnread ends = ends.left_new ≡ ends.left_old
 abbrev pub IsIdle : Ends → Type 0
 IsIdle ends = IsUnread ends × (ends.readings_new ≡ ends.readings_old)
 
--- the text was written and sent on
-abbrev pub IsSentOn : List ℕ → Sent → Type 0
-IsSentOn text sent = (sent.written_new ≡ appended sent.written_old text) × sent.settled_new
-
--- the sink failed behind a beginning of the text, or as it was to be sent on
-abbrev pub IsBrokenOff : List ℕ → Sent → Type 0
-IsBrokenOff text sent = AppendedSome sent.written_old sent.written_new text × sent.write_fault
-
 -- the text was sent on, and the status is `done`; or it was broken off, and the status is 4
 abbrev pub IsTold : List ℕ → ℕ → Sent → ℕ → Type 0
 IsTold text done sent status = ((status ≡ done) × IsSentOn text sent) ⊎ ((status ≡ 4) × IsBrokenOff text sent)
@@ -146,7 +120,7 @@ pub record IsSessionRun (settings : Settings) (ends : Ends) (status : ℕ) : Typ
   pub sink : ends.sent.written_new ≡ appended ends.sent.written_old written
   pub clock : Noted ends.readings_old ends.readings_new readings
   pub session : IsSession (terms settings) (Unit {0}) (new_pass seat)
-      (record { taken = taken; written = written; readings = readings; read_fault = ends.read_fault; write_fault = ends.sent.write_fault; left = ends.left_new })
+      (record { taken = taken; written = written; readings = readings; read_fault = ends.read_fault; write_fault = Rose ends.sent.faults_old ends.sent.faults_new; left = ends.left_new })
       last how
   pub settled : ends.sent.settled_old → UnlessBroken how ends.sent.settled_new
   pub status_is : status ≡ status_of how
@@ -161,7 +135,7 @@ RunsSession settings ends status = IsSessionRun settings ends status ⊎ IsUnser
 pub record IsLoadTold (options : LoadOptions) (sent : Sent) (status : ℕ) : Type 0 where
   pub figures : Figures
   pub is_load : IsLoad options.from options.requests figures
-  pub told : IsTold (lines_of figures) 0 sent status
+  pub told : IsTold (figure_lines figures) 0 sent status
 
 -- a load: its figures were told, or there was no memory for it
 abbrev pub TellsLoad : LoadOptions → Sent → ℕ → Type 0
@@ -180,8 +154,8 @@ TellsSessions net sent status =
     ⊎ (HasFailed net × (status ≡ 9) × (IsSentOn (sessions net.served_new) sent ⊎ IsBrokenOff (sessions net.served_new) sent))
 
 -- a server ended: no more connections will come, the net failed, or as many were accepted as were asked for
-pub record IsServed (options : ServeOptions) (net : NetUse) (sent : Sent) (status : ℕ) : Type 0 where
-  pub ended : net.over ⊎ HasFailed net ⊎ (limit_of options.connections ≤ net.served_new)
+pub record IsServerOver (options : ServeOptions) (net : NetUse) (sent : Sent) (status : ℕ) : Type 0 where
+  pub ended : net.over ⊎ HasFailed net ⊎ (most_connections options.connections ≤ net.served_new)
   pub told : TellsSessions net sent status
 
 -- it told nothing and no listener was shut, as the net failed or there was no memory
@@ -192,7 +166,7 @@ IsUnstarted net sent status =
 
 -- what came of a server: it ended, or it never started
 abbrev pub RunsServer : ServeOptions → NetUse → Sent → ℕ → Type 0
-RunsServer options net sent status = IsServed options net sent status ⊎ IsUnstarted net sent status
+RunsServer options net sent status = IsServerOver options net sent status ⊎ IsUnstarted net sent status
 
 -- ---- a server that mirrors a peer
 
@@ -243,7 +217,7 @@ Refuses why net sent status = TellsNone why net sent status ⊎ IsUnstarted net 
 -- the peer's opening was served
 pub record IsMirrored (options : ServeOptions) (net : NetUse) (sent : Sent) (status : ℕ) : Type 0 where
   pub opened : IfSome net.peer_old SendsOpening
-  pub served : IsServed options net sent status
+  pub served : IsServerOver options net sent status
 
 -- the peer has none, and why was told
 pub record IsUnopened (net : NetUse) (sent : Sent) (status : ℕ) : Type 0 where
@@ -267,7 +241,7 @@ RunsEither (Some peer) options net sent status = RunsMirror options net sent sta
 -- the bytes are a record that is judged so, or they are none for this reason
 abbrev pub IsSaid : List ℕ → Result Checked RecordNo → Type 0
 IsSaid bytes (Ok judgement) = (case : Record) × IsRecordOf bytes case × IsJudged case judgement
-IsSaid bytes (Err fault) = fault_of bytes ≡ Some fault
+IsSaid bytes (Err fault) = record_fault bytes ≡ Some fault
 
 -- the exit status, where that was sent on
 abbrev pub status_of_verdict : Result Checked RecordNo → ℕ
@@ -303,7 +277,7 @@ IsUnused net = (net.faults_new ≡ net.faults_old) × (net.served_new ≡ net.se
 -- what is done for what the words ask for, or where they ask for nothing
 abbrev pub Does : Result Asked WordsNo → Ends → NetUse → ℕ → Type 0
 Does (Ok Help) ends net status = IsUnused net × IsIdle ends × IsTold help 0 ends.sent status
-Does (Ok Version) ends net status = IsUnused net × IsIdle ends × IsTold version 0 ends.sent status
+Does (Ok Version) ends net status = IsUnused net × IsIdle ends × IsTold version_text 0 ends.sent status
 Does (Ok (Session settings)) ends net status = IsUnused net × RunsSession settings ends status
 Does (Ok (Serve options)) ends net status = IsUnread ends × RunsEither options.peer options net ends.sent status
 Does (Ok (Load options)) ends net status = IsUnused net × IsIdle ends × TellsLoad options ends.sent status
@@ -316,5 +290,5 @@ Does (Err Memory) ends net status = IsUnused net × IsUnserved ends status
 -- what the program does: the words are read as clap reads them, and what they ask for is done
 pub record IsRun (words : List (List ℕ)) (ends : Ends) (net : NetUse) (status : ℕ) : Type 0 where
   pub asked : Result Asked WordsNo
-  pub read : Reads words asked
+  pub read : ReadsWords words asked
   pub done : Does asked ends net status

@@ -3,7 +3,7 @@ use Rattle.std.specs.Prelude.{ℕ, List, [], ◌∷◌, ◌++◌, Result, Ok, Er
 use Rattle.std.specs.List.{concat}
 use Rattle.body_check.specs.declared.judging.Checked.{Checked}
 use Rattle.body_check.specs.declared.judging.Checked.TheVariants.{Lawful, Unlawful}
-use Rattle.mirror_opening.specs.Refusals.{name_of as link_name}
+use Rattle.mirror_opening.specs.Refusals.{refusal_name as link_name}
 use Rattle.mirror_opening.specs.declared.refusal.LinkNo.{LinkNo}
 use Rattle.watch_record.specs.declared.refusals.RecordNo.{RecordNo}
 use Rattle.watch_record.specs.declared.refusals.RecordNo.TheVariants.{TooLong, BadHeader, NoBody, BadLog, BadFloor, BadAsk, Memory}
@@ -66,8 +66,8 @@ abbrev pub peer_line : LinkNo → List ℕ
 peer_line why = codes "peer: " ++ link_name why ++ codes "\n"
 
 -- what is written for `--version`: the program's name and its version
-abbrev pub version : List ℕ
-version = codes "watchcache 0.1.0\n"
+abbrev pub version_text : List ℕ
+version_text = codes "watchcache 0.1.0\n"
 
 -- what is written where the words ask for nothing that there is
 abbrev pub bad_line : List ℕ
@@ -76,17 +76,17 @@ bad_line = codes "watchcache: bad command line\n"
 -- ---- of a check
 
 -- the name of a reason why bytes are no record
-abbrev pub name_of : RecordNo → List ℕ
-name_of TooLong = codes "TooLong"
-name_of BadHeader = codes "BadHeader"
-name_of NoBody = codes "NoBody"
-name_of (BadLog line) = codes "BadLog"
-name_of BadFloor = codes "BadFloor"
-name_of BadAsk = codes "BadAsk"
-name_of Memory = codes "Memory"
+abbrev pub record_fault_name : RecordNo → List ℕ
+record_fault_name TooLong = codes "TooLong"
+record_fault_name BadHeader = codes "BadHeader"
+record_fault_name NoBody = codes "NoBody"
+record_fault_name (BadLog line) = codes "BadLog"
+record_fault_name BadFloor = codes "BadFloor"
+record_fault_name BadAsk = codes "BadAsk"
+record_fault_name Memory = codes "Memory"
 
 -- what is written of a judgement, or of a refusal
 abbrev pub verdict : Result Checked RecordNo → List ℕ
 verdict (Ok (Lawful at to)) = codes "lawful from " ++ (decimal at ++ (codes " to " ++ (decimal to ++ codes "\n")))
 verdict (Ok (Unlawful line)) = codes "unlawful at line " ++ decimal line ++ codes "\n"
-verdict (Err fault) = codes "record: " ++ name_of fault ++ codes "\n"
+verdict (Err fault) = codes "record: " ++ record_fault_name fault ++ codes "\n"

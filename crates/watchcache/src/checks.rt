@@ -2,7 +2,8 @@
 
 ghost use Rattle.std.specs.Prelude.{◌≡◌, ◌≢◌, Err, Ok};
 ghost use Rattle.edge_io.specs.Counts.{Rose};
-ghost use Rattle.watchcache.specs.Run.{ChecksBytes, ChecksSource, IsSaid, IsTold, sent_through, status_of_verdict};
+ghost use Rattle.edge_io.specs.Sent.{sent_through};
+ghost use Rattle.watchcache.specs.Run.{ChecksBytes, ChecksSource, IsSaid, IsTold, status_of_verdict};
 ghost use Rattle.watchcache.specs.Texts as texts;
 ghost use Rattle.watchcache.specs.Texts.{verdict};
 
@@ -90,7 +91,7 @@ fn write_refusal<K: Sink>(no: RecordNo, sink: &mut K) -> u8
 
 // The name of a refusal.
 fn name_of(no: RecordNo) -> &'static [u8]
-    ensures { result.now ≡ texts.name_of no }
+    ensures { result.now ≡ texts.record_fault_name no }
 {
     match no {
         RecordNo::TooLong => b"TooLong",

@@ -2,7 +2,8 @@
 
 ghost use Rattle.std.specs.Prelude.{◌<◌, ◌^◌, IfOk};
 ghost use Rattle.command_line.specs.Words.{IsInRange};
-ghost use Rattle.watchcache.specs.Run.{Does, ends_of, sent_through, use_of};
+ghost use Rattle.edge_io.specs.Sent.{sent_through};
+ghost use Rattle.watchcache.specs.Run.{Does, ends_of, use_of};
 
 use crate::checks::check_record;
 use crate::loads::load;

@@ -1,7 +1,8 @@
 //! A load.
 
+ghost use Rattle.edge_io.specs.Sent.{sent_through};
 ghost use Rattle.std.specs.Prelude.{◌≤◌, ◌^◌};
-ghost use Rattle.watchcache.specs.Run.{TellsLoad, sent_through};
+ghost use Rattle.watchcache.specs.Run.{TellsLoad};
 
 use crate::statuses::{DONE, OUT_OF_MEMORY, WRITE_FAULT};
 use command_line::LoadOptions;

@@ -18,8 +18,9 @@ mod statuses;
 mod telling;
 mod texts;
 
+ghost use Rattle.edge_io.specs.Sent.{sent_through};
 ghost use Rattle.std.specs.Prelude.{◌≡◌, ◌<◌, ◌^◌, map, string_bytes};
-ghost use Rattle.watchcache.specs.Run.{IsRun, ends_of, sent_through, use_of};
+ghost use Rattle.watchcache.specs.Run.{IsRun, ends_of, use_of};
 
 use bells::Rung;
 use command_line::read_words;

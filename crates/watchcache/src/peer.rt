@@ -1,11 +1,13 @@
 //! A server that mirrors another one.
 
-ghost use Rattle.std.specs.Prelude.{◌≡◌, ◌<◌, ◌^◌, IfOk, true};
+ghost use Rattle.std.specs.Prelude.{◌≡◌, ◌<◌, ◌^◌, IfErr, IfOk, true};
 ghost use Rattle.command_line.specs.Words.{AreServed};
-ghost use Rattle.mirror_opening.specs.Asking.{CountsReads, CountsWrites};
+ghost use Rattle.edge_io.specs.Counts.{Rose};
+ghost use Rattle.edge_io.specs.Sent.{sent_through};
+ghost use Rattle.mirror_opening.specs.Asking.{CountsReads};
 ghost use Rattle.mirror_opening.specs.Openings.{IsOpeningOf};
 ghost use Rattle.up_api.specs.Settings.{AreInRange};
-ghost use Rattle.watchcache.specs.Run.{IsOfAllPods, IsTold, Opens, Refuses, RunsEither, RunsMirror, RunsServer, sent_through, use_of, use_with};
+ghost use Rattle.watchcache.specs.Run.{IsOfAllPods, IsTold, Opens, Refuses, RunsEither, RunsMirror, RunsServer, use_of, use_with};
 ghost use Rattle.watchcache.specs.Texts.{peer_line};
 
 use crate::server::{finish, serve};
@@ -140,7 +142,7 @@ fn opening_of<S: Source, K: Sink>(
 ) -> Result<Opening, LinkNo>
     ensures opens { Opens (S.left source.old) result }
     ensures reads { CountsReads result (S.faults source.old) (S.faults source.new) }
-    ensures writes { CountsWrites result (K.faults request.old) (K.faults request.new) }
+    ensures writes { IfErr result (λ no. no ≡ LinkNo.WriteFault → Rose (K.faults request.old) (K.faults request.new)) }
 {
     let Ok(selection) = all_pods(alloc) else {
         return Err(LinkNo::Memory);

@@ -2,8 +2,9 @@
 
 ghost use Rattle.std.specs.Prelude.{◌≡◌, ◌<◌, ◌^◌, ◌↔◌, [], false, IsTrue};
 ghost use Rattle.command_line.specs.Words.{AreServed};
+ghost use Rattle.edge_io.specs.Sent.{sent_through};
 ghost use Rattle.up_api.specs.Settings.{AreInRange};
-ghost use Rattle.watchcache.specs.Run.{IsTold, RunsServer, TellsSessions, sent_through, use_of};
+ghost use Rattle.watchcache.specs.Run.{IsTold, RunsServer, TellsSessions, use_of};
 ghost use Rattle.watchcache.specs.Texts.{sessions};
 
 use crate::statuses::{DONE, NET_FAULT, OUT_OF_MEMORY};

@@ -1,8 +1,9 @@
 //! One session.
 
+ghost use Rattle.edge_io.specs.Sent.{sent_through};
 ghost use Rattle.std.specs.Prelude.{◌≡◌, [], false};
 ghost use Rattle.up_api.specs.Settings.{AreInRange};
-ghost use Rattle.watchcache.specs.Run.{RunsSession, ends_of, sent_through};
+ghost use Rattle.watchcache.specs.Run.{RunsSession, ends_of};
 
 use crate::statuses::OUT_OF_MEMORY;
 use edge_io::{Clock, Sink, Source};

@@ -1,7 +1,8 @@
 //! Telling what is to be told.
 
+ghost use Rattle.edge_io.specs.Sent.{sent_through};
 ghost use Rattle.std.specs.List.{flat_map};
-ghost use Rattle.watchcache.specs.Run.{IsTold, sent_through};
+ghost use Rattle.watchcache.specs.Run.{IsTold};
 
 use crate::statuses::WRITE_FAULT;
 use edge_io::Sink;

@@ -1,7 +1,8 @@
 //! The texts that the program writes for its words, and writing them.
 
-ghost use Rattle.watchcache.specs.Run.{IsTold, sent_through};
-ghost use Rattle.watchcache.specs.Texts.{help, version, bad_line};
+ghost use Rattle.edge_io.specs.Sent.{sent_through};
+ghost use Rattle.watchcache.specs.Run.{IsTold};
+ghost use Rattle.watchcache.specs.Texts.{help, version_text, bad_line};
 
 use crate::statuses::{BAD_WORDS, DONE};
 use crate::telling::tell;
@@ -68,7 +69,7 @@ pub fn write_help<K: Sink>(sink: &mut K) -> u8
 
 /// Writes the version.
 pub fn write_version<K: Sink>(sink: &mut K) -> u8
-    ensures { IsTold version 0 (sent_through K.written K.settled K.faults sink.old sink.new) result }
+    ensures { IsTold version_text 0 (sent_through K.written K.settled K.faults sink.old sink.new) result }
 {
     write(sink, VERSION, DONE)
 }

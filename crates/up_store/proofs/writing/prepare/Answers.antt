@@ -4,7 +4,7 @@ use Rattle.std.proofs.lemmas.Result.{err_from_is_err_and}
 use Rattle.rev_log.specs.Logs.{end_of}
 use Rattle.rev_log.specs.States.{row_at}
 use Rattle.up_store.specs.Transactions.{target_of}
-use Rattle.up_store.specs.Writes.{row_before, object_of}
+use Rattle.up_store.specs.Writes.{row_before, written_object}
 use Rattle.up_store.proofs.KeptLemmas.{keeps-roomy}
 use Rattle.up_store.proofs.WriteLemmas.{refused-faulty, refused-last, unrefused, single-is}
 use Rattle.up_store.proofs.writing.prepare.Goals as goal
@@ -38,6 +38,6 @@ returns-clause-prepared c = λ log floor keeps end.
     c.row_of-row.ensures log floor (c.in_ok-catch_up.ensures.keeps log floor keeps) ∙ ap (λ r. row_at log r (end_of log) c.key_of.result.now) c.resource_of.ensures ∙ ap (λ k. row_at log (target_of c.args.ask.now).0 (end_of log) k) c.key_of.ensures in
     record {
       unrefused = unrefused log c.args.at c.args.ask.now (option_copied c.row_of-row.result) found end c.in_ok-obj.ensures.unrefused c.if-at-ge-LAST.false;
-      written_is = record { number = omega (arith, end); row_number = refl; object = c.in_ok-obj.ensures.object ∙ ap (object_of c.args.ask.now) found };
+      written_is = record { number = omega (arith, end); row_number = refl; object = c.in_ok-obj.ensures.object ∙ ap (written_object c.args.ask.now) found };
       revision_is = single-is log c.args.at c.args.ask.now c.in_ok-change.field-0 c.in_ok-revision.revision c.in_ok-revision.ensures c.in_ok-change.ensures end;
     }

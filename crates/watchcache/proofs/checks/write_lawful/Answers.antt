@@ -1,5 +1,5 @@
+use Rattle.edge_io.specs.Sent.{sent_through}
 use Rattle.std.proofs.Common.{rules}
-use Rattle.watchcache.specs.Run.{sent_through}
 use Rattle.watchcache.proofs.TellingLemmas.{lawful_text, told_as}
 use Rattle.watchcache.proofs.checks.write_lawful.Goals as goal
 

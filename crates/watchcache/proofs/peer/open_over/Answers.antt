@@ -1,4 +1,4 @@
-use Rattle.watchcache.specs.Run.{sent_through}
+use Rattle.edge_io.specs.Sent.{sent_through}
 use Rattle.watchcache.proofs.PeerLemmas.{opened}
 use Rattle.watchcache.proofs.peer.open_over.Goals as goal
 

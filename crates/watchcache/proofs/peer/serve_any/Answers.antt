@@ -1,5 +1,6 @@
+use Rattle.edge_io.specs.Sent.{sent_through}
 use Rattle.std.proofs.Common.{subst, sym, ℕ, Option}
-use Rattle.watchcache.specs.Run.{RunsEither, sent_through, use_of}
+use Rattle.watchcache.specs.Run.{RunsEither, use_of}
 use Rattle.watchcache.proofs.peer.serve_any.Goals as goal
 
 pub returns-in-Some : goal.returns-in-Some

@@ -1,5 +1,5 @@
+use Rattle.edge_io.specs.Sent.{sent_through}
 use Rattle.std.proofs.Common.{◌≡◌, arith}
-use Rattle.watchcache.specs.Run.{sent_through}
 use Rattle.watchcache.proofs.PeerLemmas.{dialled}
 use Rattle.watchcache.proofs.peer.serve_peer.Goals as goal
 

@@ -1,5 +1,5 @@
+use Rattle.edge_io.specs.Sent.{sent_through}
 use Rattle.std.proofs.Common.{append-nil}
-use Rattle.watchcache.specs.Run.{sent_through}
 use Rattle.watchcache.proofs.TellingLemmas.{told_as}
 use Rattle.watchcache.proofs.texts.write.Goals as goal
 
