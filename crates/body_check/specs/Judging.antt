@@ -33,6 +33,7 @@ IsAllowed log (FromState meaning) at = (log.first ≤ at) × (at ≤ end_of log)
 IsAllowed log (FromHere meaning) at = (log.first ≤ at) × (at ≤ end_of log) × IsAtLeast meaning at
 IsAllowed log (FromRevision revision) at = at ≡ revision
 
+-- a body of the recorded watch may begin at the revision: what it asks for and its log allow that
 abbrev pub MayStart : Record → ℕ → Type 0
 MayStart case at = IsAllowed (record_log case) case.ask.start at
 
@@ -65,6 +66,8 @@ pub record IsUnlawfulAt (case : Record) (n : ℕ) : Type 0 where
   pub begun : (n ≡ 0) ⊎ ((at : ℕ) × MayStart case at × IsBegunBy case at (take n case.lines.items))
   pub greatest : (at m : ℕ) → MayStart case at → m ≤ length case.lines.items → IsBegunBy case at (take m case.lines.items) → m ≤ n
 
+-- the record is judged rightly: as lawful, with the least start and the least position of its lines; or as unlawful,
+-- with the greatest number of first lines that begin a lawful body
 abbrev pub IsJudged : Record → Checked → Type 0
 IsJudged case (Lawful at to) = IsLawfulFrom case at to
 IsJudged case (Unlawful line) = IsUnlawfulAt case line

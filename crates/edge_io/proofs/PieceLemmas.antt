@@ -1,8 +1,7 @@
 -- A text in pieces.
-use Rattle.std.proofs.Common.{◌≡◌, ℕ, ◌+◌, ◌<◌, ◌≤◌, List, ◌++◌, length, take, drop, get_or, suc, sym, ap, subst, ◌∙◌, arith, length-append, take-append-drop, drop-cons, ◌^◌, Fits}
+use Rattle.std.proofs.Common.{◌≡◌, ℕ, ◌<◌, List, ◌++◌, length, take, drop, get_or, suc, sym, ap, subst, ◌∙◌, take-append-drop, drop-cons}
 use Rattle.std.proofs.lemmas.Grind.{flat_map-append}
 use Rattle.std.specs.List.{flat_map}
-use Rattle.std.specs.Int.{w64}
 use Rattle.std.specs.Prelude.{Option}
 use Rattle.edge_io.specs.Told.{appended, AppendedSome}
 use Rattle.edge_io.proofs.ToldLemmas.{AppendedSome-second, AppendedSome-first}
@@ -19,19 +18,3 @@ pub flat_map-at : {X : Type 0} (f : X → List ℕ) (xs : List X) (i : ℕ) (x :
 flat_map-at f xs i x h =
     ap (flat_map f) (sym (take-append-drop i xs)) ∙ flat_map-append f (take i xs) (drop i xs)
     ∙ ap (λ l. flat_map f (take i xs) ++ flat_map f l) (drop-cons xs i x h)
-
--- the pieces before the i-th and the i-th aren't longer than all
-pub length-at : {X : Type 0} (f : X → List ℕ) (xs : List X) (i : ℕ) (x : X) → i < length xs
-    → length (flat_map f (take i xs)) + length (f (get_or xs i x)) ≤ length (flat_map f xs)
-length-at f xs i x h =
-    let before = flat_map f (take i xs) in
-    let piece = f (get_or xs i x) in
-    let after = flat_map f (drop (suc i) xs) in
-    let whole : length (flat_map f xs) ≡ length before + (length piece + length after) =
-    ap length (flat_map-at f xs i x h) ∙ length-append before (piece ++ after) ∙ ap (λ (n : ℕ). length before + n) (length-append piece after) in
-    omega (arith, whole)
-
--- where the lengths of all pieces have a sum below 2^63, so have those that are counted so far and the next
-pub count-fits : {X : Type 0} (f : X → List ℕ) (xs : List X) (i : ℕ) (x : X) (total : ℕ) → i < length xs
-    → total ≡ length (flat_map f (take i xs)) → length (flat_map f xs) < 2 ^ 63 → Fits w64 (total + length (f (get_or xs i x)))
-count-fits f xs i x total h counted few = let within = length-at f xs i x h in omega (arith, counted, few, within)

@@ -17,6 +17,7 @@ abbrev pub Compares : Bool → List ℕ → List ℕ → Type 0
 Compares true value given = value ≡ given
 Compares false value given = value ≢ given
 
+-- a term holds of an object with these listed fields and this key: its field has the value, or with `!=` another one
 abbrev pub Holds : List (List ℕ) → List ℕ → Term → Type 0
 Holds fields key term = Compares term.equal (value_of fields key term.field) term.value
 
@@ -29,9 +30,11 @@ abbrev pub compares : Bool → List ℕ → List ℕ → Bool
 compares true value given = bytes_eq value given
 compares false value given = not (bytes_eq value given)
 
+-- whether a term holds of an object with these listed fields and this key
 abbrev pub holds : List (List ℕ) → List ℕ → Term → Bool
 holds fields key term = compares term.equal (value_of fields key term.field) term.value
 
+-- whether all terms hold of such an object; so the empty selector selects each one
 abbrev pub selects : List Term → List (List ℕ) → List ℕ → Bool
 selects terms fields key = list_all (holds fields key) terms
 

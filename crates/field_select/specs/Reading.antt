@@ -12,6 +12,7 @@ use Rattle.field_select.specs.declared.terms.Term.{Term}
 use Rattle.field_select.specs.Bytes.{is_in, is_escaped, begins_with, without, taken, left}
 
 infixl 10 ◌>>=◌
+-- goes on with what was read; where a fault was met, that is what is answered, and nothing behind it is read
 abbrev pub ◌>>=◌ : {A B : Type 0} → Result A FieldNo → (A → Result B FieldNo) → Result B FieldNo
 (Ok x) >>= f = f x
 (Err fault) >>= f = Err fault
@@ -76,6 +77,7 @@ abbrev pub behind_name : Resource → List ℕ → ℕ → ℕ → List ℕ → 
 behind_name resource name at end bytes None = Err (Syntax (place end bytes))
 behind_name resource name at end bytes (Some found) = of_field (field_named resource name) at end found.0 found.1
 
+-- the term that the bytes begin with: a field, an operator and a value
 unfoldable pub term_at : Resource → ℕ → List ℕ → Read Term
 term_at resource end bytes =
     let after = left (is_in runs.Name) bytes in

@@ -9,4 +9,3 @@ mod terms;
 
 pub use refusal::FieldNo;
 pub use selector::FieldSel;
-pub use terms::{Field, Term};

@@ -9,5 +9,4 @@ mod replies;
 pub use pieces::{part, parts};
 pub use replies::{
     ContentType, begin_chunk, begin_reply, begin_stream, begin_typed_reply, end_chunk, end_stream,
-    send_chunk,
 };

@@ -1,14 +1,13 @@
 //! The heads of replies and streams, and chunks.
 
-ghost use Rattle.std.specs.Prelude.{◌≡◌, ◌<◌, ◌≤◌, ◌^◌, length};
-ghost use Rattle.std.specs.List.{flat_map};
+ghost use Rattle.std.specs.Prelude.{◌≡◌, ◌<◌, ◌≤◌, ◌^◌};
 ghost use Rattle.http_send.specs.Replies as lines;
-ghost use Rattle.http_send.specs.Replies.{reply_head_text, typed_head_text, stream_head_text, chunk_head_text, chunk_text, stream_end_text, crlf, text_where, phrase};
+ghost use Rattle.http_send.specs.Replies.{reply_head_text, typed_head_text, stream_head_text, chunk_head_text, stream_end_text, crlf, text_where, phrase};
 ghost use Rattle.edge_io.specs.Sent.{Writes, sent_through};
 
 use crate::hexadecimal::hexadecimal_text;
 use crate::pieces::{part, parts};
-use edge_io::{Failed, Sink, length_of};
+use edge_io::{Failed, Sink};
 use http::StatusCode;
 use itoa::Buffer;
 
@@ -121,17 +120,6 @@ pub fn end_chunk<K: Sink>(sink: &mut K) -> Result<(), Failed>
     ensures { Writes result crlf (sent_through K.written K.settled K.faults sink.old sink.new) }
 {
     part(sink, b"\r\n")
-}
-
-/// Writes a whole chunk: its size, these pieces, one after the other, and its end.
-pub fn send_chunk<K: Sink>(sink: &mut K, pieces: &[&[u8]]) -> Result<(), Failed>
-    requires some { 1 ≤ length (flat_map (λ piece. piece.now) pieces.now) }
-    requires told { length (flat_map (λ piece. piece.now) pieces.now) < 2 ^ 63 }
-    ensures { Writes result (chunk_text (flat_map (λ piece. piece.now) pieces.now)) (sent_through K.written K.settled K.faults sink.old sink.new) }
-{
-    begin_chunk(sink, length_of(pieces))?;
-    parts(sink, pieces)?;
-    end_chunk(sink)
 }
 
 /// Ends the chunks of a stream.

@@ -7,9 +7,11 @@ use Rattle.kube_meta.specs.Names.{is_slash, is_namespace, is_object_name, IsName
 abbrev pub joined : List ℕ → List ℕ → List ℕ
 joined ns name = ns ++ 47 ∷ name
 
+-- the namespace in a key: what stands before the first `/`
 abbrev pub namespace_of : List ℕ → List ℕ
 namespace_of key = before_first is_slash key
 
+-- the name in a key: what stands behind the first `/`
 abbrev pub name_of : List ℕ → List ℕ
 name_of key = after_first is_slash key
 

@@ -3,10 +3,11 @@ use Rattle.std.specs.Prelude.{ℕ, Bool, ◌&&◌, ◌||◌, ◌==◌, ◌-◌, 
 use Rattle.std.specs.Char.{is_ascii_lowercase, is_ascii_digit, is_ascii_alphanumeric}
 use Rattle.std.specs.List.{list_all, list_any, slice_split, before_first, after_first}
 
--- `/` parts a namespace from a name, and a label key's prefix from its name; `.` parts a subdomain
+-- `/` parts a namespace from a name, and a label key's prefix from its name
 abbrev pub is_slash : ℕ → Bool
 is_slash b = b == 47
 
+-- `.` stands between the parts of a subdomain
 abbrev pub is_dot : ℕ → Bool
 is_dot b = b == 46
 
@@ -66,23 +67,30 @@ is_label_key text =
 abbrev pub is_label_value : List ℕ → Bool
 is_label_value text = length text == 0 || is_label_name text
 
+-- the text is an RFC 1123 label
 abbrev pub IsDnsLabel : List ℕ → Type 0
 IsDnsLabel text = IsTrue (is_dns_label text)
 
+-- the text is an RFC 1123 subdomain
 abbrev pub IsDnsSubdomain : List ℕ → Type 0
 IsDnsSubdomain text = IsTrue (is_dns_subdomain text)
 
+-- the text can be the name of a namespace: an RFC 1123 label
 abbrev pub IsNamespace : List ℕ → Type 0
 IsNamespace text = IsTrue (is_namespace text)
 
+-- the text can be the name of an object of any of the resources: an RFC 1123 subdomain
 abbrev pub IsObjectName : List ℕ → Type 0
 IsObjectName text = IsTrue (is_object_name text)
 
+-- the text can be the name segment of a label key
 abbrev pub IsLabelName : List ℕ → Type 0
 IsLabelName text = IsTrue (is_label_name text)
 
+-- the text can be the key of a label: a name segment, with or without a prefix and `/` before it
 abbrev pub IsLabelKey : List ℕ → Type 0
 IsLabelKey text = IsTrue (is_label_key text)
 
+-- the text can be the value of a label: it may be empty, and has at most 63 bytes
 abbrev pub IsLabelValue : List ℕ → Type 0
 IsLabelValue text = IsTrue (is_label_value text)

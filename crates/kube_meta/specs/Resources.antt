@@ -13,6 +13,7 @@ place_of Pods = 0
 place_of ConfigMaps = 1
 place_of Deployments = 2
 
+-- whether the two are one resource
 abbrev pub same_resource : Resource → Resource → Bool
 same_resource a b = place_of a == place_of b
 
@@ -104,5 +105,6 @@ pub record HasNamesOfGroup (r : Resource) : Type 0 where
   pub message_name : message_name_of r ≡ (if length (group_of r) == 0 then plural_of r else plural_of r ++ codes "." ++ group_of r)
   pub base_path : base_path_of r ≡ (if length (group_of r) == 0 then codes "/api/" ++ version_of r else codes "/apis/" ++ group_of r ++ codes "/" ++ version_of r)
 
+-- the names of each resource are those of its group and its version
 abbrev pub NamesAgree : Type 0
 NamesAgree = (r : Resource) → HasNamesOfGroup r

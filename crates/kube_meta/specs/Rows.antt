@@ -6,10 +6,12 @@ use Rattle.std.specs.Ordering.{nat_cmp, is_lt}
 use Rattle.kube_meta.specs.declared.objects.Obj.{Obj}
 use Rattle.kube_meta.specs.Keys.{is_in}
 
+-- a row: an object, and the revision at which it was written
 pub record RowData : Type 0 where
   pub obj : Obj
   pub rev : ℕ
 
+-- the key of a row: that of its object, by which the rows of a state are sorted
 abbrev pub key_of : RowData → List ℕ
 key_of row = row.obj.key
 

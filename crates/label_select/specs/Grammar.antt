@@ -10,6 +10,7 @@ use Rattle.label_select.specs.Pieces.{Piece, AreTokens}
 abbrev pub IsWord : Piece → List ℕ → Type 0
 IsWord t word = (t.kind ≡ Word) × (t.text ≡ word)
 
+-- the token is a word, and this label key
 abbrev pub IsKey : Piece → List ℕ → Type 0
 IsKey t key = IsWord t key × IsLabelKey key
 

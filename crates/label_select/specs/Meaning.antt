@@ -24,5 +24,6 @@ holds labels (Absent key) = not (is_some (value_at labels key))
 holds labels (In key values) = has_one_of (value_at labels key) values
 holds labels (NotIn key values) = not (has_one_of (value_at labels key) values)
 
+-- whether all requirements hold of the labels; so the empty selector selects each object
 abbrev pub selects : List Requirement → Pairs → Bool
 selects rs labels = list_all (holds labels) rs

@@ -11,6 +11,7 @@ pub record Piece : Type 0 where
   pub text : List ℕ
   pub at : ℕ
 
+-- the token of this kind with this text, the first byte of which stands at `at`
 abbrev pub piece : TokenKind → List ℕ → ℕ → Piece
 piece kind text at = record { kind = kind; text = text; at = at }
 
@@ -31,6 +32,7 @@ number_of Close = 7
 number_of Less = 8
 number_of Greater = 9
 
+-- whether the two kinds are the same
 abbrev pub is_kind : TokenKind → TokenKind → Bool
 is_kind a b = number_of a == number_of b
 
@@ -91,6 +93,7 @@ sign_kind b =
 abbrev pub is_pair : ℕ → ℕ → Bool
 is_pair b c = (b == 61 || b == 33) && c == 61
 
+-- `==` or `!=`, by its first byte
 abbrev pub pair_kind : ℕ → TokenKind
 pair_kind b = if b == 61 then DoubleEqual else NotEqual
 

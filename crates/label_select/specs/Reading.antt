@@ -11,6 +11,7 @@ use Rattle.label_select.specs.declared.refusal.LabelNo.TheVariants.{Syntax, BadK
 use Rattle.label_select.specs.Pieces.{Piece, is_kind, tokens_of}
 
 infixl 10 ◌>>=◌
+-- goes on with what was read; where a fault was met, that is what is answered, and nothing behind it is read
 abbrev pub ◌>>=◌ : {A B : Type 0} → Result A LabelNo → (A → Result B LabelNo) → Result B LabelNo
 (Ok x) >>= f = f x
 (Err fault) >>= f = Err fault
@@ -29,12 +30,14 @@ abbrev pub place : ℕ → List Piece → ℕ
 place end [] = end
 place end (t ∷ ts) = t.at
 
+-- the label key that the tokens begin with
 unfoldable pub key_at : ℕ → List Piece → Read (List ℕ)
 key_at end [] = Err (Syntax end)
 key_at end (t ∷ ts) =
     if is_kind t.kind Word then (if is_label_key t.text then Ok (t.text, ts) else Err (BadKey t.at))
     else Err (Syntax t.at)
 
+-- the label value that the tokens begin with: a word, or the empty text where none stands there
 unfoldable pub value_at : ℕ → List Piece → Read (List ℕ)
 value_at end [] = Ok ([], [])
 value_at end (t ∷ ts) =
@@ -57,6 +60,7 @@ unfoldable pub inside_at : ℕ → ℕ → List Piece → Read (List (List ℕ))
 inside_at at end [] = Err (Syntax end)
 inside_at at end (t ∷ ts) = if is_kind t.kind Close then Err (EmptySet at) else values_at end None (t ∷ ts)
 
+-- the values of the set that the tokens begin with: `(`, values joined by `,`, and `)`
 unfoldable pub set_at : ℕ → List Piece → Read (List (List ℕ))
 set_at end [] = Err (Syntax end)
 set_at end (t ∷ ts) = if is_kind t.kind Open then inside_at t.at end ts else Err (Syntax t.at)
@@ -73,6 +77,7 @@ behind_key key end (t ∷ ts) =
     else Err (Syntax t.at)))
     else Ok (Exists key, t ∷ ts)))
 
+-- the requirement that the tokens begin with: `!` and a key; or a key, alone or before an operator and what it compares
 unfoldable pub requirement_at : ℕ → List Piece → Read Requirement
 requirement_at end [] = Err (Syntax end)
 requirement_at end (t ∷ ts) =
@@ -89,6 +94,7 @@ unfoldable pub requirements_at : ℕ → ℕ → List Piece → Result (List Req
 requirements_at zero end ts = Err TooLong
 requirements_at (suc more) end ts = requirement_at end ts >>= λ r. followed_by (requirements_at more end) r.0 r.1
 
+-- the requirements of all tokens, joined by `,`, at most 64; no tokens are the empty selector
 unfoldable pub selector_at : ℕ → List Piece → Result (List Requirement) LabelNo
 selector_at end [] = Ok []
 selector_at end (t ∷ ts) = requirements_at 64 end (t ∷ ts)

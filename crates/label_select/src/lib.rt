@@ -8,7 +8,6 @@ mod refusal;
 mod requirements;
 mod selector;
 
-pub use lexer::{Token, TokenKind, Tokens};
+pub use lexer::Tokens;
 pub use refusal::LabelNo;
-pub use requirements::{Requirement, Values};
 pub use selector::LabelSel;

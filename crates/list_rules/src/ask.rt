@@ -28,13 +28,6 @@ pub struct ListAsk {
     pub field_text: Text,
 }
 
-/// The ask's meaning.
-pub fn meaning(ask: &ListAsk) -> Meaning
-    ensures { result ≡ ask.now.meaning }
-{
-    ask.meaning
-}
-
 // How the refusal of a token is told.
 fn refused_token(fault: TokenNo) -> AskNo
     ensures { result ≡ refused_token fault }

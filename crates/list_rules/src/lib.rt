@@ -10,10 +10,9 @@ mod options;
 mod refusal;
 mod tokens;
 
-pub use ask::{ListAsk, meaning};
+pub use ask::ListAsk;
 pub use get::GetAsk;
 pub use laws::{lefts_are_counted, pages_join};
 pub use left::remaining;
-pub use options::{Match, Number, Options};
 pub use refusal::{AskNo, TokenNo};
 pub use tokens::{read_token, token};

@@ -26,13 +26,6 @@ impl Model for Reflector {
 }
 
 impl Reflector {
-    /// A reflector of the resource that polls 100 changes at a time.
-    pub fn new(resource: Resource) -> Reflector
-        ensures { result ≡ record { resource = resource; batch = 100; feed = None } }
-    {
-        Reflector::with_batch(resource, 100)
-    }
-
     /// A reflector of the resource that polls `batch` changes at a time, 1 to 10,000.
     pub fn with_batch(resource: Resource, batch: usize) -> Reflector
         requires least { 1 ≤ batch }

@@ -27,6 +27,7 @@ abbrev pub label_refusal : LabelNo → SelNo
 label_refusal NoMemoryForLabels = Memory
 label_refusal fault = Label fault
 
+-- how a refusal of the field selector is told: by its fault, or as want of memory, which is of no selector
 abbrev pub field_refusal : FieldNo → SelNo
 field_refusal NoMemoryForFields = Memory
 field_refusal fault = Field fault
@@ -37,6 +38,8 @@ both_read resource ns (Err fault) fields = Err (label_refusal fault)
 both_read resource ns (Ok labels) (Err fault) = Err (field_refusal fault)
 both_read resource ns (Ok labels) (Ok fields) = Ok (record { resource = resource; ns = ns; labels = labels; fields = fields })
 
+-- the selection that a list or a watch asks for by the texts of its selectors, in one namespace or in all; or why that
+-- is refused
 abbrev pub selection_of : Resource → Option (List ℕ) → List ℕ → List ℕ → Result Selection SelNo
 selection_of resource ns label field = both_read resource ns (label_selector_of label) (field_selector_of resource field)
 

@@ -24,6 +24,7 @@ abbrev pub is_within : Option (List ℕ) → List ℕ → Bool
 is_within None key = true
 is_within (Some ns) key = is_in ns key
 
+-- whether the object is selected: it is in the namespace asked for, and both selectors select it
 abbrev pub selects : Selection → Obj → Bool
 selects s obj = is_within s.ns obj.key && (labels_select s.labels obj.labels && fields_select s.fields obj.fields obj.key)
 

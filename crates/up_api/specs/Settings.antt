@@ -16,6 +16,7 @@ usual = record {
   requests = 1000000;
 }
 
+-- the number lies in the range from `low` to `high`
 abbrev pub IsBetween : ℕ → ℕ → ℕ → Type 0
 IsBetween low high n = (low ≤ n) × (n ≤ high)
 

@@ -18,6 +18,7 @@ target_of (Create resource obj) = (resource, obj.key)
 target_of (Replace resource obj given) = (resource, obj.key)
 target_of (Remove resource key) = (resource, key)
 
+-- whether the two are one object: of the same resource, and with the same key
 abbrev pub same_target : Target → Target → Bool
 same_target a b = same_resource a.0 b.0 && bytes_eq a.1 b.1
 

@@ -33,6 +33,8 @@ fault_at end (Replace resource obj given) (Some row) = stale_at end given row.re
 fault_at end (Remove resource key) None = Some (Absent end)
 fault_at end (Remove resource key) (Some row) = None
 
+-- why the write conflicts with the log's end, if it does: its object is there already, isn't there, or is at another
+-- revision than the given one
 abbrev pub fault_of : Log → WriteAsk → Option WriteNo
 fault_of log ask = fault_at (end_of log) ask (row_before log ask)
 

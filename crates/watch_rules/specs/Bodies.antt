@@ -45,6 +45,7 @@ reached_by from [] = from
 reached_by from (Upto to ∷ more) = reached_by to more
 reached_by from (Mark ∷ more) = reached_by from more
 
+-- the position that the whole body has reached; a loss doesn't move it
 abbrev pub position_of : Body → ℕ
 position_of body = reached_by body.at body.pieces
 
@@ -76,10 +77,12 @@ piece_lines log s from [] = []
 piece_lines log s from (Upto to ∷ more) = map Told (transitions log s from to) ++ piece_lines log s to more
 piece_lines log s from (Mark ∷ more) = Bookmark from ∷ piece_lines log s from more
 
+-- the line of a loss, if there is one: the ERROR that tells the watch's position and the floor
 abbrev pub loss_lines : ℕ → Option ℕ → List Line
 loss_lines position None = []
 loss_lines position (Some floor) = Lost position floor ∷ []
 
+-- all lines of a body, in order: those of the opening, of the pieces and of a loss
 abbrev pub lines_of : Log → WatchAsk → Body → List Line
 lines_of log ask body = opening_lines ask body.at body.rows ++ piece_lines log ask.selection body.at body.pieces ++ loss_lines (position_of body) body.loss
 
@@ -115,6 +118,7 @@ told_by (Bookmark at) = None
 told_by (Closing at) = None
 told_by (Lost at floor) = None
 
+-- the transitions that lines carry, in order
 abbrev pub told_in : List Line → List TransitionData
 told_in lines = filter_map told_by lines
 

@@ -1,6 +1,6 @@
 //! The answer that opens a WebSocket.
 
-ghost use Rattle.std.specs.Prelude.{◌≡◌, ◌++◌, ◌↔◌, IsTrue, IfOk};
+ghost use Rattle.std.specs.Prelude.{◌≡◌, ◌++◌, ◌↔◌, IsTrue};
 ghost use Rattle.edge_io.specs.Sent.{Writes, sent_through};
 ghost use Rattle.sha1.specs.Sha1.{sha1};
 ghost use Rattle.ws_watch.specs.Handshake.{guid, accept_of, socket_head_text, IsSocketKey, IsUpgrade};
@@ -8,9 +8,7 @@ ghost use Rattle.ws_watch.specs.Handshake.{guid, accept_of, socket_head_text, Is
 use crate::writing::write_pieces;
 use base64::engine::general_purpose::STANDARD;
 use edge_io::{Failed, Sink};
-use kube_meta::{Memory, Text};
 use sha1::Sha1;
-use std::alloc::Global;
 
 // The globally unique identifier of RFC 6455, section 1.3.
 const GUID: &[u8] = b"258EAFA5-E914-47DA-95CA-C5AB0DC85B11";
@@ -25,16 +23,8 @@ fn digest_of(key: &str) -> [u8; 20]
     hasher.finalize()
 }
 
-/// The value of `Sec-WebSocket-Accept` that answers a key (RFC 6455, section 4.2.2): the base64 of the SHA-1 of the
-/// key and the identifier that the RFC gives. Any text may stand in the key's place.
-pub fn accept_text(alloc: Global, key: &str) -> Result<Text, Memory>
-    ensures { IfOk result (λ text. text ≡ accept_of key.now) }
-{
-    let text = STANDARD.encode(alloc, &digest_of(key))?;
-    Ok(Text::from_string(text))
-}
-
-// The same text, without memory.
+// The value of `Sec-WebSocket-Accept` that answers a key (RFC 6455, section 4.2.2): the base64 of the SHA-1 of the key
+// and the identifier that the RFC gives.
 fn accept_bytes(key: &str) -> [u8; 28]
     ensures { result ≡ accept_of key.now }
 {
@@ -65,7 +55,7 @@ fn is_socket_key(key: &[u8]) -> bool
 }
 
 /// Writes the head that opens a WebSocket, up to and with its empty line: the status 101, and the answer to the
-/// client's key.
+/// client's key. Any text may stand in the key's place.
 pub fn begin_socket<K: Sink>(sink: &mut K, key: &str) -> Result<(), Failed>
     ensures { Writes result (socket_head_text key.now) (sent_through K.written K.settled K.faults sink.old sink.new) }
 {

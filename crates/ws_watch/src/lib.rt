@@ -7,6 +7,6 @@ mod laws;
 mod messages;
 mod writing;
 
-pub use handshake::{accept_text, begin_socket, is_upgrade};
+pub use handshake::{begin_socket, is_upgrade};
 pub use laws::{bytes_tell_messages, clients_read, heads_tell_lengths};
-pub use messages::{begin_message, end_socket, send_message};
+pub use messages::{begin_message, end_socket};

@@ -1,12 +1,11 @@
 //! The frames of messages and of the close.
 
-ghost use Rattle.std.specs.Prelude.{◌≤◌, ◌<◌, ◌^◌, length};
-ghost use Rattle.std.specs.List.{flat_map};
+ghost use Rattle.std.specs.Prelude.{◌≤◌, ◌<◌, ◌^◌};
 ghost use Rattle.edge_io.specs.Sent.{Writes, sent_through};
-ghost use Rattle.ws_watch.specs.Messages.{message_head_text, message_text, socket_end_text};
+ghost use Rattle.ws_watch.specs.Messages.{message_head_text, socket_end_text};
 
-use crate::writing::{write_bytes, write_pieces};
-use edge_io::{Failed, Sink, length_of};
+use crate::writing::write_bytes;
+use edge_io::{Failed, Sink};
 
 // The first byte of a text message: the last of its fragments, no reserved bit, and the opcode 1.
 const TEXT: u8 = 0x81;
@@ -30,16 +29,6 @@ pub fn begin_message<K: Sink>(sink: &mut K, length: u64) -> Result<(), Failed>
         let [a, b, c, d, e, f, g, h] = length.to_be_bytes();
         write_bytes(sink, &[TEXT, 127, a, b, c, d, e, f, g, h])
     }
-}
-
-/// Writes a whole text message: its head, and these pieces, one after the other.
-pub fn send_message<K: Sink>(sink: &mut K, pieces: &[&[u8]]) -> Result<(), Failed>
-    requires some { 1 ≤ length (flat_map (λ piece. piece.now) pieces.now) }
-    requires told { length (flat_map (λ piece. piece.now) pieces.now) < 2 ^ 63 }
-    ensures { Writes result (message_text (flat_map (λ piece. piece.now) pieces.now)) (sent_through K.written K.settled K.faults sink.old sink.new) }
-{
-    begin_message(sink, length_of(pieces))?;
-    write_pieces(sink, pieces)
 }
 
 /// Writes the frame that closes a WebSocket: the status code 1000, a normal closure, and no reason (RFC 6455,

@@ -1,7 +1,0 @@
-use Rattle.std.proofs.Common.{◌≡◌, length, take}
-use Rattle.std.specs.List.{flat_map}
-use Rattle.edge_io.proofs.pieces.length_of.Given as goal
-
--- the pieces before this one are counted
-abbrev pub invariant-loop-piece : goal.invariant-loop-piece
-invariant-loop-piece l = l.total ≡ length (flat_map (λ piece. piece.now) (take l.piece-index l.pieces))
