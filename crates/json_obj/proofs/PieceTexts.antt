@@ -29,19 +29,18 @@ bookmark_pieces_text version kind revision annotations plain plain_kind =
     sym (ap (λ x. codes "{\"apiVersion\":" ++ x) (quoted_then version (codes ",\"kind\":" ++ (quoted kind ++ rest)) (escape_plain version plain)
     ∙ ap (λ x. 34 ∷ (version ++ (codes "\",\"kind\":" ++ x))) (quoted_then kind rest (escape_plain kind plain_kind))))
 
-left_regrouped : (token left rest : List ℕ) → (codes "\"continue\":\"" ++ (token ++ (codes "\"," ++ (left ++ [])))) ++ rest ≡ codes "\"continue\":\"" ++ (token ++ (codes "\"," ++ (left ++ rest)))
+left_regrouped : (token left rest : List ℕ) → (codes "\"continue\":" ++ (token ++ (codes "," ++ (left ++ [])))) ++ rest ≡ codes "\"continue\":" ++ (token ++ (codes "," ++ (left ++ rest)))
 left_regrouped token left rest = simp (append_assoc, append-nil)
 
-pub list_more_text : (kind token opens count closes left revision : List ℕ) → list_all is_plain_byte kind ≡ true → list_all is_plain_byte token ≡ true → opens ++ (count ++ closes) ≡ left
-    → codes "],\"kind\":\"" ++ (kind ++ (codes "\",\"metadata\":{\"continue\":\"" ++ (token ++ (codes "\"," ++ (opens ++ (count ++ (closes ++ (codes "\"resourceVersion\":\"" ++ (revision ++ codes "\"}}")))))))))
-    ≡ codes "],\"kind\":" ++ (quoted kind ++ (codes ",\"metadata\":{" ++ ((codes "\"continue\":" ++ (quoted token ++ (codes "," ++ (left ++ [])))) ++ (codes "\"resourceVersion\":\"" ++ (revision ++ codes "\"}}")))))
-list_more_text kind token opens count closes left revision plain plain_token told =
+pub list_more_text : (kind token opens count closes left revision : List ℕ) → list_all is_plain_byte kind ≡ true → opens ++ (count ++ closes) ≡ left
+    → codes "],\"kind\":\"" ++ (kind ++ (codes "\",\"metadata\":{\"continue\":" ++ (token ++ (codes "," ++ (opens ++ (count ++ (closes ++ (codes "\"resourceVersion\":\"" ++ (revision ++ codes "\"}}")))))))))
+    ≡ codes "],\"kind\":" ++ (quoted kind ++ (codes ",\"metadata\":{" ++ ((codes "\"continue\":" ++ (token ++ (codes "," ++ (left ++ [])))) ++ (codes "\"resourceVersion\":\"" ++ (revision ++ codes "\"}}")))))
+list_more_text kind token opens count closes left revision plain told =
     let rest = codes "\"resourceVersion\":\"" ++ (revision ++ codes "\"}}") in
-    let more = codes "\"continue\":" ++ (quoted token ++ (codes "," ++ (left ++ []))) in
+    let more = codes "\"continue\":" ++ (token ++ (codes "," ++ (left ++ []))) in
     let counted : left ++ rest ≡ opens ++ (count ++ (closes ++ rest)) = sym (ap (λ l. l ++ rest) told) ∙ simp append_assoc in
-    let within : more ++ rest ≡ codes "\"continue\":\"" ++ (token ++ (codes "\"," ++ (opens ++ (count ++ (closes ++ rest))))) =
-    ap (λ x. (codes "\"continue\":" ++ x) ++ rest) (quoted_then token (codes "," ++ (left ++ [])) (escape_plain token plain_token))
-    ∙ left_regrouped token left rest ∙ ap (λ x. codes "\"continue\":\"" ++ (token ++ (codes "\"," ++ x))) counted in
+    let within : more ++ rest ≡ codes "\"continue\":" ++ (token ++ (codes "," ++ (opens ++ (count ++ (closes ++ rest))))) =
+    left_regrouped token left rest ∙ ap (λ x. codes "\"continue\":" ++ (token ++ (codes "," ++ x))) counted in
     sym (ap (λ x. codes "],\"kind\":" ++ x) (quoted_then kind (codes ",\"metadata\":{" ++ (more ++ rest)) (escape_plain kind plain))
     ∙ ap (λ x. codes "],\"kind\":\"" ++ (kind ++ (codes "\",\"metadata\":{" ++ x))) within)
 

@@ -50,6 +50,8 @@ abbrev pub annotations_text : Bool → List ℕ
 annotations_text false = []
 annotations_text true = codes "\"annotations\":{\"k8s.io/initial-events-end\":\"true\"},"
 
+-- the object of a bookmark (KEP-956): it has this version and kind, and of its metadata the revision alone, annotated
+-- where the bookmark is the closing one
 abbrev pub bookmark_text : List ℕ → List ℕ → ℕ → Bool → List ℕ
 bookmark_text version kind revision closing =
     concat (codes "{\"apiVersion\":" ∷ quoted version ∷ codes ",\"kind\":" ∷ quoted kind ∷ codes ",\"metadata\":{"
@@ -62,6 +64,7 @@ abbrev pub details_text : Bool → List ℕ
 details_text false = []
 details_text true = codes "\"details\":{\"causes\":[{\"message\":\"Too large resource version\",\"reason\":\"ResourceVersionTooLarge\"}],\"retryAfterSeconds\":1},"
 
+-- the Status of a failure: the refusal's HTTP status code, its reason in one word, and its message for people
 abbrev pub status_text : Refusal → List ℕ
 status_text refusal =
     concat (codes "{\"apiVersion\":\"v1\",\"code\":" ∷ decimal refusal.code ∷ codes "," ∷ details_text refusal.too_large
@@ -70,6 +73,7 @@ status_text refusal =
 
 -- ---- events of a watch: `{"type":"ADDED","object":{..}}`
 
+-- what a line of a watch calls the type of its event (Kubernetes API concepts, "Efficient detection of changes")
 abbrev pub type_text : EventType → List ℕ
 type_text Added = codes "ADDED"
 type_text Modified = codes "MODIFIED"
@@ -85,18 +89,22 @@ event_front type = concat (codes "{\"type\":\"" ∷ type_text type ∷ codes "\"
 abbrev pub event_back : List ℕ
 event_back = codes "}"
 
+-- a line of a watch: the type of an event, and the object that it is of
 abbrev pub event_text : EventType → List ℕ → List ℕ
 event_text type object = event_front type ++ (object ++ event_back)
 
 -- ---- the answer of an operation: a number
 
+-- the JSON object with one member, the number that is answered
 abbrev pub value_text : ℕ → List ℕ
 value_text value = concat (codes "{\"value\":" ∷ decimal value ∷ codes "}" ∷ [])
 
 -- ---- a resource version that is too old: the Status of a list, and of a watch's error
 
+-- the message: which resource version was asked for, and the floor that it is below
 abbrev pub expired_message : ℕ → ℕ → List ℕ
 expired_message asked floor = concat (codes "too old resource version: " ∷ decimal asked ∷ codes " (" ∷ decimal floor ∷ codes ")" ∷ [])
 
+-- the Status: 410 with the reason `Expired`, upon which a client lists anew (API concepts, "410 Gone responses")
 abbrev pub expired_text : ℕ → ℕ → List ℕ
 expired_text asked floor = status_text (record { code = 410; reason = codes "Expired"; message = expired_message asked floor; too_large = false })

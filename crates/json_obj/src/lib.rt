@@ -18,5 +18,6 @@ pub use pieces::{
     EventType, bookmark_pieces, expired_pieces, list_back_pieces, list_front_pieces,
     list_more_pieces, value_pieces,
 };
+pub use quote::quoted;
 pub use refusals::ObjNo;
-pub use replies::{More, Refusal, bookmark, bookmark_as, list_parts, list_parts_as, status};
+pub use replies::{More, Refusal, status};

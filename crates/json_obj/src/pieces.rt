@@ -3,6 +3,7 @@
 
 ghost use Rattle.std.specs.Prelude.{◌≡◌, ◌++◌, ℕ, true, decimal, option_map, Option, Some, None};
 ghost use Rattle.std.specs.List.{flat_map, list_all};
+ghost use Rattle.json.specs.Print.{quoted};
 ghost use Rattle.json_obj.specs.Plain.{is_plain_byte};
 ghost use Rattle.json_obj.specs.declared.replies.More.{More};
 ghost use Rattle.json_obj.specs.Replies.{event_back, value_text, expired_text, list_front, list_back, left_text, more_text, annotations_text, bookmark_text};
@@ -98,13 +99,11 @@ const REVISION: &[u8] = b"\"resourceVersion\":\"";
 
 const METADATA_CLOSES: &[u8] = b"\"}}";
 
-const CONTINUE: &[u8] = b"\"continue\":\"";
-
-const CONTINUE_CLOSES: &[u8] = b"\",";
+const CONTINUE: &[u8] = b"\"continue\":";
 
 const LEFT: &[u8] = b"\"remainingItemCount\":";
 
-const LEFT_CLOSES: &[u8] = b",";
+const COMMA: &[u8] = b",";
 
 const NOTHING: &[u8] = b"";
 
@@ -126,17 +125,16 @@ pub fn list_back_pieces<'a>(kind: &'a [u8], digits: &'a [u8]) -> [&'a [u8]; 6]
     [LIST_KIND, kind, METADATA, REVISION, digits, METADATA_CLOSES]
 }
 
-/// The same where a page follows: with its token, and around the digits of how many items are left
-/// where that is told.
+/// The same where a page follows: with its token as a JSON string, and around the digits of how many
+/// items are left where that is told.
 pub fn list_more_pieces<'a>(
     kind: &'a [u8],
     digits: &'a [u8],
     token: &'a [u8],
     left: Option<&'a [u8]>,
 ) -> [&'a [u8]; 12]
-    requires kind { list_all is_plain_byte kind.now ≡ true }
-    requires token { list_all is_plain_byte token.now ≡ true }
-    ensures { (revision : ℕ) (more : More) → digits.now ≡ decimal revision → token.now ≡ more.token
+    requires { list_all is_plain_byte kind.now ≡ true }
+    ensures { (revision : ℕ) (more : More) → digits.now ≡ decimal revision → token.now ≡ quoted more.token
         → option_map (λ l. l.now) left.entry ≡ option_map decimal more.left
         → flat_map (λ piece. piece.now) result ≡ list_back kind.now revision (Some more) }
 {
@@ -147,7 +145,7 @@ pub fn list_more_pieces<'a>(
         METADATA,
         CONTINUE,
         token,
-        CONTINUE_CLOSES,
+        COMMA,
         opens,
         count,
         closes,
@@ -163,7 +161,7 @@ fn left_pieces<'a>(left: Option<&'a [u8]>) -> (&'a [u8], &'a [u8], &'a [u8])
         → result.0.now ++ (result.1.now ++ result.2.now) ≡ left_text told }
 {
     match left {
-        Some(count) => (LEFT, count, LEFT_CLOSES),
+        Some(count) => (LEFT, count, COMMA),
         None => (NOTHING, NOTHING, NOTHING),
     }
 }

@@ -9,8 +9,8 @@ use json::Writer;
 use kube_meta::Memory;
 use std::alloc::Global;
 
-// A text as a JSON string.
-pub(crate) fn quoted(alloc: Global, text: &str) -> Result<String, Memory>
+/// A text as a JSON string (RFC 8259, section 7).
+pub fn quoted(alloc: Global, text: &str) -> Result<String, Memory>
     ensures { IfOk result (λ s. string_bytes s ≡ quoted_text text.now) }
 {
     let mut writer = Writer::new(Vec::new(alloc));

@@ -33,9 +33,11 @@ list_kind_in Metadata resource = list_kind
 
 -- ---- the lines of a watch, each without the line feed that ends it
 
+-- the line of an object that was added, modified or deleted: it shows the object, at the revision of that change
 abbrev pub object_line : Form → EventType → Obj → ℕ → List ℕ
 object_line form type o revision = event_text type (shown form o revision)
 
+-- the line of a bookmark (KEP-956): all was told up to the revision; the closing one ends the initial events (KEP-3157)
 abbrev pub bookmark_line : Form → Resource → ℕ → Bool → List ℕ
 bookmark_line form resource revision closing = event_text Bookmark (bookmark_text (version_in form resource) (kind_in form resource) revision closing)
 

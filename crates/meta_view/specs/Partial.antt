@@ -7,12 +7,15 @@ use Rattle.kube_meta.specs.declared.objects.Obj.{Obj}
 use Rattle.kube_meta.specs.declared.resources.Resource.{Resource}
 use Rattle.json_obj.specs.Objects.{IsObjectOf, shown_metadata, members_in, metadata_of}
 
+-- `apiVersion` of what is shown by its metadata alone (Kubernetes API concepts, "Metadata-only fetches")
 abbrev pub version : List ℕ
 version = codes "meta.k8s.io/v1"
 
+-- `kind` of an object that is shown by its metadata alone
 abbrev pub kind : List ℕ
 kind = codes "PartialObjectMetadata"
 
+-- `kind` of a list of objects that are
 abbrev pub list_kind : List ℕ
 list_kind = codes "PartialObjectMetadataList"
 

@@ -1,17 +1,20 @@
 //! What a watch and a list show in a form, as pieces that are lent. A watch's line is the front of its
 //! event, the pieces of what it shows, and the event's back.
 
-ghost use Rattle.std.specs.Prelude.{◌≡◌, ℕ, true, decimal, drop, take, option_map, Some, None};
-ghost use Rattle.std.specs.List.{flat_map, list_all};
-ghost use Rattle.json_obj.specs.Plain.{is_plain_byte};
+ghost use Rattle.std.specs.Prelude.{◌≡◌, ℕ, decimal, drop, take, option_map, Some, None};
+ghost use Rattle.std.specs.List.{flat_map};
+ghost use Rattle.json.specs.Print.{quoted};
 ghost use Rattle.json_obj.specs.declared.replies.More.{More};
 ghost use Rattle.json_obj.specs.Replies.{bookmark_text, list_front, list_back};
 ghost use Rattle.meta_view.specs.declared.form.Form.TheVariants.{Whole, Metadata};
 ghost use Rattle.meta_view.specs.Lines.{shown, version_in, kind_in, list_kind_in};
 
-use crate::{Form, HEAD};
+use crate::Form;
 use json_obj::{bookmark_pieces, list_back_pieces, list_front_pieces, list_more_pieces};
 use kube_meta::{Obj, Resource};
+
+const HEAD: &[u8] =
+    b"{\"apiVersion\":\"meta.k8s.io/v1\",\"kind\":\"PartialObjectMetadata\",\"metadata\":";
 
 const TAIL: &[u8] = b"}";
 
@@ -81,43 +84,14 @@ pub fn shown_bookmark<'a>(
     ensures { (revision : ℕ) → digits.now ≡ decimal revision → flat_map (λ piece. piece.now) result
         ≡ bookmark_text (version_in form resource) (kind_in form resource) revision closing }
 {
-    bookmark_pieces(
-        version(form, resource),
-        kind(form, resource),
-        digits,
-        closing,
-    )
-}
-
-// The version, which needs no escape.
-fn version<'a>(form: Form, resource: Resource) -> &'a [u8]
-    ensures text { result.now ≡ version_in form resource }
-    ensures plain { list_all is_plain_byte result.now ≡ true }
-{
-    form.version(resource).as_bytes()
-}
-
-// The kind of an object, which needs no escape.
-fn kind<'a>(form: Form, resource: Resource) -> &'a [u8]
-    ensures text { result.now ≡ kind_in form resource }
-    ensures plain { list_all is_plain_byte result.now ≡ true }
-{
-    form.kind(resource).as_bytes()
-}
-
-// The kind of a list, which needs no escape.
-fn list_kind<'a>(form: Form, resource: Resource) -> &'a [u8]
-    ensures text { result.now ≡ list_kind_in form resource }
-    ensures plain { list_all is_plain_byte result.now ≡ true }
-{
-    form.list_kind(resource).as_bytes()
+    bookmark_pieces(form.version(resource), form.kind(resource), digits, closing)
 }
 
 /// The JSON of a list in a form before its items.
 pub fn shown_list_front<'a>(form: Form, resource: Resource) -> [&'a [u8]; 3]
     ensures { flat_map (λ piece. piece.now) result ≡ list_front (version_in form resource) }
 {
-    list_front_pieces(version(form, resource))
+    list_front_pieces(form.version(resource))
 }
 
 /// The JSON of a list in a form after its items, where no page follows, around the digits of its
@@ -126,11 +100,11 @@ pub fn shown_list_back<'a>(form: Form, resource: Resource, digits: &'a [u8]) -> 
     ensures { (revision : ℕ) → digits.now ≡ decimal revision → flat_map (λ piece. piece.now) result
         ≡ list_back (list_kind_in form resource) revision None }
 {
-    list_back_pieces(list_kind(form, resource), digits)
+    list_back_pieces(form.list_kind(resource), digits)
 }
 
-/// The same where a page follows: with its token, and around the digits of how many items are left
-/// where that is told.
+/// The same where a page follows: with its token as a JSON string, and around the digits of how many
+/// items are left where that is told.
 pub fn shown_list_more<'a>(
     form: Form,
     resource: Resource,
@@ -138,10 +112,9 @@ pub fn shown_list_more<'a>(
     token: &'a [u8],
     left: Option<&'a [u8]>,
 ) -> [&'a [u8]; 12]
-    requires { list_all is_plain_byte token.now ≡ true }
-    ensures { (revision : ℕ) (more : More) → digits.now ≡ decimal revision → token.now ≡ more.token
+    ensures { (revision : ℕ) (more : More) → digits.now ≡ decimal revision → token.now ≡ quoted more.token
         → option_map (λ l. l.now) left.entry ≡ option_map decimal more.left
         → flat_map (λ piece. piece.now) result ≡ list_back (list_kind_in form resource) revision (Some more) }
 {
-    list_more_pieces(list_kind(form, resource), digits, token, left)
+    list_more_pieces(form.list_kind(resource), digits, token, left)
 }

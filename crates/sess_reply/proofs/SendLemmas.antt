@@ -1,6 +1,6 @@
 -- What calls come to that emit a text or send it, one after another.
-use Rattle.std.proofs.Common.{◌≡◌, ◌≤◌, ℕ, List, [], ◌∷◌, ◌++◌, Bool, refl, sym, ap, ◌∙◌, subst, append-nil, Ok, Err, Some}
-use Rattle.std.specs.Prelude.{Option, Result, OnOk, IsErrAnd}
+use Rattle.std.proofs.Common.{◌≡◌, ℕ, List, [], ◌∷◌, ◌++◌, Bool, refl, sym, ap, ◌∙◌, subst, append-nil, Ok, Err, Some}
+use Rattle.std.specs.Prelude.{Option, Result, IsErrAnd}
 use Rattle.edge_io.specs.Counts.{Rose}
 use Rattle.edge_io.proofs.ToldLemmas.{AppendedSome-second, AppendedSome-first, AppendedSome-nil, appended-nil}
 use Rattle.http_send.specs.Replies.{typed_reply_text}

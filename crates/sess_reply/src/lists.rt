@@ -1,11 +1,10 @@
-//! Lists, written as the pieces that their objects are kept in: nothing is copied, and the length is summed before the
-//! head is written.
+//! Lists, written as the pieces that their objects are kept in: no object is copied, and the length is summed before
+//! the head is written.
 
 ghost use Rattle.std.specs.Prelude.{◌≡◌, [], ◌∷◌, ◌++◌, decimal, false, map, option_map};
-ghost use Rattle.std.specs.List.{flat_map, list_all};
+ghost use Rattle.std.specs.List.{flat_map};
 ghost use Rattle.edge_io.specs.Sent.{sent_through};
 ghost use Rattle.http_send.specs.Replies.{reply_text};
-ghost use Rattle.json_obj.specs.Plain.{is_plain_byte};
 ghost use Rattle.json_obj.specs.Replies.{list_back};
 ghost use Rattle.meta_view.specs.Lines.{list_kind_in};
 ghost use Rattle.sess_reply.specs.Contents.{listed_json, said};
@@ -21,7 +20,7 @@ use edge_io::Sink;
 use encode_once::Shown;
 use http_send::begin_reply;
 use itoa::Buffer;
-use json_obj::{More, list_parts_as};
+use json_obj::{More, quoted};
 use kube_meta::Resource;
 use meta_view::{Form, shown_list_back, shown_list_front, shown_list_more};
 use std::alloc::Global;
@@ -46,16 +45,11 @@ pub(crate) fn send_list<K: Sink>(
             let back = shown_list_back(form, resource, revision);
             send_page(sink, form, close, resource, listed, &back)
         }
-        Some(more) if is_plain(more) => {
-            let left = left(more, &mut left_digits);
-            let token = more.token.as_str().as_bytes();
-            let back = shown_list_more(form, resource, revision, token, left);
-            send_page(sink, form, close, resource, listed, &back)
-        }
         Some(more) => {
-            let (version, kind) = (form.version(resource), form.list_kind(resource));
-            let (_, back) = list_parts_as(alloc, version, kind, listed.rev, Some(more))?;
-            send_page(sink, form, close, resource, listed, &[back.as_slice()])
+            let left = left(more, &mut left_digits);
+            let token = quoted(alloc, more.token.as_str())?;
+            let back = shown_list_more(form, resource, revision, token.as_bytes(), left);
+            send_page(sink, form, close, resource, listed, &back)
         }
     }
 }
@@ -74,17 +68,6 @@ fn send_page<K: Sink>(
 {
     let front = shown_list_front(form, resource);
     send_items(sink, form, close, &front, listed.items.as_slice(), back)
-}
-
-// Whether no byte of the next page's token needs an escape, as none of a token that was made here does.
-fn is_plain(more: &More) -> bool
-    ensures { result ≡ list_all is_plain_byte more.now.token }
-{
-    more.token
-        .as_str()
-        .as_bytes()
-        .iter()
-        .all(|byte| *byte >= b' ' && *byte != b'"' && *byte != b'\\')
 }
 
 // The digits of how many items are left, where that is told.
