@@ -38,6 +38,7 @@ use Rattle.route_req.specs.declared.routing.Routed.{Routed}
 use Rattle.route_req.specs.declared.routing.Routed.TheVariants as routed
 use Rattle.route_req.proofs.Readings.{one_text, items_once}
 use Rattle.route_req.proofs.PlainItems.{plain_of, item_objects_are_plain}
+use Rattle.route_req.proofs.Selections.{one_selection}
 use Rattle.route_req.proofs.Outcomes.{same_Ok, list_asks, watch_asks, get_asks, compact_asks, text_asks, same_action}
 
 -- ---- asks with facts: those of the same data are the same
@@ -225,7 +226,7 @@ acts_once : (action : Action) (req : Req) (a b : Routed) → Asks action req a �
 acts_once (Describe text) req a b ha hb = ha ∙ sym hb
 acts_once Measure req a b ha hb = ha ∙ sym hb
 acts_once (Read r ns) req a b ha hb =
-    let same : hb.0 ≡ ha.0 = same_Ok hb.0 ha.0 (sym hb.1 ∙ ha.1) in
+    let same : hb.0 ≡ ha.0 = one_selection r ns req.params hb.0 ha.0 hb.1 ha.1 in
     either_once (is_watch req.params) ha.0 req.params a b ha.2 (subst (λ s. MatchBool (is_watch req.params) (AsksWatch s req.params b) (AsksList s req.params b)) same hb.2)
 acts_once (Create r ns) req a b ha hb =
     let x = create_form r ns req.body a ha in

@@ -7,13 +7,13 @@ use Rattle.kube_meta.specs.declared.resources.Resource.{Resource}
 use Rattle.kube_meta.specs.Keys.{joined}
 use Rattle.http_read.specs.declared.request.Req.{Req}
 use Rattle.select_all.specs.declared.selection.Selection.{Selection}
+use Rattle.select_all.specs.declared.selection.SelNo.{SelNo}
 use Rattle.select_all.specs.declared.selection.SelNo.TheVariants as select_no
-use Rattle.select_all.specs.Reading.{selection_of}
 use Rattle.list_rules.specs.declared.ask.ListAsk.{ListAsk}
 use Rattle.list_rules.specs.declared.get.GetAsk.{GetAsk}
 use Rattle.list_rules.specs.declared.refusal.AskNo.{AskNo}
 use Rattle.list_rules.specs.declared.refusal.AskNo.TheVariants as ask_no
-use Rattle.list_rules.specs.Options.{QueryPairs, given, parameter_text, parameter_number, of_get}
+use Rattle.list_rules.specs.Options.{QueryPairs, given, parameter_number, of_get}
 use Rattle.list_rules.specs.Asking.{ask_of}
 use Rattle.watch_rules.specs.declared.ask.WatchAsk.{WatchAsk}
 use Rattle.watch_rules.specs.Options.{query_fault, MeansWatch}
@@ -25,7 +25,7 @@ use Rattle.up_store.specs.declared.writes.WriteAsk.TheVariants as write
 use Rattle.up_store.specs.declared.operations.Operate.TheVariants as operate
 use Rattle.route_req.specs.Places.{Names, action_at, takes_memory}
 use Rattle.route_req.specs.Texts.{AsksTransaction, RefusesText}
-use Rattle.route_req.specs.Asks.{is_watch, IsSelection, compacts_at, HoldsNoObject, AsksList, AsksWatch, AsksRead, AsksCreate, AsksReplace, AsksGet, AsksCompact, AsksTransact, Asks, RefusesList, RefusesWatch, RefusesRead, RefusesObject, RefusesGet, RefusesCompact, RefusesTransact, Refuses, AsksAtPath, RefusesAtPath, IsRefusal}
+use Rattle.route_req.specs.Asks.{is_watch, IsSelection, HasSelectorFault, compacts_at, HoldsNoObject, AsksList, AsksWatch, AsksRead, AsksCreate, AsksReplace, AsksGet, AsksCompact, AsksTransact, Asks, RefusesList, RefusesWatch, RefusesRead, RefusesObject, RefusesGet, RefusesCompact, RefusesTransact, Refuses, AsksAtPath, RefusesAtPath, IsRefusal}
 use Rattle.route_req.specs.Outcomes.{RoutesAreNotRefused, RefusalsAgree}
 use Rattle.route_req.specs.declared.places.Place.{Place}
 use Rattle.route_req.specs.declared.places.Place.TheVariants.{Described, Everywhere, Namespaced, Named, OfMetrics, OfCut, OfCompact, OfRestart, OfTransaction}
@@ -40,6 +40,7 @@ use Rattle.route_req.specs.declared.routing.RouteNo.TheVariants as route_no
 use Rattle.route_req.proofs.DocumentPaths.{if_found}
 use Rattle.route_req.proofs.Paths.{one_place}
 use Rattle.route_req.proofs.Readings.{one_text, texts_agree, text_unrefused}
+use Rattle.route_req.proofs.Selections.{one_selection}
 
 -- ---- what is told by a refusal: want of memory, or a reason of one kind
 
@@ -109,10 +110,14 @@ watch_tells params route_no.Operation is = absurd is
 watch_tells params (route_no.Transaction why) is = absurd is
 watch_tells params route_no.Memory is = absurd is
 
+-- two texts have one first fault
+selector_faults_agree : (r : Resource) (ns : Option (List ℕ)) (params : QueryPairs) (x y : SelNo) → HasSelectorFault r ns params x → HasSelectorFault r ns params y → x ≡ y
+selector_faults_agree r ns params x y hx hy = same_Err x y (sym hx.1 ∙ hy.1)
+
 -- a read: the selectors' reason, or that of the options of the selection
 abbrev pub ReadTells : Resource → Option (List ℕ) → QueryPairs → RouteNo → Type 0
 ReadTells r ns params fault =
-    Tells fault (λ why. route_no.Selector why) (λ why. selection_of r ns (parameter_text (codes "labelSelector") params) (parameter_text (codes "fieldSelector") params) ≡ Err why)
+    Tells fault (λ why. route_no.Selector why) (HasSelectorFault r ns params)
     ⊎ ((s : Selection) × IsSelection r ns params s × MatchBool (is_watch params) (RefusesWatch params fault) (RefusesList s params fault))
 
 read_tells : (r : Resource) (ns : Option (List ℕ)) (params : QueryPairs) (fault : RouteNo) → RefusesRead r ns params fault → ReadTells r ns params fault
@@ -394,11 +399,11 @@ refused_at_path req place action fault names at refused = by_fault fault (acts_p
 read_excludes : (r : Resource) (ns : Option (List ℕ)) (params : QueryPairs) (answer : Routed) (fault : RouteNo) → AsksRead r ns params answer → ReadTells r ns params fault → fault ≡ route_no.Memory
 read_excludes r ns params answer fault asked (inl tells) =
     told_memory (λ why. route_no.Selector why) _ fault
-    (λ why bad. not_both (selection_of r ns (parameter_text (codes "labelSelector") params) (parameter_text (codes "fieldSelector") params)) asked.0 why asked.1 bad) tells
+    (λ why bad. bad.0 asked.0 asked.1) tells
 read_excludes r ns params answer fault asked (inr refused) = by_kind (is_watch params) asked.2 refused.2
   where
     same : refused.0 ≡ asked.0
-    same = same_Ok refused.0 asked.0 (sym refused.1 ∙ asked.1)
+    same = one_selection r ns params refused.0 asked.0 refused.1 asked.1
 
     by_kind : (b : Bool) → MatchBool b (AsksWatch asked.0 params answer) (AsksList asked.0 params answer)
         → MatchBool b (RefusesWatch params fault) (RefusesList refused.0 params fault) → fault ≡ route_no.Memory
@@ -445,15 +450,15 @@ acts_exclude Transact req answer fault asked refused = text_excludes req.body an
 
 read_agrees : (r : Resource) (ns : Option (List ℕ)) (params : QueryPairs) (a b : RouteNo) → ReadTells r ns params a → ReadTells r ns params b → a ≢ route_no.Memory → b ≢ route_no.Memory → a ≡ b
 read_agrees r ns params a b (inl ta) (inl tb) na nb =
-    told_once (λ why. route_no.Selector why) _ a b (λ x y hx hy. err_once (selection_of r ns (parameter_text (codes "labelSelector") params) (parameter_text (codes "fieldSelector") params)) x y hx hy) ta tb na nb
+    told_once (λ why. route_no.Selector why) (HasSelectorFault r ns params) a b (selector_faults_agree r ns params) ta tb na nb
 read_agrees r ns params a b (inl ta) (inr tb) na nb =
-    absurd (na (told_memory (λ why. route_no.Selector why) _ a (λ why bad. not_both (selection_of r ns (parameter_text (codes "labelSelector") params) (parameter_text (codes "fieldSelector") params)) tb.0 why tb.1 bad) ta))
+    absurd (na (told_memory (λ why. route_no.Selector why) _ a (λ why bad. bad.0 tb.0 tb.1) ta))
 read_agrees r ns params a b (inr ta) (inl tb) na nb =
-    absurd (nb (told_memory (λ why. route_no.Selector why) _ b (λ why bad. not_both (selection_of r ns (parameter_text (codes "labelSelector") params) (parameter_text (codes "fieldSelector") params)) ta.0 why ta.1 bad) tb))
+    absurd (nb (told_memory (λ why. route_no.Selector why) _ b (λ why bad. bad.0 ta.0 ta.1) tb))
 read_agrees r ns params a b (inr ta) (inr tb) na nb = by_kind (is_watch params) ta.2 tb.2
   where
     same : tb.0 ≡ ta.0
-    same = same_Ok tb.0 ta.0 (sym tb.1 ∙ ta.1)
+    same = one_selection r ns params tb.0 ta.0 tb.1 ta.1
 
     by_kind : (kind : Bool) → MatchBool kind (RefusesWatch params a) (RefusesList ta.0 params a) → MatchBool kind (RefusesWatch params b) (RefusesList tb.0 params b) → a ≡ b
     by_kind true ha hb =

@@ -167,9 +167,9 @@ either_plain false s params fault is = list_plain s params fault is
 read_plain : (r : Resource) (ns : Option (List ℕ)) (params : QueryPairs) (fault : RouteNo) → RefusesRead r ns params fault → wraps_memory fault ≡ false
 read_plain r ns params (route_no.Selector select_no.Memory) is = absurd is
 read_plain r ns params (route_no.Selector (select_no.Label why)) is =
-    selector_told r ns (label_selector_of (parameter_text (codes "labelSelector") params)) (field_selector_of r (parameter_text (codes "fieldSelector") params)) (select_no.Label why) is (λ e. cc)
+    selector_told r ns (label_selector_of (parameter_text (codes "labelSelector") params)) (field_selector_of r (parameter_text (codes "fieldSelector") params)) (select_no.Label why) is.1 (λ e. cc)
 read_plain r ns params (route_no.Selector (select_no.Field why)) is =
-    selector_told r ns (label_selector_of (parameter_text (codes "labelSelector") params)) (field_selector_of r (parameter_text (codes "fieldSelector") params)) (select_no.Field why) is (λ e. cc)
+    selector_told r ns (label_selector_of (parameter_text (codes "labelSelector") params)) (field_selector_of r (parameter_text (codes "fieldSelector") params)) (select_no.Field why) is.1 (λ e. cc)
 read_plain r ns params (route_no.List why) is = either_plain (is_watch params) is.0 params (route_no.List why) is.2
 read_plain r ns params (route_no.Watch why) is = refl
 read_plain r ns params (route_no.Object why) is = either_plain (is_watch params) is.0 params (route_no.Object why) is.2

@@ -9,7 +9,7 @@ use Rattle.kube_meta.specs.declared.revisions.RevNo.{RevNo}
 use Rattle.kube_meta.specs.declared.resources.Resource.{Resource}
 use Rattle.http_read.specs.Queries.{first_value, is_truth}
 use Rattle.http_read.specs.declared.request.Req.{Req}
-use Rattle.select_all.specs.Reading.{selection_of}
+use Rattle.select_all.specs.Reading.{IsRead, selection_of}
 use Rattle.select_all.specs.declared.selection.Selection.{Selection}
 use Rattle.select_all.specs.declared.selection.SelNo.{SelNo}
 use Rattle.select_all.specs.declared.selection.SelNo.TheVariants as select_no
@@ -42,9 +42,17 @@ use Rattle.route_req.specs.declared.routing.RouteNo.TheVariants as route_no
 abbrev pub is_watch : QueryPairs → Bool
 is_watch params = option_map_or is_truth (first_value (codes "watch") params) false
 
--- what the texts of the two selectors are read as
+-- the texts of the two selectors stand for this selection: the one by the grammar of label selectors, the other by that of
+-- field selectors
 abbrev pub IsSelection : Resource → Option (List ℕ) → QueryPairs → Selection → Type 0
-IsSelection r ns params s = selection_of r ns (parameter_text (codes "labelSelector") params) (parameter_text (codes "fieldSelector") params) ≡ Ok s
+IsSelection r ns params s = IsRead r ns (parameter_text (codes "labelSelector") params) (parameter_text (codes "fieldSelector") params) s
+
+-- the texts of the two selectors stand for no selection; the fault is the first one from the left, of the label selector's
+-- text or, where that is one, of the field selector's
+abbrev pub HasSelectorFault : Resource → Option (List ℕ) → QueryPairs → SelNo → Type 0
+HasSelectorFault r ns params fault =
+    ((s : Selection) → ¬ (IsSelection r ns params s))
+    × (selection_of r ns (parameter_text (codes "labelSelector") params) (parameter_text (codes "fieldSelector") params) ≡ Err fault)
 
 -- the revision of a compaction
 abbrev pub compacts_at : QueryPairs → Option (Result ℕ RevNo)
@@ -150,8 +158,7 @@ RefusesWatch params fault = ⊥
 -- why a read of a collection is refused: for its selectors first, then for the options of the watch or of the list
 abbrev pub RefusesRead : Resource → Option (List ℕ) → QueryPairs → RouteNo → Type 0
 RefusesRead r ns params (route_no.Selector select_no.Memory) = ⊥
-RefusesRead r ns params (route_no.Selector fault) =
-    selection_of r ns (parameter_text (codes "labelSelector") params) (parameter_text (codes "fieldSelector") params) ≡ Err fault
+RefusesRead r ns params (route_no.Selector fault) = HasSelectorFault r ns params fault
 RefusesRead r ns params route_no.Memory = Unit {0}
 RefusesRead r ns params fault =
     (s : Selection) × IsSelection r ns params s

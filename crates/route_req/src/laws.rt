@@ -1,11 +1,16 @@
 //! What holds of every request.
 
 ghost use Rattle.route_req.specs.Places.{PathsNameOnePlace};
-ghost use Rattle.route_req.specs.Outcomes.{RoutesAreNotRefused, RefusalsAgree, AnswersAgree, ItemObjectsArePlain};
+ghost use Rattle.route_req.specs.Outcomes.{SelectionsAgree, RoutesAreNotRefused, RefusalsAgree, AnswersAgree, ItemObjectsArePlain};
 
 /// A path names at most one place.
 pub fn paths_name_one_place()
     ensures { PathsNameOnePlace }
+{}
+
+/// The texts of a label selector and a field selector stand for at most one selection.
+pub fn selections_agree()
+    ensures { SelectionsAgree }
 {}
 
 /// A request that has a route isn't refused, but for want of memory.

@@ -10,7 +10,7 @@ mod transactions;
 
 pub use laws::{
     answers_agree, item_objects_are_plain, paths_name_one_place, refusals_agree,
-    routes_are_not_refused,
+    routes_are_not_refused, selections_agree,
 };
 pub use routing::{RouteNo, Routed, route};
 pub use transactions::TxTextNo;

@@ -1,7 +1,6 @@
 -- What is said of the counts, of what is settled and of memory, by how a round or a session ends.
 use Rattle.std.proofs.Common.{◌≡◌, ◌≢◌, ℕ, Bool, true, false, List, [], Option, Some, None, Result, Ok, Err, refl, sym, subst}
-use Rattle.std.specs.Prelude.{⊤, OnOk, OnErr}
-use Rattle.edge_io.specs.Told.{appended, AppendedSome}
+use Rattle.std.specs.Prelude.{⊤, OnOk}
 use Rattle.edge_io.proofs.ToldLemmas.{appended-nil}
 use Rattle.http_read.specs.Answers.{UnlessFault}
 use Rattle.http_read.specs.declared.refusal.ReqNo.{ReqNo}

@@ -1,10 +1,10 @@
 -- How one request comes to an exchange, or to want of memory.
 use Rattle.std.proofs.Common.{◌≡◌, ◌≢◌, ◌∙◌, ◌⊎◌, ℕ, List, [], Option, Some, None, Result, Ok, Err, refl, sym, ap, subst, inl, inr}
-use Rattle.std.specs.Prelude.{⊤, OnOk, OnErr, IsSomeAnd, Bool, true, false}
+use Rattle.std.specs.Prelude.{⊤, OnOk, IsSomeAnd, Bool, true, false}
 use Rattle.std.proofs.lemmas.List.{append-nil}
 use Rattle.std.proofs.lemmas.List.Elements.{All-nil}
 use mathlib.Core.List.{IsPrefix}
-use Rattle.edge_io.specs.Told.{appended, AppendedSome, Noted}
+use Rattle.edge_io.specs.Told.{Noted}
 use Rattle.edge_io.specs.declared.clock.Reading.{Reading}
 use Rattle.edge_io.proofs.ToldLemmas.{appended-nil, Noted-nil}
 use Rattle.edge_io.specs.Sent.{Sent}
@@ -49,7 +49,7 @@ use Rattle.sess_serve.specs.Answers.{replied, streamed, gone, begun, IsReplyTo, 
 use Rattle.sess_serve.specs.Ends.{Begins, IsWatchEnd}
 use Rattle.sess_serve.specs.Steps.{ReplySays, IsAloneReply}
 use Rattle.sess_serve.specs.Texts.{view_of, framing_of, answer_bytes}
-use Rattle.sess_serve.specs.Serving.{Given, AnsweredAs, Answered, Replied, UnlessMemory, by_reply, by_stream, by_loss}
+use Rattle.sess_serve.specs.Serving.{Given, Answered, Replied, UnlessMemory, by_reply, by_stream, by_loss}
 
 -- ---- nobody else holds the log
 

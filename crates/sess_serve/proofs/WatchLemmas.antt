@@ -1,11 +1,11 @@
 -- The turns of a watch, as the session tells of them.
-use Rattle.std.proofs.Common.{◌≡◌, ◌≢◌, false, List, [], ◌∷◌, Some, None, Result, refl, ap, subst}
+use Rattle.std.proofs.Common.{◌≡◌, ◌≢◌, List, [], ◌∷◌, Some, None, Result, refl, ap, subst}
 use Rattle.edge_io.specs.declared.clock.Reading.{Reading}
 use Rattle.rev_front.specs.Passes.{Pass}
 use Rattle.rev_log.specs.Changes.{RevisionData}
 use Rattle.http_read.specs.declared.request.Req.{Req}
 use Rattle.watch_rules.specs.declared.ask.WatchAsk.{WatchAsk}
-use Rattle.route_req.specs.Asks.{IsRefusal, wraps_memory}
+use Rattle.route_req.specs.Asks.{IsRefusal}
 use Rattle.route_req.specs.declared.routing.RouteNo.{RouteNo}
 use Rattle.route_req.specs.declared.routing.RouteNo.TheVariants as route_no
 use Rattle.client_api.specs.Answers.{BegunData}
@@ -56,14 +56,14 @@ stream-under terms terms' view ask started whole before p outside answer q same 
     }
 
 -- a refusal that isn't want of memory
-pub unrouted-is : (req : Req) (fault : RouteNo) → fault ≢ route_no.Memory → IsRefusal req fault → wraps_memory fault ≡ false → IsUnrouted req fault
-unrouted-is req route_no.Memory told refused plain = absurd (told refl)
-unrouted-is req route_no.ForeignSite told refused plain = (refused, plain)
-unrouted-is req route_no.NoPath told refused plain = (refused, plain)
-unrouted-is req route_no.NoMethod told refused plain = (refused, plain)
-unrouted-is req (route_no.Selector why) told refused plain = (refused, plain)
-unrouted-is req (route_no.List why) told refused plain = (refused, plain)
-unrouted-is req (route_no.Watch why) told refused plain = (refused, plain)
-unrouted-is req (route_no.Object why) told refused plain = (refused, plain)
-unrouted-is req route_no.Operation told refused plain = (refused, plain)
-unrouted-is req (route_no.Transaction why) told refused plain = (refused, plain)
+pub unrouted-is : (req : Req) (fault : RouteNo) → fault ≢ route_no.Memory → IsRefusal req fault → IsUnrouted req fault
+unrouted-is req route_no.Memory told refused = absurd (told refl)
+unrouted-is req route_no.ForeignSite told refused = refused
+unrouted-is req route_no.NoPath told refused = refused
+unrouted-is req route_no.NoMethod told refused = refused
+unrouted-is req (route_no.Selector why) told refused = refused
+unrouted-is req (route_no.List why) told refused = refused
+unrouted-is req (route_no.Watch why) told refused = refused
+unrouted-is req (route_no.Object why) told refused = refused
+unrouted-is req route_no.Operation told refused = refused
+unrouted-is req (route_no.Transaction why) told refused = refused

@@ -1,5 +1,5 @@
 -- The answers to requests, as plain data: each has what was asked, and what the client answered.
-use Rattle.std.specs.Prelude.{◌≡◌, ℕ, List, [], Bool, true, false, Option, Some, None, IfSome}
+use Rattle.std.specs.Prelude.{ℕ, List, [], Bool, true, false, Option, Some, None, IfSome}
 use Rattle.discovery.specs.declared.documents.Document.{Document}
 use Rattle.discovery.specs.declared.documents.Document.TheVariants as document
 use Rattle.discovery.specs.declared.documents.Probe.TheVariants as probe
@@ -9,7 +9,7 @@ use Rattle.rev_log.specs.Changes.{RevisionData}
 use Rattle.http_read.specs.declared.request.Req.{Req}
 use Rattle.http_read.specs.declared.request.Upgrade.{Upgrade}
 use Rattle.watch_rules.specs.declared.ask.WatchAsk.{WatchAsk}
-use Rattle.route_req.specs.Asks.{IsRoute, IsRefusal, wraps_memory}
+use Rattle.route_req.specs.Asks.{IsRoute, IsRefusal}
 use Rattle.route_req.specs.declared.routing.Routed.TheVariants as routed
 use Rattle.route_req.specs.declared.routing.RouteNo.{RouteNo}
 use Rattle.route_req.specs.declared.routing.RouteNo.TheVariants as route_no
@@ -33,7 +33,7 @@ pub data Answer : Type 0 where
 -- the request has no route, for that reason, which isn't want of memory
 abbrev pub IsUnrouted : Req → RouteNo → Type 0
 IsUnrouted req route_no.Memory = ⊥
-IsUnrouted req fault = IsRefusal req fault × (wraps_memory fault ≡ false)
+IsUnrouted req fault = IsRefusal req fault
 
 -- a head that asks for a WebSocket does it as it must (RFC 6455, section 4.2.1)
 abbrev pub IsPlainOrUpgrade : Req → Type 0

@@ -1,9 +1,9 @@
 //! One request, answered.
 
-ghost use Rattle.std.specs.Prelude.{◌≡◌, ◌≤◌, false, None};
+ghost use Rattle.std.specs.Prelude.{◌≡◌, ◌≤◌, None};
 ghost use Rattle.edge_io.specs.Sent.{sent_through};
 ghost use Rattle.up_api.specs.Settings.{AreInRange};
-ghost use Rattle.route_req.specs.Asks.{IsRoute, IsRefusal, wraps_memory};
+ghost use Rattle.route_req.specs.Asks.{IsRoute, IsRefusal};
 ghost use Rattle.sess_turns.specs.Streams.{outside_of};
 ghost use Rattle.sess_turns.specs.Terms.{terms_of};
 ghost use Rattle.sess_serve.specs.Serving.{Answered, UnlessMemory};
@@ -55,8 +55,7 @@ fn refuse<C: Client, K: Sink, T: Clock>(
     fault: RouteNo,
     settings: &Settings,
 ) -> Result<Option<WatchEnd>, Broken>
-    requires refused { IsRefusal req.now fault }
-    requires plain { wraps_memory fault ≡ false }
+    requires { IsRefusal req.now fault }
     ensures { Answered (terms_of C.base C.mirror (C.facts client.now) settings.now) (C.whole client.now) (C.pass client.now) req.now
         (outside_of T.readings clock.now clock.now (sent_through K.written K.settled K.faults sink.old sink.new)) (C.pass client.now) result }
 {

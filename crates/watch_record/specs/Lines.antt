@@ -3,6 +3,7 @@ use Rattle.std.specs.Prelude.{ℕ, ◌-◌, ◌==◌, Bool, false, List, [], ◌
 use Rattle.std.specs.Option.{option_map_or}
 use Rattle.std.specs.List.{slice_split, before_first, after_first}
 
+-- a line feed, which ends a line
 abbrev pub is_feed : ℕ → Bool
 is_feed b = b == 10
 
@@ -29,9 +30,11 @@ pub record Parts : Type 0 where
   pub log : List (List ℕ)
   pub body : List (List ℕ)
 
+-- the parts with one more line at the front of the log
 abbrev pub with_line : List ℕ → Parts → Parts
 with_line line parts = record parts { log = line ∷ parts.log }
 
+-- the log's lines and the body's, which the first empty line parts; nothing where there is none
 abbrev pub parts_of : List (List ℕ) → Option Parts
 parts_of [] = None
 parts_of ([] ∷ lines) = Some (record { log = []; body = lines })

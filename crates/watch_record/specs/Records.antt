@@ -13,9 +13,11 @@ use Rattle.watch_record.specs.declared.refusals.RecordNo.TheVariants.{TooLong, B
 
 -- ---- why bytes are none: the first reason that holds
 
+-- how many bytes a record has at most: 64 MiB
 abbrev pub max_bytes : ℕ
 max_bytes = 67108864
 
+-- how many revisions its log has at most, each on a line
 abbrev pub max_revisions : ℕ
 max_revisions = 10000
 
@@ -23,6 +25,7 @@ max_revisions = 10000
 abbrev pub has_long_log : Option ℕ → Bool
 has_long_log revisions = option_map_or (nat_lt max_revisions) revisions false
 
+-- the bytes are more than a record may have, or have a log of more revisions than one may have
 abbrev pub is_too_long : List ℕ → Bool
 is_too_long bytes =
     nat_lt max_bytes (length bytes) || has_long_log (option_map (λ (parts : Parts). length parts.log) (parts_of (later_lines bytes)))
@@ -46,6 +49,7 @@ header_fault (Some header) None ended = Some NoBody
 header_fault (Some header) (Some parts) false = Some NoBody
 header_fault (Some header) (Some parts) true = log_fault header parts.log
 
+-- why a text is no record: by its first line, and by the lines behind that
 abbrev pub text_fault : List ℕ → Option RecordNo
 text_fault text = header_fault (header_of (first_line text)) (parts_of (later_lines text)) (is_ended text)
 

@@ -21,7 +21,7 @@ use Rattle.watch_record.specs.Headers.{text_member, resource_in}
 
 -- ---- how they are written: compact, the members in the order of their names. No byte of a key needs an escape
 
--- what stands before and after a change's object
+-- what stands before a change's object
 abbrev pub key_text : List ℕ → List ℕ
 key_text key = concat (codes "{\"key\":\"" ∷ key ∷ codes "\",\"object\":" ∷ [])
 
@@ -29,13 +29,15 @@ key_text key = concat (codes "{\"key\":\"" ∷ key ∷ codes "\",\"object\":" �
 abbrev pub resource_member : Resource → List ℕ
 resource_member resource = concat (codes ",\"resource\":\"" ∷ plural_of resource ∷ codes "\"}" ∷ [])
 
+-- a change within its line: the key, the object's text and the resource
 abbrev pub change_text : List ℕ → List ℕ → Resource → List ℕ
 change_text key object resource = key_text key ++ (object ++ resource_member resource)
 
--- what stands before and after the changes of a line
+-- what stands before the changes of a line
 abbrev pub line_front : List ℕ
 line_front = codes "{\"changes\":["
 
+-- what stands after them: the revision's number
 abbrev pub line_back : ℕ → List ℕ
 line_back rev = concat (codes "],\"rev\":" ∷ decimal rev ∷ codes "}" ∷ [])
 
@@ -48,6 +50,7 @@ abbrev pub new_text : ℕ → Option Obj → List ℕ
 new_text rev None = codes "null"
 new_text rev (Some obj) = object_json obj rev
 
+-- a change of a log, as it is written within the line of its revision
 abbrev pub text_of_change : ChangeData → List ℕ
 text_of_change change = change_text change.key (new_text change.rev change.new) change.resource
 
@@ -67,12 +70,15 @@ pub record Told : Type 0 where
 abbrev pub is_stored : Resource → List ℕ → Data → Bool
 is_stored resource key d = is_some (as_null d) || is_none (refusal resource (namespace_of key) (Some (name_of key)) d)
 
+-- what is told can be a change: its key is one, and its object is null or may be stored there
 abbrev pub is_change : Told → Bool
 is_change told = is_key told.key && is_stored told.resource told.key told.object
 
+-- the change that is told, if it can be one
 abbrev pub if_change : Told → Option Told
 if_change told = if is_change told then Some told else None
 
+-- the change that a value tells by its members `key`, `object` and `resource`, if it tells one
 abbrev pub told_in : Data → Option Told
 told_in d =
     option_and_then (λ key. option_and_then (λ object. option_and_then (λ resource. if_change (record { key = key; object = object; resource = resource }))
@@ -83,6 +89,7 @@ abbrev pub all_told : Items → Option (List Told)
 all_told no_items = Some []
 all_told (item d ds) = option_and_then (λ told. option_map (λ more. told ∷ more) (all_told ds)) (told_in d)
 
+-- the values that are to tell a line's changes: those of its array `changes`, if it has one
 abbrev pub changes_array : Data → Option Items
 changes_array d = option_and_then as_array (get (codes "changes") d)
 
@@ -90,6 +97,7 @@ changes_array d = option_and_then as_array (get (codes "changes") d)
 abbrev pub told_changes : Data → Option (List Told)
 told_changes d = option_and_then all_told (changes_array d)
 
+-- a change as it is written within its line, the object as compact JSON
 abbrev pub text_of_told : Told → List ℕ
 text_of_told told = change_text told.key (compact_text told.object) told.resource
 
@@ -97,6 +105,7 @@ text_of_told told = change_text told.key (compact_text told.object) told.resourc
 abbrev pub told_cmp : Told → Told → Ordering
 told_cmp a b = ordering_then (nat_cmp (place_of a.resource) (place_of b.resource)) (slice_cmp nat_cmp a.key b.key)
 
+-- each change is before all that follow it, so no object is changed twice
 abbrev pub are_rising : List Told → Bool
 are_rising [] = true
 are_rising (first ∷ told) = list_all (λ later. is_lt (told_cmp first later)) told && are_rising told
@@ -109,6 +118,7 @@ are_in_order told = nat_le (length told) 64 && are_rising told
 abbrev pub is_text_of : ℕ → List ℕ → List Told → Bool
 is_text_of rev line told = nat_le 1 (length told) && (nat_le rev (2 ^ 62) && bytes_eq (recorded_line (map text_of_told told) rev) line)
 
+-- the line is the text of these changes, and they can be those of the revision: 1 to 64, in their order
 abbrev pub is_line_of : ℕ → List ℕ → List Told → Bool
 is_line_of rev line told = is_text_of rev line told && are_in_order told
 
@@ -123,16 +133,19 @@ bad_place rev (line ∷ lines) = if tells_revision rev line then option_map suc 
 
 -- ---- what is read of them
 
+-- what a change leaves at its key: nothing where the value is null, and else the object that is stored for it
 abbrev pub IsNewOf : Resource → List ℕ → Data → Option Obj → Type 0
 IsNewOf resource key d None = d ≡ null
 IsNewOf resource key d (Some obj) = IsObjectOf resource (namespace_of key) d obj
 
+-- the change at the revision `rev` is the one that is told: its resource, its key and its new object
 pub record IsChangeOf (rev : ℕ) (told : Told) (change : ChangeData) : Type 0 where
   pub rev_is : change.rev ≡ rev
   pub resource_is : change.resource ≡ told.resource
   pub key_is : change.key ≡ told.key
   pub new : IsNewOf told.resource told.key told.object change.new
 
+-- the changes at the revision are those that are told, in the same order
 abbrev pub AreChangesOf : ℕ → List Told → List ChangeData → Type 0
 AreChangesOf rev [] [] = Unit {0}
 AreChangesOf rev [] (change ∷ changes) = ⊥

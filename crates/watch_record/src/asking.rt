@@ -3,7 +3,6 @@
 ghost use Rattle.std.specs.Prelude.{◌≡◌, ◌≢◌, IfOk, OnOk, MatchOption, true, false, codes};
 ghost use Rattle.std.specs.Option.{option_map_or};
 ghost use Rattle.kube_meta.specs.Names.{is_namespace as is_name};
-ghost use Rattle.select_all.specs.Reading.{selection_of};
 ghost use Rattle.watch_record.specs.Asking.{asked_namespace, first_text, is_watch_request, is_asked, IsAskOf, KeepsSelection};
 
 use crate::header::Header;
@@ -68,8 +67,8 @@ fn read_selection(
     ns: Option<Text>,
     params: &Params,
 ) -> Result<Option<Selection>, Memory>
-    ensures { IfOk result (KeepsSelection (selection_of resource ns
-        (first_text (codes "labelSelector") params.now) (first_text (codes "fieldSelector") params.now))) }
+    ensures { IfOk result (KeepsSelection resource ns
+        (first_text (codes "labelSelector") params.now) (first_text (codes "fieldSelector") params.now)) }
 {
     let label = params.get("labelSelector").unwrap_or("");
     let field = params.get("fieldSelector").unwrap_or("");

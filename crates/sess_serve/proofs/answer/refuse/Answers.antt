@@ -11,5 +11,5 @@ returns-in-Memory g c = lacks-all _ _ _ _ _ _ refl refl refl (onwards_do_join.0 
 pub returns-in_default : goal.returns-in_default
 returns-in_default g c =
     answers-by-reply _ _ _ _ _ _ c.send_unrouted.result c.by_reply.result refl c.by_reply.ensures
-    (sends _ _ _ _ _ _ c.send_unrouted.result (unrouted c.args.fault) (unrouted-is _ _ c.in_default.not-Memory c.requires.refused c.requires.plain) refl (onwards_do_join.0 _) (λ w. sole-same _)
+    (sends _ _ _ _ _ _ c.send_unrouted.result (unrouted c.args.fault) (unrouted-is _ _ c.in_default.not-Memory c.requires) refl (onwards_do_join.0 _) (λ w. sole-same _)
     c.send_unrouted.ensures)
