@@ -110,15 +110,15 @@ module _ (terms : Terms) (p q : Pass RevisionData) (req : Req) where
   -- ---- a request that has a route isn't told that it has none
 
   pub refusal_of : (fault : RouteNo) → IsUnrouted req fault → IsRefusal req fault
-  refusal_of route_no.ForeignSite is = is.0
-  refusal_of route_no.NoPath is = is.0
-  refusal_of route_no.NoMethod is = is.0
-  refusal_of (route_no.Selector fault) is = is.0
-  refusal_of (route_no.List fault) is = is.0
-  refusal_of (route_no.Watch fault) is = is.0
-  refusal_of (route_no.Object fault) is = is.0
-  refusal_of route_no.Operation is = is.0
-  refusal_of (route_no.Transaction fault) is = is.0
+  refusal_of route_no.ForeignSite is = is
+  refusal_of route_no.NoPath is = is
+  refusal_of route_no.NoMethod is = is
+  refusal_of (route_no.Selector fault) is = is
+  refusal_of (route_no.List fault) is = is
+  refusal_of (route_no.Watch fault) is = is
+  refusal_of (route_no.Object fault) is = is
+  refusal_of route_no.Operation is = is
+  refusal_of (route_no.Transaction fault) is = is
   refusal_of route_no.Memory is = absurd is
 
   pub routed_clash : RoutesAreNotRefused → (fault : RouteNo) (route : Routed) → IsUnrouted req fault → IsRoute req route → ⊥

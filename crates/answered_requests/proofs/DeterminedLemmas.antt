@@ -1,6 +1,6 @@
 -- Where nobody else holds the log, two runs of the same requests have the same answers.
 use Rattle.std.specs.Prelude.{Result, Ok, Err, IsSomeAnd, IfSome}
-use Rattle.std.proofs.Common.{◌≡◌, ◌≢◌, ℕ, ◌≤◌, ◌⊎◌, inl, inr, Bool, true, List, [], ◌∷◌, length, map, Option, Some, None, refl, ap, sym, ◌∙◌, subst, length-append, arith}
+use Rattle.std.proofs.Common.{◌≡◌, ◌≢◌, ℕ, ◌≤◌, ◌⊎◌, inl, inr, Bool, true, false, List, [], ◌∷◌, length, map, Option, Some, None, refl, ap, sym, ◌∙◌, subst, length-append, arith}
 use Rattle.discovery.specs.declared.documents.Document.{Document}
 use Rattle.discovery.specs.declared.documents.Document.TheVariants as document
 use Rattle.discovery.specs.declared.documents.Probe.TheVariants as probe
@@ -16,7 +16,8 @@ use Rattle.rev_log.specs.States.{IsStateAt}
 use Rattle.rev_log.proofs.StateLemmas.{are_unique}
 use Rattle.up_api.specs.Sections.{log_of}
 use Rattle.http_read.specs.declared.request.Req.{Req}
-use Rattle.watch_rules.specs.declared.ask.WatchAsk.{WatchAsk}
+use Rattle.http_read.specs.declared.request.Upgrade.{Upgrade}
+use Rattle.ws_watch.specs.Handshake.{IsUpgrade}
 use Rattle.up_store.specs.Replies.{IsOperationReply}
 use Rattle.up_store.specs.Stores.{accepted}
 use Rattle.up_store.specs.Transacting.{IsTransactionAnswer}
@@ -43,14 +44,16 @@ use Rattle.client_api.specs.Lists.{IsListAnswer}
 use Rattle.client_api.specs.Metered.{IsCacheMetrics, AreMetrics}
 use Rattle.client_api.specs.Told.{IsToldRead, IsToldWrite, IsToldTx, IsToldOperation}
 use Rattle.client_api.specs.declared.answers.ListNo.{ListNo}
+use Rattle.client_api.specs.declared.answers.ListNo.TheVariants.{TooLarge, Expired, Absent, Memory}
+use Rattle.client_api.specs.Starts.{StartsTooLarge}
 use Rattle.sess_reply.specs.Replies.{unrouted, wrote, transacted, got, listed, operated, described, metered, unready, unwatched, bad_upgrade}
 use Rattle.sess_turns.specs.Terms.{Terms}
-use Rattle.sess_serve.specs.Answers.{Answer, replied, streamed, IsAnswerTo, IsUnrouted, readiness}
+use Rattle.sess_serve.specs.Answers.{Answer, replied, streamed, is_stream, IsAnswerTo, IsUnrouted, IsPlainOrUpgrade, FailsUpgrade, readiness}
 use Rattle.sess_serve.specs.Steps.{Exchange, Says, IsAlone, Run, AreAlone}
-use Rattle.answered_requests.specs.Determined.{AskForNoWatch, AreOne, AreAnsweredAlike, HoldAlike, TellAlike, IsSound, RepliesAreDetermined}
+use Rattle.answered_requests.specs.Determined.{HaveReplies, AreOne, AreAnsweredAlike, HoldAlike, TellAlike, IsSound, RepliesAreDetermined}
 use Rattle.answered_requests.proofs.AnswerLemmas.{refusal_of, routed_clash}
 use Rattle.answered_requests.proofs.ChangesLemmas.{as_answered, made_of, one_write, one_transaction, one_operation, write_refused, tx_refused}
-use Rattle.answered_requests.proofs.ReadsLemmas.{one_list, one_get}
+use Rattle.answered_requests.proofs.ReadsLemmas.{one_list, one_get, one_start}
 
 -- ---- the floor stays within the log
 
@@ -138,30 +141,38 @@ module _ (base : List RowData) (q r : Pass RevisionData) (same : known r ≡ kno
     deployments = hold-alike Deployments a.deployments b.deployments is.deployments is'.deployments;
   }
 
+-- a head that asks for a WebSocket as it must doesn't fail to
+upgrade-clash : (upgrade : Option Upgrade) → IfSome upgrade (λ (u : Upgrade). IsUpgrade u.key u.version) → FailsUpgrade upgrade → ⊥
+upgrade-clash None is fails = fails
+upgrade-clash (Some u) is fails = fails is
+
 -- ---- what an answer says, by what its request asks for
 
-abbrev ByRoute : Terms → ℕ → Pass RevisionData → Answer → Pass RevisionData → Routed → Type 0
-ByRoute terms history p a q (routed.List ask) =
+abbrev ByRoute : Terms → ℕ → Pass RevisionData → Req → Answer → Pass RevisionData → Routed → Type 0
+ByRoute terms history p req a q (routed.List ask) =
     (x : Result ListedData ListNo) × (a ≡ replied (listed ask x)) × IsToldRead x × IsListAnswer terms.base p ask x q × IsSoleRead p q
-ByRoute terms history p a q (routed.Get ask) =
+ByRoute terms history p req a q (routed.Get ask) =
     (x : Result GotData ListNo) × (a ≡ replied (got ask x)) × IsToldRead x × IsGetAnswer terms.base p ask x q × IsSoleRead p q
-ByRoute terms history p a q (routed.Write ask) =
+ByRoute terms history p req a q (routed.Write ask) =
     (x : Result Written WriteNo) × (a ≡ replied (wrote ask x)) × IsToldWrite x × IsWriteAnswer terms.base terms.mirror history ask (known p) (known q) x
-ByRoute terms history p a q (routed.Transact asks) =
+ByRoute terms history p req a q (routed.Transact asks) =
     (x : Result (List Written) TxWriteNo) × (a ≡ replied (transacted asks x)) × IsToldTx x
     × IsTransactionAnswer terms.base terms.mirror history asks (known p) (known q) x
-ByRoute terms history p a q (routed.Operate ask) =
+ByRoute terms history p req a q (routed.Operate ask) =
     (x : Result ℕ OpNo) × (a ≡ replied (operated ask x)) × IsToldOperation x × IsOperationReply p ask x q × SoleOperate p ask x q
-ByRoute terms history p a q (routed.Describe document) = IsDescribedBy terms.mirror document a × IsSoleRead p q
-ByRoute terms history p a q routed.Metrics =
+ByRoute terms history p req a q (routed.Describe document) = IsDescribedBy terms.mirror document a × IsSoleRead p q
+ByRoute terms history p req a q routed.Metrics =
     (told : Metrics) × (a ≡ replied (metered told)) × AreMetrics terms.base p told q × IsSoleRead p q
-ByRoute terms history p a q (routed.Watch ask) = ⊥
+ByRoute terms history p req a q (routed.Watch ask) =
+    ((asked : ℕ) × (current : ℕ) × (a ≡ replied (unwatched ask (TooLarge asked current))) × IsPlainOrUpgrade req
+    × StartsTooLarge p ask asked current q × IsSoleRead p q)
+    ⊎ ((a ≡ replied (bad_upgrade ask)) × FailsUpgrade req.upgrade × IsSoleRead p q)
 
 -- the request has a route, and its answer is by it; or it has none, and is told why
 record Routes (terms : Terms) (history : ℕ) (p : Pass RevisionData) (req : Req) (a : Answer) (q : Pass RevisionData) : Type 0 where
   route : Routed
   is : IsRoute req route
-  by : ByRoute terms history p a q route
+  by : ByRoute terms history p req a q route
 
 record Untold (p : Pass RevisionData) (req : Req) (a : Answer) (q : Pass RevisionData) : Type 0 where
   fault : RouteNo
@@ -180,7 +191,7 @@ written-so terms history p q ask (Err (write_no.ReadOnly at)) told is = is.0
 written-so terms history p q ask (Err write_no.Memory) told is = absurd told
 
 module _ (terms : Terms) (history : ℕ) (if-sole : (P : ℕ → Type 0) → IsSomeAnd terms.sole_history P → P history) where
-  routes : (p q : Pass RevisionData) (req : Req) (a : Answer) → IsAnswerTo req a → Says terms p a q → IsAlone terms p a q → ((ask : WatchAsk) → ¬ (IsRoute req (routed.Watch ask))) →
+  routes : (p q : Pass RevisionData) (req : Req) (a : Answer) → IsAnswerTo req a → Says terms p a q → IsAlone terms p a q → is_stream a ≡ false →
       Routes terms history p req a q ⊎ Untold p req a q
   routes p q req (replied (unrouted fault)) to says sole plain = inr (record { fault = fault; answer_is = refl; is = to; sole = sole })
   routes p q req (replied (wrote ask x)) to says sole plain =
@@ -193,24 +204,31 @@ module _ (terms : Terms) (history : ℕ) (if-sole : (P : ℕ → Type 0) → IsS
   routes p q req (replied (described text)) to says sole plain = inl (record { route = routed.Describe text; is = to; by = (inl refl, sole) })
   routes p q req (replied (metered told)) to says sole plain = inl (record { route = routed.Metrics; is = to; by = (told, refl, says, sole) })
   routes p q req (replied unready) to says sole plain = inl (record { route = routed.Describe readiness; is = to; by = (inr (refl, says.0, refl), sole) })
-  routes p q req (replied (unwatched ask fault)) to says sole plain = absurd (plain ask to.0)
-  routes p q req (replied (bad_upgrade ask)) to says sole plain = absurd (plain ask to.0)
-  routes p q req (streamed ask stream) to says sole plain = absurd (plain ask to.0)
+  routes p q req (replied (unwatched ask (TooLarge asked current))) to says sole plain =
+      inl (record { route = routed.Watch ask; is = to.0; by = inl (asked, current, refl, to.1, says, sole) })
+  routes p q req (replied (unwatched ask (Expired asked floor))) to says sole plain = absurd says
+  routes p q req (replied (unwatched ask (Absent at))) to says sole plain = absurd says
+  routes p q req (replied (unwatched ask Memory)) to says sole plain = absurd says
+  routes p q req (replied (bad_upgrade ask)) to says sole plain = inl (record { route = routed.Watch ask; is = to.0; by = inr (refl, to.1, sole) })
+  routes p q req (streamed ask stream) to says sole plain = absurd (cc)
 
   -- ---- the floor
 
   low-read : (p q : Pass RevisionData) → IsSoleRead p q → low (known p) → low (known q)
   low-read p q sole is = subst low (sym sole.same) is
 
-  low-after : (p q : Pass RevisionData) (a : Answer) (route : Routed) → ByRoute terms history p a q route → low (known p) → low (known q)
-  low-after p q a (routed.List ask) by is = low-read p q by.4 is
-  low-after p q a (routed.Get ask) by is = low-read p q by.4 is
-  low-after p q a (routed.Write ask) by is = low-written terms history ask (known p) (known q) by.0 by.2 by.3 is
-  low-after p q a (routed.Transact asks) by is = low-transacted terms history asks (known p) (known q) by.0 by.2 by.3 is
-  low-after p q a (routed.Operate ask) by is = low-operated ask (known p) (known q) by.0 (made_of p q ask by.0 by.2 by.4) is
-  low-after p q a (routed.Describe text) by is = low-read p q by.1 is
-  low-after p q a routed.Metrics by is = low-read p q by.3 is
-  low-after p q a (routed.Watch ask) by is = absurd by
+  low-after : (p q : Pass RevisionData) (req : Req) (a : Answer) (route : Routed) → ByRoute terms history p req a q route → low (known p) → low (known q)
+  low-after p q req a (routed.List ask) by is = low-read p q by.4 is
+  low-after p q req a (routed.Get ask) by is = low-read p q by.4 is
+  low-after p q req a (routed.Write ask) by is = low-written terms history ask (known p) (known q) by.0 by.2 by.3 is
+  low-after p q req a (routed.Transact asks) by is = low-transacted terms history asks (known p) (known q) by.0 by.2 by.3 is
+  low-after p q req a (routed.Operate ask) by is = low-operated ask (known p) (known q) by.0 (made_of p q ask by.0 by.2 by.4) is
+  low-after p q req a (routed.Describe text) by is = low-read p q by.1 is
+  low-after p q req a routed.Metrics by is = low-read p q by.3 is
+  low-after p q req a (routed.Watch ask) by is = elim by [
+    | inl x ↦ low-read p q x.5 is
+    | inr x ↦ low-read p q x.2 is
+  ]
 
   -- ---- two answers to one request
 
@@ -221,27 +239,40 @@ module _ (terms : Terms) (history : ℕ) (if-sole : (P : ℕ → Type 0) → IsS
     are-one : (a b x y : Answer) → a ≡ x → b ≡ y → AreOne terms.mirror x y → AreOne terms.mirror a b
     are-one = moved-one terms.mirror
 
-    by-one : (a b : Answer) (route : Routed) → ByRoute terms history p a q route → ByRoute terms history o b r route → AreOne terms.mirror a b × (known r ≡ known q)
-    by-one a b (routed.List ask) by by' =
+    by-one : (req : Req) (a b : Answer) (route : Routed) → ByRoute terms history p req a q route → ByRoute terms history o req b r route → AreOne terms.mirror a b × (known r ≡ known q)
+    by-one req a b (routed.List ask) by by' =
         (are-one a b _ _ by.1 by'.1 (one_list terms.base p q o r sound lawful by.4 sound' lawful' by'.4 same terms.mirror ask by.0 by'.0 by.2 by'.2 by.3 by'.3), reads-same by.4 by'.4)
-    by-one a b (routed.Get ask) by by' =
+    by-one req a b (routed.Get ask) by by' =
         (are-one a b (replied (got ask by.0)) (replied (got ask by'.0)) by.1 by'.1 (one_get terms.base p q o r sound lawful by.4 sound' lawful' by'.4 same ask by.0 by'.0 by.2 by'.2 by.3 by'.3), reads-same by.4 by'.4)
-    by-one a b (routed.Write ask) by by' =
+    by-one req a b (routed.Write ask) by by' =
         let one = one_write terms.base terms.mirror history (known p) ask (known q) (known r) by.0 by'.0 by.2 by'.2 by.3
         (subst (λ (w : Whole RevisionData). IsWriteAnswer terms.base terms.mirror history ask w (known r) by'.0) same by'.3) in
         (are-one a b (replied (wrote ask by.0)) (replied (wrote ask by'.0)) by.1 by'.1 (ap (λ (x : Result Written WriteNo). replied (wrote ask x)) one.0), one.1)
-    by-one a b (routed.Transact asks) by by' =
+    by-one req a b (routed.Transact asks) by by' =
         let one = one_transaction terms.base terms.mirror history (known p) asks (known q) (known r) by.0 by'.0 by.2 by'.2 by.3
         (subst (λ (w : Whole RevisionData). IsTransactionAnswer terms.base terms.mirror history asks w (known r) by'.0) same by'.3) in
         (are-one a b (replied (transacted asks by.0)) (replied (transacted asks by'.0)) by.1 by'.1 (ap (λ (x : Result (List Written) TxWriteNo). replied (transacted asks x)) one.0), one.1)
-    by-one a b (routed.Operate ask) by by' =
+    by-one req a b (routed.Operate ask) by by' =
         let one = one_operation p q o r sound lawful lawful' same ask by.0 by'.0 by.2 by'.2 by.3 by'.3 by.4 by'.4 in
         (are-one a b (replied (operated ask by.0)) (replied (operated ask by'.0)) by.1 by'.1 (ap (λ (x : Result ℕ OpNo). replied (operated ask x)) one.0), one.1)
-    by-one a b (routed.Describe text) by by' = (described-one terms.mirror text a b by.0 by'.0, reads-same by.1 by'.1)
-    by-one a b routed.Metrics by by' =
+    by-one req a b (routed.Describe text) by by' = (described-one terms.mirror text a b by.0 by'.0, reads-same by.1 by'.1)
+    by-one req a b routed.Metrics by by' =
         let again : known r ≡ known q = reads-same by.3 by'.3 in
         (are-one a b (replied (metered by.0)) (replied (metered by'.0)) by.1 by'.1 (by'.0, refl, tell-alike terms.base q r again p o by.0 by'.0 by.2 by'.2), again)
-    by-one a b (routed.Watch ask) by by' = absurd by
+    by-one req a b (routed.Watch ask) by by' = elim by [
+      | inl x ↦ elim by' [
+        | inl y ↦ (
+          are-one a b (replied (unwatched ask (TooLarge x.0 x.1))) (replied (unwatched ask (TooLarge y.0 y.1))) x.2 y.2
+              (ap (λ (no : ListNo). replied (unwatched ask no)) (one_start p q o r sound lawful x.5 sound' lawful' y.5 same ask x.0 x.1 y.0 y.1 x.4 y.4)),
+          reads-same x.5 y.5,
+        )
+        | inr y ↦ absurd (upgrade-clash req.upgrade x.3 y.1)
+      ]
+      | inr x ↦ elim by' [
+        | inl y ↦ absurd (upgrade-clash req.upgrade y.3 x.1)
+        | inr y ↦ (are-one a b (replied (bad_upgrade ask)) (replied (bad_upgrade ask)) x.0 y.0 refl, reads-same x.2 y.2)
+      ]
+    ]
 
     module _ (agree : AnswersAgree) (refusals : RefusalsAgree) (unrefused : RoutesAreNotRefused) (req : Req) (a b : Answer) where
       isn't-memory : (fault : RouteNo) → IsUnrouted req fault → fault ≢ route_no.Memory
@@ -250,7 +281,7 @@ module _ (terms : Terms) (history : ℕ) (if-sole : (P : ℕ → Type 0) → IsS
       one-answer : Routes terms history p req a q ⊎ Untold p req a q → Routes terms history o req b r ⊎ Untold o req b r → AreOne terms.mirror a b × (known r ≡ known q)
       one-answer first second = elim first [
         | inl x ↦ elim second [
-          | inl y ↦ by-one a b x.route x.by (subst (ByRoute terms history o b r) (agree req y.route x.route y.is x.is) y.by)
+          | inl y ↦ by-one req a b x.route x.by (subst (ByRoute terms history o req b r) (agree req y.route x.route y.is x.is) y.by)
           | inr y ↦ absurd (routed_clash terms o r req unrefused y.fault x.route y.is x.is)
         ]
         | inr x ↦ elim second [
@@ -263,7 +294,7 @@ module _ (terms : Terms) (history : ℕ) (if-sole : (P : ℕ → Type 0) → IsS
 
   low-then : (p q : Pass RevisionData) (req : Req) (a : Answer) → Routes terms history p req a q ⊎ Untold p req a q → low (known p) → low (known q)
   low-then p q req a so is = elim so [
-    | inl x ↦ low-after p q a x.route x.by is
+    | inl x ↦ low-after p q req a x.route x.by is
     | inr y ↦ low-read p q y.sole is
   ]
 
@@ -272,23 +303,23 @@ module _ (terms : Terms) (history : ℕ) (if-sole : (P : ℕ → Type 0) → IsS
   module _ (agree : AnswersAgree) (refusals : RefusalsAgree) (unrefused : RoutesAreNotRefused) where
     runs-agree : (p last o final : Pass RevisionData) (es fs : List Exchange) → IsSound p → IsSound o → known o ≡ known p →
         Run terms p es last → AreAlone terms p es → Run terms o fs final → AreAlone terms o fs →
-        map (λ (f : Exchange). f.request) fs ≡ map (λ (e : Exchange). e.request) es → AskForNoWatch es → AreAnsweredAlike terms.mirror es fs × (known final ≡ known last)
-    runs-agree p last o final [] [] sound sound' same run alone run' alone' requests plain = (tt, ap known (sym run') ∙ same ∙ ap known run)
-    runs-agree p last o final [] (f ∷ fs) sound sound' same run alone run' alone' requests plain = absurd (let e : f.request ∷ map (λ (x : Exchange). x.request) fs ≡ [] = requests in cc)
-    runs-agree p last o final (e ∷ es) [] sound sound' same run alone run' alone' requests plain = absurd (let h : [] ≡ e.request ∷ map (λ (x : Exchange). x.request) es = requests in cc)
-    runs-agree p last o final (e ∷ es) (f ∷ fs) sound sound' same run alone run' alone' requests plain =
+        map (λ (f : Exchange). f.request) fs ≡ map (λ (e : Exchange). e.request) es → HaveReplies es → HaveReplies fs → AreAnsweredAlike terms.mirror es fs × (known final ≡ known last)
+    runs-agree p last o final [] [] sound sound' same run alone run' alone' requests plain plain' = (tt, ap known (sym run') ∙ same ∙ ap known run)
+    runs-agree p last o final [] (f ∷ fs) sound sound' same run alone run' alone' requests plain plain' = absurd (let e : f.request ∷ map (λ (x : Exchange). x.request) fs ≡ [] = requests in cc)
+    runs-agree p last o final (e ∷ es) [] sound sound' same run alone run' alone' requests plain plain' = absurd (let h : [] ≡ e.request ∷ map (λ (x : Exchange). x.request) es = requests in cc)
+    runs-agree p last o final (e ∷ es) (f ∷ fs) sound sound' same run alone run' alone' requests plain plain' =
         let both : f.request ∷ map (λ (x : Exchange). x.request) fs ≡ e.request ∷ map (λ (x : Exchange). x.request) es = requests in
         let head : f.request ≡ e.request = cc in
         let tail : map (λ (x : Exchange). x.request) fs ≡ map (λ (x : Exchange). x.request) es = cc in
         let first = routes p e.pass e.request e.answer run.0.answers run.0.says alone.0 plain.0 in
-        let second = routes o f.pass e.request f.answer (subst (λ (req : Req). IsAnswerTo req f.answer) head run'.0.answers) run'.0.says alone'.0 plain.0 in
+        let second = routes o f.pass e.request f.answer (subst (λ (req : Req). IsAnswerTo req f.answer) head run'.0.answers) run'.0.says alone'.0 plain'.0 in
         let lawful : IsPass Fits e.pass = run.0.onward.lawful sound.lawful in
         let lawful' : IsPass Fits f.pass = run'.0.onward.lawful sound'.lawful in
         let one = one-answer p e.pass o f.pass sound lawful sound' lawful' same agree refusals unrefused e.request e.answer f.answer first second in
         let next = runs-agree e.pass last f.pass final es fs
         (record { lawful = lawful; floor = low-then p e.pass e.request e.answer first sound.floor })
         (record { lawful = lawful'; floor = low-then o f.pass e.request f.answer second sound'.floor })
-        one.1 run.1 alone.1 run'.1 alone'.1 tail plain.1 in
+        one.1 run.1 alone.1 run'.1 alone'.1 tail plain.1 plain'.1 in
         ((head, one.0, next.0), next.1)
 
 -- how many revisions a log keeps that somebody holds alone; any number where nobody does

@@ -5,3 +5,4 @@ pub mod AloneLemmas
 pub mod ReadsLemmas
 pub mod ChangesLemmas
 pub mod DeterminedLemmas
+pub mod LoadLemmas

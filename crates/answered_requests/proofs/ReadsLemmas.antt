@@ -1,6 +1,6 @@
 -- Of a log that nobody else holds, reads have one answer.
 use Rattle.std.specs.Prelude.{Bool, Result, Ok, Err}
-use Rattle.std.proofs.Common.{◌≡◌, ℕ, ◌≤◌, List, Some, ap, sym, ◌∙◌, subst, arith}
+use Rattle.std.proofs.Common.{◌≡◌, ℕ, ◌≤◌, List, Option, Some, ap, sym, ◌∙◌, subst, arith}
 use Rattle.kube_meta.specs.Rows.{RowData, behind}
 use Rattle.rev_front.specs.Passes.{Pass, IsPass, Whole, end_from, revision}
 use Rattle.rev_log.specs.Changes.{RevisionData}
@@ -14,12 +14,14 @@ use Rattle.select_all.specs.Selecting.{selects}
 use Rattle.select_all.proofs.ListingLaws.{listings_are_one}
 use Rattle.list_rules.specs.declared.ask.ListAsk.{ListAsk}
 use Rattle.list_rules.specs.declared.get.GetAsk.{GetAsk}
+use Rattle.watch_rules.specs.declared.ask.WatchAsk.{WatchAsk}
 use Rattle.client_api.specs.Alone.{known, IsSoleRead}
 use Rattle.client_api.specs.Answers.{GotData, ListedData}
 use Rattle.client_api.specs.Fresh.{IsFresh}
 use Rattle.client_api.specs.Gets.{IsGetAnswer}
 use Rattle.client_api.specs.Lists.{IsListAnswer, IsListed, page_at}
 use Rattle.client_api.specs.Refusals.{IsTooLarge, IsExpired, revision_named}
+use Rattle.client_api.specs.Starts.{StartsTooLarge}
 use Rattle.client_api.specs.Told.{IsToldRead}
 use Rattle.client_api.specs.declared.answers.ListNo.{ListNo}
 use Rattle.client_api.specs.declared.answers.ListNo.TheVariants.{Expired, TooLarge, Absent, Memory}
@@ -38,6 +40,9 @@ read-at end (Exact asked) = asked
 
 same-exact : (a b : ℕ) → Exact a ≡ Exact b → a ≡ b
 same-exact a b is = cc
+
+same-older : (a b : ℕ) → ◌≡◌ {A = Option Meaning} (Some (NotOlder a)) (Some (NotOlder b)) → a ≡ b
+same-older a b is = cc
 
 -- ---- one read
 
@@ -126,6 +131,15 @@ module _ (p q o r : Pass RevisionData) (sound : IsSound p) (lawful : IsPass Fits
   one-refusal meaning asked current other later is is' =
       let first : other ≡ asked = same_some other asked (sym is'.named ∙ is.named) in
       let second : later ≡ current = current_at o r sound' lawful' sole' meaning other later is' ∙ same-end ∙ sym (current_at p q sound lawful sole meaning asked current is) in
+      λ i. TooLarge (first i) (second i)
+
+  -- watches that can't begin
+  pub one_start : (ask : WatchAsk) (asked current other later : ℕ) → StartsTooLarge p ask asked current q → StartsTooLarge o ask other later r →
+      TooLarge other later ≡ TooLarge asked current
+  one_start ask asked current other later is is' =
+      let first : other ≡ asked = same-older other asked (sym is'.asks ∙ is.asks) in
+      let second : later ≡ current =
+      current_at o r sound' lawful' sole' (NotOlder other) other later is'.too_large ∙ same-end ∙ sym (current_at p q sound lawful sole (NotOlder asked) asked current is.too_large) in
       λ i. TooLarge (first i) (second i)
 
   -- ---- lists

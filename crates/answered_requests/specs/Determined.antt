@@ -1,11 +1,9 @@
 -- Where nobody else holds the log, replies and what becomes of the log are determined by the requests.
-use Rattle.std.specs.Prelude.{◌≡◌, ◌⊎◌, ℕ, ◌≤◌, List, [], ◌∷◌, Bool, true, Option, Some, Err, map}
+use Rattle.std.specs.Prelude.{◌≡◌, ◌⊎◌, ℕ, ◌≤◌, List, [], ◌∷◌, Bool, true, false, Option, Some, Err, map}
+use Rattle.std.specs.List.{AllByRecursion}
 use Rattle.rev_front.specs.Passes.{Pass, IsPass, end_from}
 use Rattle.rev_log.specs.Changes.{RevisionData}
 use Rattle.rev_log.specs.Logs.{Fits}
-use Rattle.watch_rules.specs.declared.ask.WatchAsk.{WatchAsk}
-use Rattle.route_req.specs.Asks.{IsRoute}
-use Rattle.route_req.specs.declared.routing.Routed.TheVariants as routed
 use Rattle.client_api.specs.Alone.{known}
 use Rattle.discovery.specs.declared.documents.Document.TheVariants as document
 use Rattle.discovery.specs.declared.documents.Probe.TheVariants as probe
@@ -14,13 +12,12 @@ use Rattle.metrics.specs.declared.caches.CacheMetrics.{CacheMetrics}
 use Rattle.client_api.specs.declared.answers.ListNo.TheVariants as list_no
 use Rattle.sess_reply.specs.Replies.{listed, described, metered, unready}
 use Rattle.sess_turns.specs.Terms.{Terms}
-use Rattle.sess_serve.specs.Answers.{Answer, replied, readiness}
+use Rattle.sess_serve.specs.Answers.{Answer, replied, readiness, is_stream}
 use Rattle.sess_serve.specs.Steps.{Exchange, Run, AreAlone}
 
--- none of the requests asks for a watch
-abbrev pub AskForNoWatch : List Exchange → Type 0
-AskForNoWatch [] = Unit {0}
-AskForNoWatch (e ∷ es) = ((ask : WatchAsk) → ¬ (IsRoute e.request (routed.Watch ask))) × AskForNoWatch es
+-- each of the requests is answered by a reply, and none by the stream of a watch
+abbrev pub HaveReplies : List Exchange → Type 0
+HaveReplies exchanges = AllByRecursion (λ (e : Exchange). is_stream e.answer ≡ false) exchanges
 
 -- caches of one resource that stand for the log up to the same revision hold as many objects
 abbrev pub HoldAlike : Option CacheMetrics → Option CacheMetrics → Type 0
@@ -61,12 +58,12 @@ pub record IsSound (p : Pass RevisionData) : Type 0 where
   pub lawful : IsPass Fits p
   pub floor : p.floor ≤ end_from p.first p.seen
 
--- Two runs of the same requests, none of them for a watch, from the same log: they have the same answers, and leave the
--- same log, with the same floor and generation.
+-- Two runs of the same requests from the same log, which answer each by a reply, have the same answers, and leave the same
+-- log, with the same floor and generation.
 abbrev pub RepliesAreDetermined : Type 0
 RepliesAreDetermined =
     (terms : Terms) (p last o final : Pass RevisionData) (es fs : List Exchange) →
     IsSound p → IsSound o → known o ≡ known p →
     Run terms p es last → AreAlone terms p es → Run terms o fs final → AreAlone terms o fs →
-    map (λ (f : Exchange). f.request) fs ≡ map (λ (e : Exchange). e.request) es → AskForNoWatch es →
+    map (λ (f : Exchange). f.request) fs ≡ map (λ (e : Exchange). e.request) es → HaveReplies es → HaveReplies fs →
     AreAnsweredAlike terms.mirror es fs × (known final ≡ known last)

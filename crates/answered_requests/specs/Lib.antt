@@ -4,3 +4,4 @@ pub mod Hindered
 pub mod Due
 pub mod Laws
 pub mod Determined
+pub mod Loads
