@@ -1,13 +1,47 @@
 //! Rows of bodies: `FIRST FLOOR WINDOW | LOG | NAMESPACE | QUERY | BODY`.
 
 use crate::judged::judge;
-use crate::texts::{
-    Change, begin_header, begin_log_line, bookmark, end_header, end_log_line, event, loss,
-};
+use crate::texts::{Change, begin_header, bookmark, end_header, event, log_text, loss};
 use case_rows::{Steps, Wording, number, split};
 use kube_meta::Memory;
 use std::alloc::Global;
-use std::cmp::Ordering;
+
+/// A record in words.
+#[derive(Clone, Copy)]
+struct Row<'t> {
+    first: u64,
+    floor: u64,
+    window: u64,
+    log: &'t str,
+    ns: &'t str,
+    query: &'t str,
+    body: &'t str,
+}
+
+impl<'t> Row<'t> {
+    fn of(step: &'t str) -> Row<'t> {
+        let mut rest = step;
+        let (first, others) = split(cell(&mut rest));
+        let (floor, window) = split(others);
+        Row {
+            first: number(first),
+            floor: number(floor),
+            window: number(window),
+            log: cell(&mut rest),
+            ns: cell(&mut rest),
+            query: cell(&mut rest),
+            body: cell(&mut rest),
+        }
+    }
+}
+
+// What stands before the next `|`.
+fn cell<'t>(rest: &mut &'t str) -> &'t str {
+    let text: &'t str = *rest;
+    let (cell, behind) = text.split_once('|').unwrap_or((text, ""));
+    *rest = behind;
+    cell.trim()
+}
 
 /// Records in words, judged.
 #[derive(Drop)]
@@ -15,79 +49,93 @@ pub struct Bodies;
 
 impl Steps for Bodies {
     fn answer(&mut self, alloc: Global, step: &str, told: &mut Wording) -> Result<(), Memory> {
-        let mut cells = step.split('|');
-        let numbers = cells.next().unwrap_or("").trim();
-        let log = cells.next().unwrap_or("").trim();
-        let ns = cells.next().unwrap_or("").trim();
-        let query = cells.next().unwrap_or("").trim();
-        let body = cells.next().unwrap_or("").trim();
-        let (first, others) = split(numbers);
-        let (floor, window) = split(others);
-        let changes = changes_of(alloc, log, number(first))?;
-        let log = log_text(alloc, &changes)?;
-        let mut text = Wording::new(alloc);
-        begin_header(number(first), number(floor), ns, &mut text);
-        text.add(query);
-        end_header(number(window), &mut text);
-        text.add(log.as_str());
-        text.add("\n");
-        tell_body(&changes, body, &mut text);
-        judge(alloc, text.whole()?.as_str(), log.as_str(), told)
+        let row = Row::of(step);
+        judge_changes(alloc, row, &changes_of(alloc, row.log, row.first)?, told)
     }
 }
 
-/// The changes of a log in words: `;` parts revisions, `,` changes. `web a` writes the pod `default/web` with the label
-/// `app=a`, `-web` removes it, `ns/web` is one in `ns`, and `cm:x` a config map.
+fn judge_changes(
+    alloc: Global,
+    row: Row<'_>,
+    changes: &[Change<'_>],
+    told: &mut Wording,
+) -> Result<(), Memory> {
+    judge_logged(
+        alloc,
+        row,
+        changes,
+        log_text(alloc, changes)?.as_str(),
+        told,
+    )
+}
+
+fn judge_logged(
+    alloc: Global,
+    row: Row<'_>,
+    changes: &[Change<'_>],
+    log: &str,
+    told: &mut Wording,
+) -> Result<(), Memory> {
+    judge(
+        alloc,
+        record_text(alloc, row, changes, log)?.as_str(),
+        log,
+        told,
+    )
+}
+
+fn record_text(
+    alloc: Global,
+    row: Row<'_>,
+    changes: &[Change<'_>],
+    log: &str,
+) -> Result<String, Memory> {
+    let mut text = Wording::new(alloc);
+    begin_header(row.first, row.floor, row.ns, &mut text);
+    text.add(row.query);
+    end_header(row.window, &mut text);
+    text.add(log);
+    text.add("\n");
+    tell_body(changes, row.body, &mut text);
+    text.whole()
+}
+
+/// The changes of a log in words, in their order: `;` parts revisions, `,` changes. `web a` writes the pod
+/// `default/web` with the label `app=a`, `-web` removes it, `ns/web` is one in `ns`, and `cm:x` a config map.
 fn changes_of<'t>(alloc: Global, log: &'t str, first: u64) -> Result<Vec<Change<'t>>, Memory> {
     let mut changes: Vec<Change<'t>> = Vec::new(alloc);
-    if log.is_empty() {
-        return Ok(changes);
-    }
-    let mut rev = first;
-    for revision in log.split(';') {
-        rev = rev.saturating_add(1);
-        let mut together: Vec<Change<'t>> = Vec::new(alloc);
-        for word in revision.split(',') {
-            together.push(change_of(changes.as_slice(), word.trim(), rev))?;
-        }
-        together.sort_unstable_by(|a, b| order(a, b));
-        for change in together.as_slice() {
-            changes.push(*change)?;
-        }
+    if !log.is_empty() {
+        push_changes(&mut changes, log, first)?;
     }
     Ok(changes)
 }
 
-fn order(a: &Change<'_>, b: &Change<'_>) -> Ordering {
-    b.is_pod
-        .cmp(&a.is_pod)
-        .then(a.ns.cmp(b.ns))
-        .then(a.name.cmp(b.name))
+fn push_changes<'t>(changes: &mut Vec<Change<'t>>, log: &'t str, first: u64) -> Result<(), Memory> {
+    let mut rev = first;
+    for revision in log.split(';') {
+        rev = rev.saturating_add(1);
+        for word in revision.split(',') {
+            changes.push(change_of(changes.as_slice(), word.trim(), rev))?;
+        }
+    }
+    changes.sort_unstable_by(|a, b| a.order(b));
+    Ok(())
 }
 
 // The change that words say, behind these.
 fn change_of<'t>(earlier: &[Change<'t>], text: &'t str, rev: u64) -> Change<'t> {
-    let (removed, text) = match text.strip_prefix('-') {
-        Some(text) => (true, text),
-        None => (false, text),
-    };
-    let (is_pod, text) = match text.strip_prefix("cm:") {
-        Some(text) => (false, text),
-        None => (true, text),
-    };
-    let (key, label) = split(text);
+    let kept = text.trim_start_matches('-');
+    let named = kept.trim_start_matches("cm:");
+    let is_pod = named.len() == kept.len();
+    let (key, label) = split(named);
     let (ns, name) = names(key);
-    let before = match last_of(earlier, is_pod, ns, name) {
-        Some(change) => change.after,
-        None => None,
-    };
     Change {
         rev,
         is_pod,
         ns,
         name,
-        after: if removed { None } else { Some(label) },
-        before,
+        after: (kept.len() == text.len()).then_some(label),
+        before: label_of(earlier, is_pod, ns, name),
     }
 }
 
@@ -95,46 +143,24 @@ fn names(key: &str) -> (&str, &str) {
     key.split_once('/').unwrap_or(("default", key))
 }
 
-fn last_of<'t>(changes: &[Change<'t>], is_pod: bool, ns: &str, name: &str) -> Option<Change<'t>> {
-    let mut last = None;
+// The label of an object behind these changes, if it is there.
+fn label_of<'t>(changes: &[Change<'t>], is_pod: bool, ns: &str, name: &str) -> Option<&'t str> {
+    let mut label = None;
     for change in changes {
         if change.is_of(is_pod, ns, name) {
-            last = Some(*change);
+            label = change.after;
         }
     }
-    last
-}
-
-/// The lines of a log.
-fn log_text(alloc: Global, changes: &[Change<'_>]) -> Result<String, Memory> {
-    let mut lines = Wording::new(alloc);
-    let mut last = None;
-    for change in changes {
-        match last {
-            Some(rev) if rev == change.rev => lines.add(","),
-            Some(rev) => {
-                end_log_line(rev, &mut lines);
-                begin_log_line(&mut lines);
-            }
-            None => begin_log_line(&mut lines),
-        }
-        change.tell(&mut lines);
-        last = Some(change.rev);
-    }
-    if let Some(rev) = last {
-        end_log_line(rev, &mut lines);
-    }
-    lines.whole()
+    label
 }
 
 /// The lines of a body in words, which `;` parts: `A web 2`, `M web 2` and `D web 2` tell the change of an object at a
 /// revision, `B 2` and `C 2` are a bookmark and the closing one, `E 2 6` is a loss. Anything else stands for itself.
 fn tell_body(changes: &[Change<'_>], body: &str, text: &mut Wording) {
-    if body.is_empty() {
-        return;
-    }
-    for word in body.split(';') {
-        tell_line(changes, word.trim(), text);
+    if !body.is_empty() {
+        for line in body.split(';') {
+            tell_line(changes, line.trim(), text);
+        }
     }
 }
 
@@ -155,18 +181,12 @@ fn tell_line(changes: &[Change<'_>], words: &str, text: &mut Wording) {
     }
 }
 
-// The line that tells a change of a pod; of a deletion what was there before.
+// The line that tells a change of a pod.
 fn tell_change(changes: &[Change<'_>], kind: &str, key: &str, rev: u64, text: &mut Wording) {
     let (ns, name) = names(key);
     for change in changes {
         if change.rev == rev && change.is_of(true, ns, name) {
-            let label = if kind == "DELETED" {
-                change.before.unwrap_or("")
-            } else {
-                change.after.unwrap_or("")
-            };
-            event(kind, change, label, text);
-            return;
+            return event(kind, change, text);
         }
     }
     text.add("no such change\n");

@@ -1,19 +1,15 @@
-//! Answers to rows on records of watches: bodies that are judged, bytes that are read as records, and records that are
-//! drawn and judged a second time by the grammar of bodies itself.
+//! Answers to rows on records of watches: bodies that are judged, and bytes that are read as records.
 //!
 //! `part_cases` reads the rows. They stand apart from it, since they need few crates, and so are proved sooner.
 #![tactic(auto)]
 
 mod bodies;
-mod draw;
 mod judged;
 mod records;
-mod slow;
 mod texts;
 
 use bodies::Bodies;
 use case_rows::{Lines, Tally, run_rows};
-use draw::Drawn;
 use records::Records;
 use std::alloc::Global;
 use std::io;
@@ -29,7 +25,6 @@ pub fn run_records<R: Runtime>(
     match lines.file {
         "records/bodies.txt" => run_rows(rt, alloc, lines, &mut Bodies, tally),
         "records/records.txt" => run_rows(rt, alloc, lines, &mut Records, tally),
-        "records/drawn.txt" => run_rows(rt, alloc, lines, &mut Drawn, tally),
         _ => {
             tally.count(false);
             println!(rt; "{}: no subject has this name", lines.file)

@@ -1,19 +1,10 @@
 //! Rows of bytes that are read as a record: words that are put one behind the other.
 
+use crate::texts::tell_words;
 use case_rows::{Steps, Wording, plain};
 use kube_meta::Memory;
 use std::alloc::Global;
 use watch_record::{Record, RecordNo, read_record};
-
-/// The members of the usual first line.
-const MEMBERS: [(&str, &str); 6] = [
-    ("first", "1"),
-    ("floor", "1"),
-    ("namespace", "\"\""),
-    ("query", "\"watch=true&resourceVersion=1\""),
-    ("resource", "\"pods\""),
-    ("window", "100"),
-];
 
 /// Bytes in words, read.
 #[derive(Drop)]
@@ -21,49 +12,59 @@ pub struct Records;
 
 impl Steps for Records {
     fn answer(&mut self, alloc: Global, step: &str, told: &mut Wording) -> Result<(), Memory> {
-        let mut bytes = Vec::new(alloc);
-        for word in step.split(' ') {
-            push_word(alloc, &mut bytes, word)?;
-        }
-        match read_record(alloc, bytes.as_slice()) {
-            Ok(case) => tell_record(&case, told),
-            Err(RecordNo::Memory) => return Err(Memory),
-            Err(fault) => told.debug(&fault),
-        }
+        tell_read(&read_record(alloc, bytes_of(alloc, step)?.as_slice()), told);
         Ok(())
     }
 }
 
-fn tell_record(case: &Record, told: &mut Wording) {
-    told.show(&case.log.as_slice().len());
-    told.add(" revisions, ");
-    told.show(&case.lines.as_slice().len());
-    told.add(" lines");
+fn tell_read(read: &Result<Record, RecordNo>, told: &mut Wording) {
+    match read {
+        Ok(case) => {
+            told.show(&case.log.as_slice().len());
+            told.add(" revisions, ");
+            told.show(&case.lines.as_slice().len());
+            told.add(" lines");
+        }
+        Err(fault) => told.debug(fault),
+    }
+}
+
+/// The bytes that words stand for.
+fn bytes_of(alloc: Global, words: &str) -> Result<Vec<u8>, Memory> {
+    let mut bytes = Vec::new(alloc);
+    for word in words.split(' ') {
+        push_word(alloc, &mut bytes, word)?;
+    }
+    Ok(bytes)
 }
 
 // Writes what a word stands for.
 fn push_word(alloc: Global, bytes: &mut Vec<u8>, word: &str) -> Result<(), Memory> {
-    let (name, rest) = word.split_once(':').unwrap_or((word, ""));
+    let (name, rest) = parts(word);
     match name {
-        "H" | "L" | "CHANGES" | "DEEP" => {
-            let mut text = Wording::new(alloc);
-            tell_line(name, rest, &mut text);
-            bytes.extend_from_slice(text.whole()?.as_bytes())
-        }
+        "H" | "L" | "CHANGES" | "DEEP" => push_line(alloc, bytes, name, rest),
         "LINES" => push_lines(bytes, count(rest)),
-        "BYTES" => bytes.extend_from_slice(vec![in alloc; 255u8; count(rest) as usize]?.as_slice()),
+        "BYTES" => push_no_text(bytes, count(rest)),
         "NOTHING" => Ok(()),
-        _ => bytes.extend_from_slice(plain(alloc, word)?.as_bytes()),
+        _ => push_plain(alloc, bytes, word),
     }
 }
 
-fn tell_line(name: &str, rest: &str, text: &mut Wording) {
-    match name {
-        "H" => tell_header(rest, text),
-        "L" => tell_pods(rest, text),
-        "CHANGES" => tell_changes(count(rest), text),
-        _ => tell_deep(count(rest), text),
-    }
+// The name of a word, and what stands behind its colon.
+fn parts(word: &str) -> (&str, &str) {
+    word.split_once(':').unwrap_or((word, ""))
+}
+
+fn push_line(alloc: Global, bytes: &mut Vec<u8>, name: &str, rest: &str) -> Result<(), Memory> {
+    bytes.extend_from_slice(line_text(alloc, name, rest)?.as_bytes())
+}
+
+fn push_plain(alloc: Global, bytes: &mut Vec<u8>, word: &str) -> Result<(), Memory> {
+    bytes.extend_from_slice(plain(alloc, word)?.as_bytes())
+}
+
+fn push_no_text(bytes: &mut Vec<u8>, count: u32) -> Result<(), Memory> {
+    bytes.resize(bytes.len().saturating_add(count as usize), 255)
 }
 
 fn count(word: &str) -> u32 {
@@ -77,59 +78,79 @@ fn push_lines(bytes: &mut Vec<u8>, count: u32) -> Result<(), Memory> {
     Ok(())
 }
 
-// The usual first line, with other values of the members that are named, as `floor=0`.
-fn tell_header(others: &str, text: &mut Wording) {
-    text.add("{");
-    let mut is_first = true;
-    for (name, usual) in MEMBERS {
-        if !is_first {
-            text.add(",");
-        }
-        text.add("\"");
-        text.add(name);
-        text.add("\":");
-        text.add(other(others, name).unwrap_or(usual));
-        is_first = false;
-    }
-    text.add("}");
+fn line_text(alloc: Global, name: &str, rest: &str) -> Result<String, Memory> {
+    let mut text = Wording::new(alloc);
+    tell_line(name, rest, &mut text);
+    text.whole()
 }
 
-// The value of a name among words as `floor=0`, which `;` parts.
-fn other<'t>(others: &'t str, name: &str) -> Option<&'t str> {
+fn tell_line(name: &str, rest: &str, text: &mut Wording) {
+    match name {
+        "H" => tell_header(rest, text),
+        "L" => tell_pods(rest, text),
+        "CHANGES" => tell_changes(count(rest), text),
+        _ => tell_deep(count(rest), text),
+    }
+}
+
+// The usual first line, with other values of the members that are named, as `floor=0`.
+fn tell_header(others: &str, text: &mut Wording) {
+    tell_words(
+        &[
+            "{\"first\":",
+            other(others, "first", "1"),
+            ",\"floor\":",
+            other(others, "floor", "1"),
+            ",\"namespace\":",
+            other(others, "namespace", "\"\""),
+            ",\"query\":",
+            other(others, "query", "\"watch=true&resourceVersion=1\""),
+            ",\"resource\":",
+            other(others, "resource", "\"pods\""),
+            ",\"window\":",
+            other(others, "window", "100"),
+            "}",
+        ],
+        text,
+    );
+}
+
+// The value of a name among words as `floor=0`, which `;` parts, or else the usual one.
+fn other<'t>(others: &'t str, name: &str, usual: &'t str) -> &'t str {
     for word in others.split(';') {
         if let Some((found, value)) = word.split_once('=') {
             if found == name {
-                return Some(value);
+                return value;
             }
         }
     }
-    None
+    usual
 }
 
 // The line of a create of the pod `web` at 2; or of the pods that are named, as `a@2` or `a,b@2`.
 fn tell_pods(pods: &str, text: &mut Wording) {
-    let pods = if pods.is_empty() { "web@2" } else { pods };
-    let (names, rev) = pods.split_once('@').unwrap_or((pods, "2"));
+    let (names, rev) = pods.split_once('@').unwrap_or(("web", "2"));
     text.add("{\"changes\":[");
     let mut is_first = true;
     for name in names.split(',') {
-        if !is_first {
-            text.add(",");
-        }
-        tell_pod(name, text);
+        tell_pod(is_first, name, text);
         is_first = false;
     }
-    text.add("],\"rev\":");
-    text.add(rev);
-    text.add("}");
+    tell_words(&["],\"rev\":", rev, "}"], text);
 }
 
 // The create of a pod.
-fn tell_pod(name: &str, text: &mut Wording) {
-    text.add("{\"key\":\"default/");
-    text.add(name);
-    text.add("\",\"object\":{\"metadata\":{\"name\":\"");
-    text.add(name);
+fn tell_pod(is_first: bool, name: &str, text: &mut Wording) {
+    text.add(if is_first { "" } else { "," });
+    tell_words(
+        &[
+            "{\"key\":\"default/",
+            name,
+            "\",\"object\":{\"metadata\":{\"name\":\"",
+            name,
+        ],
+        text,
+    );
     text.add("\"}},\"resource\":\"pods\"}");
 }
 
@@ -137,9 +158,7 @@ fn tell_pod(name: &str, text: &mut Wording) {
 fn tell_changes(many: u32, text: &mut Wording) {
     text.add("{\"changes\":[");
     for i in 0..many {
-        if i > 0 {
-            text.add(",");
-        }
+        text.add(if i == 0 { "" } else { "," });
         text.add("{\"key\":\"default/p-");
         text.show(&format_args!("{i:04}"));
         text.add("\",\"object\":null,\"resource\":\"pods\"}");

@@ -1,6 +1,9 @@
 //! The texts of records, put together here without the crates that are tried: objects, lines of a log, lines of a body.
 
 use case_rows::Wording;
+use kube_meta::Memory;
+use std::alloc::Global;
+use std::cmp::Ordering;
 
 /// A change of a pod or a config map, as a row has it: its label `app`, empty where it has none, after it and before
 /// it.
@@ -15,9 +18,18 @@ pub struct Change<'t> {
 }
 
 impl Change<'_> {
-    /// Whether the other change is of the same object.
+    /// Whether the change is of this object.
     pub fn is_of(&self, is_pod: bool, ns: &str, name: &str) -> bool {
         self.is_pod == is_pod && self.ns == ns && self.name == name
+    }
+
+    /// The order of a log: by the revision, then pods before config maps, then by the key.
+    pub fn order(&self, other: &Change<'_>) -> Ordering {
+        self.rev
+            .cmp(&other.rev)
+            .then(other.is_pod.cmp(&self.is_pod))
+            .then(self.ns.cmp(other.ns))
+            .then(self.name.cmp(other.name))
     }
 
     fn kind(&self) -> &'static str {
@@ -30,58 +42,81 @@ impl Change<'_> {
 
     /// The object as it is shown with this label at the change's revision.
     fn tell_object(&self, label: &str, text: &mut Wording) {
-        text.add("{\"apiVersion\":\"v1\",\"kind\":\"");
-        text.add(self.kind());
-        text.add("\",\"metadata\":{");
+        let front = "{\"apiVersion\":\"v1\",\"kind\":\"";
+        tell_words(&[front, self.kind(), "\",\"metadata\":{"], text);
         if !label.is_empty() {
-            text.add("\"labels\":{\"app\":\"");
-            text.add(label);
-            text.add("\"},");
+            tell_words(&["\"labels\":{\"app\":\"", label, "\"},"], text);
         }
-        text.add("\"name\":\"");
-        text.add(self.name);
-        text.add("\",\"namespace\":\"");
-        text.add(self.ns);
-        text.add("\",\"resourceVersion\":\"");
+        tell_words(
+            &[
+                "\"name\":\"",
+                self.name,
+                "\",\"namespace\":\"",
+                self.ns,
+                "\",\"resourceVersion\":\"",
+            ],
+            text,
+        );
         text.show(&self.rev);
         text.add("\"}}");
     }
 
     /// The change as a line of a log has it.
-    pub fn tell(&self, text: &mut Wording) {
-        text.add("{\"key\":\"");
-        text.add(self.ns);
-        text.add("/");
-        text.add(self.name);
-        text.add("\",\"object\":");
+    fn tell(&self, text: &mut Wording) {
+        tell_words(
+            &["{\"key\":\"", self.ns, "/", self.name, "\",\"object\":"],
+            text,
+        );
         match self.after {
             Some(label) => self.tell_object(label, text),
             None => text.add("null"),
         }
-        text.add(",\"resource\":\"");
-        text.add(self.resource());
-        text.add("\"}");
+        tell_words(&[",\"resource\":\"", self.resource(), "\"}"], text);
     }
 }
 
-/// The front of a log's line, behind which its changes stand, with commas between them.
-pub fn begin_log_line(text: &mut Wording) {
-    text.add("{\"changes\":[");
+/// Words, one behind the other.
+pub fn tell_words(words: &[&str], text: &mut Wording) {
+    for word in words {
+        text.add(word);
+    }
 }
 
-/// The back of a log's line.
-pub fn end_log_line(rev: u64, text: &mut Wording) {
-    text.add("],\"rev\":");
-    text.show(&rev);
-    text.add("}\n");
+/// The lines of a log.
+pub fn log_text(alloc: Global, changes: &[Change<'_>]) -> Result<String, Memory> {
+    let mut lines = Wording::new(alloc);
+    let mut last = 0;
+    for change in changes {
+        if change.rev == last {
+            lines.add(",");
+        } else {
+            end_log_line(last, &mut lines);
+            lines.add("{\"changes\":[");
+        }
+        change.tell(&mut lines);
+        last = change.rev;
+    }
+    end_log_line(last, &mut lines);
+    lines.whole()
 }
 
-/// The line of a body with an event of this type, which shows what a change makes of its object.
-pub fn event(kind: &str, change: &Change<'_>, label: &str, text: &mut Wording) {
-    text.add("{\"type\":\"");
-    text.add(kind);
-    text.add("\",\"object\":");
-    change.tell_object(label, text);
+// The back of a log's line; none of the revision 0, where no line was begun.
+fn end_log_line(rev: u64, text: &mut Wording) {
+    if rev != 0 {
+        text.add("],\"rev\":");
+        text.show(&rev);
+        text.add("}\n");
+    }
+}
+
+/// The line of a body with an event of this type, which shows what a change made of its object, or what a deletion
+/// removed.
+pub fn event(kind: &str, change: &Change<'_>, text: &mut Wording) {
+    tell_words(&["{\"type\":\"", kind, "\",\"object\":"], text);
+    match kind {
+        "DELETED" => change.tell_object(change.before.unwrap_or(""), text),
+        _ => change.tell_object(change.after.unwrap_or(""), text),
+    }
     text.add("}\n");
 }
 
@@ -115,9 +150,7 @@ pub fn begin_header(first: u64, floor: u64, ns: &str, text: &mut Wording) {
     text.show(&first);
     text.add(",\"floor\":");
     text.show(&floor);
-    text.add(",\"namespace\":\"");
-    text.add(ns);
-    text.add("\",\"query\":\"");
+    tell_words(&[",\"namespace\":\"", ns, "\",\"query\":\""], text);
 }
 
 /// The back of the first line, behind its query.

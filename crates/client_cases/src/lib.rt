@@ -16,4 +16,4 @@ mod told;
 pub use seat::Seat;
 pub use start::Start;
 pub use steps::answer;
-pub use storm::{Part, Progress, Storm, WATCHERS, WRITERS, newest_of, outcome, play_part};
+pub use storm::{Part, Progress, Storm, WATCHERS, WRITERS, newest_of, outcome, play_part, sum_of};

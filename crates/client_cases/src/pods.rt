@@ -9,19 +9,19 @@ use up_store::WriteAsk;
 /// How many pods are written in turns.
 const PODS: u64 = 40;
 
-/// Creates a pod that is bound to a node, or to none.
-pub fn creation(alloc: Global, name: &str, node: &str) -> Result<WriteAsk, Memory> {
+/// Creates a pod with a label or none, that is bound to a node or to none.
+pub fn creation(alloc: Global, name: &str, app: &str, node: &str) -> Result<WriteAsk, Memory> {
     Ok(WriteAsk::Create {
         resource: Resource::Pods,
-        obj: pod(alloc, name, "", node)?,
+        obj: pod(alloc, name, app, node)?,
     })
 }
 
 /// Replaces it, whatever revision it has.
-pub fn replacement(alloc: Global, name: &str, node: &str) -> Result<WriteAsk, Memory> {
+pub fn replacement(alloc: Global, name: &str, app: &str, node: &str) -> Result<WriteAsk, Memory> {
     Ok(WriteAsk::Replace {
         resource: Resource::Pods,
-        obj: pod(alloc, name, "", node)?,
+        obj: pod(alloc, name, app, node)?,
         given: None,
     })
 }
@@ -36,19 +36,19 @@ pub fn removal(alloc: Global, name: &str) -> Result<WriteAsk, Memory> {
 
 /// A write of some pod: it is created, replaced or removed, as is drawn.
 pub fn some_write(alloc: Global, draws: &mut Draws) -> Result<WriteAsk, Memory> {
-    let name = format!(in alloc; "p-{}", draws.below(PODS))?;
+    let number = draws.below(PODS);
     let app = app_of(draws.below(4));
-    match draws.below(5) {
-        0 | 1 => Ok(WriteAsk::Create {
-            resource: Resource::Pods,
-            obj: pod(alloc, name.as_str(), app, "")?,
-        }),
-        2 | 3 => Ok(WriteAsk::Replace {
-            resource: Resource::Pods,
-            obj: pod(alloc, name.as_str(), app, "")?,
-            given: None,
-        }),
-        _ => removal(alloc, name.as_str()),
+    let kind = draws.below(5);
+    let name = format!(in alloc; "p-{number}")?;
+    write_of(alloc, kind, name.as_str(), app)
+}
+
+// One of five writes of a pod.
+fn write_of(alloc: Global, kind: u64, name: &str, app: &str) -> Result<WriteAsk, Memory> {
+    match kind {
+        0 | 1 => creation(alloc, name, app, ""),
+        2 | 3 => replacement(alloc, name, app, ""),
+        _ => removal(alloc, name),
     }
 }
 
@@ -74,18 +74,33 @@ pub fn some_selection(alloc: Global, number: usize) -> Result<Selection, Memory>
         6 => "app",
         _ => "app=c",
     };
-    Selection::read(alloc, Resource::Pods, None, label, "").map_err(|_| Memory)
+    match Selection::read(alloc, Resource::Pods, None, label, "") {
+        Ok(selection) => Ok(selection),
+        Err(_) => Err(Memory),
+    }
 }
 
 fn pod(alloc: Global, name: &str, app: &str, node: &str) -> Result<Obj, Memory> {
-    let mut fields = Vec::new(alloc);
-    fields.push(Text::new(alloc, node)?)?;
-    fields.push(Text::new(alloc, "")?)?;
     let mut obj = object(alloc, key(alloc, name)?)?;
-    obj.fields = Fields::new(fields);
-    if !app.is_empty() {
-        obj.labels
-            .put(Text::new(alloc, "app")?, Text::new(alloc, app)?)?;
-    }
+    obj.fields = Fields::new(values(alloc, node)?);
+    put_label(alloc, &mut obj, app)?;
     Ok(obj)
+}
+
+// The values of the listed fields of a pod that is bound to a node.
+fn values(alloc: Global, node: &str) -> Result<Vec<Text>, Memory> {
+    let mut values = Vec::new(alloc);
+    values.push(Text::new(alloc, node)?)?;
+    values.push(Text::new(alloc, "")?)?;
+    Ok(values)
+}
+
+fn put_label(alloc: Global, obj: &mut Obj, app: &str) -> Result<(), Memory> {
+    if app.is_empty() {
+        return Ok(());
+    }
+    let _ = obj
+        .labels
+        .put(Text::new(alloc, "app")?, Text::new(alloc, app)?)?;
+    Ok(())
 }

@@ -6,14 +6,16 @@ use crate::pods::{creation, removal, replacement};
 use crate::seat::Seat;
 use crate::texts::{tell_lines, tell_rows};
 use case_rows::{Wording, number, split};
-use client_api::{Client, Listed, Took};
+use client_api::{Begun, Client, Got, ListNo, Listed, Took};
 use kube_meta::Memory;
-use list_rules::{GetAsk, ListAsk};
 use std::alloc::Global;
-use up_store::{Operate, WriteAsk};
+use up_store::{OpNo, Operate, WriteAsk, WriteNo, Written};
 
-/// How many nodes there are that pods are bound to by their number.
-const NODES: u64 = 3;
+/// The words of a step.
+type Words<'a> = (&'a str, &'a str, &'a str);
+
+/// What is told where the words of a selection are none.
+const NO_SELECTION: &str = "no selection";
 
 /// Tells the answer of a client to a step.
 pub fn answer<C: Client>(
@@ -25,38 +27,34 @@ pub fn answer<C: Client>(
     let (verb, rest) = split(step);
     let (first, second) = split(rest);
     match verb {
-        "create" => write(seat, &creation(alloc, first, second)?, told),
-        "replace" => write(seat, &replacement(alloc, first, second)?, told),
-        "remove" => write(seat, &removal(alloc, first)?, told),
-        "fill" => fill(alloc, seat, number(first), told)?,
-        "get" => get(seat, &get_ask(alloc, first, second)?, told),
-        "list" | "count" => list(alloc, seat, (verb, first, second), told)?,
-        "cut" => operate(seat, Operate::Cut, told),
-        "compact" => operate(seat, Operate::Compact { at: number(first) }, told),
-        "restart" => operate(seat, Operate::Restart, told),
-        "metrics" => tell_metrics(&seat.metrics()?, first, told),
-        _ => watching(alloc, seat, (verb, first, second), told)?,
+        "create" | "replace" | "remove" => write(alloc, seat, (verb, first, second), told),
+        "fill" => fill(alloc, seat, number(first), told),
+        "get" => get(alloc, seat, first, second, told),
+        "list" | "count" => list(alloc, seat, (verb, first, second), told),
+        "watch" => watch(alloc, seat, first, second, told),
+        "take" => take(seat, number(first), told),
+        "metrics" => metrics(seat, first, told),
+        _ => act(seat, verb, number(first), told),
     }
-    Ok(())
 }
 
-// The steps of watches.
-fn watching<C: Client>(
-    alloc: Global,
+// The steps that need no memory.
+fn act<C: Client>(
     seat: &mut Seat<C>,
-    words: (&str, &str, &str),
+    verb: &str,
+    number: u64,
     told: &mut Wording,
 ) -> Result<(), Memory> {
-    let (verb, first, second) = words;
     match verb {
-        "watch" => watch(alloc, seat, first, second, told),
-        "take" => take(seat, number(first), told)?,
+        "cut" => tell_operation(seat.operate(Operate::Cut), told),
+        "compact" => tell_operation(seat.operate(Operate::Compact { at: number }), told),
+        "restart" => tell_operation(seat.operate(Operate::Restart), told),
         "end" => {
             seat.end_watch();
             told.add("ok");
         }
         "tick" => {
-            seat.tick(number(first));
+            seat.tick(number);
             told.add("ok");
         }
         _ => told.add("no such step"),
@@ -64,27 +62,51 @@ fn watching<C: Client>(
     Ok(())
 }
 
-fn write<C: Client>(seat: &mut Seat<C>, ask: &WriteAsk, told: &mut Wording) {
-    match seat.write(ask) {
-        Ok(written) => told.show(&written.rev),
+fn tell_operation(operated: Result<u64, OpNo>, told: &mut Wording) {
+    match operated {
+        Ok(number) => told.show(&number),
         Err(no) => told.debug(&no),
     }
 }
 
-// Creates so many pods, each followed by a list, and answers as the last create does.
+fn write<C: Client>(
+    alloc: Global,
+    seat: &mut Seat<C>,
+    words: Words<'_>,
+    told: &mut Wording,
+) -> Result<(), Memory> {
+    tell_write(&seat.write(&write_ask(alloc, words)?), told);
+    Ok(())
+}
+
+fn write_ask(alloc: Global, words: Words<'_>) -> Result<WriteAsk, Memory> {
+    let (verb, name, node) = words;
+    match verb {
+        "create" => creation(alloc, name, "", node),
+        "replace" => replacement(alloc, name, "", node),
+        _ => removal(alloc, name),
+    }
+}
+
+fn tell_write(written: &Result<Written, WriteNo>, told: &mut Wording) {
+    match written {
+        Ok(written) => told.show(&written.rev),
+        Err(no) => told.debug(no),
+    }
+}
+
+// Creates so many pods, one at least, each followed by a list, and answers as the last create does.
 fn fill<C: Client>(
     alloc: Global,
     seat: &mut Seat<C>,
     pods: u64,
     told: &mut Wording,
 ) -> Result<(), Memory> {
-    let mut last = Wording::new(alloc);
-    for number in 0..pods.min(10_000) {
-        last = Wording::new(alloc);
-        create_and_list(alloc, seat, number.saturating_add(1), &mut last)?;
+    let pods = pods.clamp(1, 10_000);
+    for number in 1..pods {
+        create_and_list(alloc, seat, number, &mut Wording::new(alloc))?;
     }
-    told.add(last.whole()?.as_str());
-    Ok(())
+    create_and_list(alloc, seat, pods, told)
 }
 
 fn create_and_list<C: Client>(
@@ -93,7 +115,7 @@ fn create_and_list<C: Client>(
     number: u64,
     told: &mut Wording,
 ) -> Result<(), Memory> {
-    write(seat, &numbered(alloc, number)?, told);
+    tell_write(&seat.write(&numbered(alloc, number)?), told);
     list(
         alloc,
         seat,
@@ -105,19 +127,38 @@ fn create_and_list<C: Client>(
 // The creation of a pod with this number, which is bound to a node by it.
 fn numbered(alloc: Global, number: u64) -> Result<WriteAsk, Memory> {
     let name = format!(in alloc; "p-{number}")?;
-    let node = format!(in alloc; "node-{}", number % NODES)?;
-    creation(alloc, name.as_str(), node.as_str())
+    creation(alloc, name.as_str(), "", node_of(number))
 }
 
-fn get<C: Client>(seat: &mut Seat<C>, ask: &GetAsk, told: &mut Wording) {
-    match seat.get(ask) {
+// The node of a number.
+fn node_of(number: u64) -> &'static str {
+    match number % 3 {
+        0 => "node-0",
+        1 => "node-1",
+        _ => "node-2",
+    }
+}
+
+fn get<C: Client>(
+    alloc: Global,
+    seat: &mut Seat<C>,
+    word: &str,
+    name: &str,
+    told: &mut Wording,
+) -> Result<(), Memory> {
+    tell_got(&seat.get(&get_ask(alloc, word, name)?), told);
+    Ok(())
+}
+
+fn tell_got(got: &Result<Got, ListNo>, told: &mut Wording) {
+    match got {
         Ok(got) => {
             told.add("at ");
             told.show(&got.at);
             told.add(": ");
             told.show(&got.row.row().rev);
         }
-        Err(no) => told.debug(&no),
+        Err(no) => told.debug(no),
     }
 }
 
@@ -125,24 +166,24 @@ fn get<C: Client>(seat: &mut Seat<C>, ask: &GetAsk, told: &mut Wording) {
 fn list<C: Client>(
     alloc: Global,
     seat: &mut Seat<C>,
-    words: (&str, &str, &str),
+    words: Words<'_>,
     told: &mut Wording,
 ) -> Result<(), Memory> {
     let (verb, word, fields) = words;
     match of_fields(alloc, fields) {
         Some(selection) => {
             let ask = list_ask(alloc, selection, meaning(word))?;
-            tell_list(seat, &ask, verb == "count", told);
+            tell_list(&seat.list(&ask), verb == "count", told);
         }
-        None => told.add("no selection"),
+        None => told.add(NO_SELECTION),
     }
     Ok(())
 }
 
-fn tell_list<C: Client>(seat: &mut Seat<C>, ask: &ListAsk, counts: bool, told: &mut Wording) {
-    match seat.list(ask) {
-        Ok(listed) => tell_listed(&listed, counts, told),
-        Err(no) => told.debug(&no),
+fn tell_list(listed: &Result<Listed, ListNo>, counts: bool, told: &mut Wording) {
+    match listed {
+        Ok(listed) => tell_listed(listed, counts, told),
+        Err(no) => told.debug(no),
     }
 }
 
@@ -157,43 +198,44 @@ fn tell_listed(listed: &Listed, counts: bool, told: &mut Wording) {
     }
 }
 
-fn operate<C: Client>(seat: &mut Seat<C>, ask: Operate, told: &mut Wording) {
-    match seat.operate(ask) {
-        Ok(number) => told.show(&number),
-        Err(no) => told.debug(&no),
-    }
-}
-
 fn watch<C: Client>(
     alloc: Global,
     seat: &mut Seat<C>,
     word: &str,
     fields: &str,
     told: &mut Wording,
-) {
-    let Some(selection) = of_fields(alloc, fields) else {
-        told.add("no selection");
-        return;
-    };
-    match seat.watch(&watch_ask(selection, start(word))) {
+) -> Result<(), Memory> {
+    match of_fields(alloc, fields) {
+        Some(selection) => tell_begun(&seat.watch(&watch_ask(selection, start(word))), told),
+        None => told.add(NO_SELECTION),
+    }
+    Ok(())
+}
+
+fn tell_begun(begun: &Result<Begun, ListNo>, told: &mut Wording) {
+    match begun {
         Ok(begun) => {
             told.add("at ");
             told.show(&begun.at);
             told.add(": ");
             tell_rows(begun.initial.as_slice(), told);
         }
-        Err(no) => told.debug(&no),
+        Err(no) => told.debug(no),
     }
 }
 
 // A turn of at most so many lines, or of a hundred.
 fn take<C: Client>(seat: &mut Seat<C>, most: u64, told: &mut Wording) -> Result<(), Memory> {
     let most = if most == 0 { 100 } else { most.min(10_000) };
-    match seat.take(most as usize)? {
-        Some(took) => tell_took(&took, told),
+    tell_turn(&seat.take(most as usize)?, told);
+    Ok(())
+}
+
+fn tell_turn(took: &Option<Took>, told: &mut Wording) {
+    match took {
+        Some(took) => tell_took(took, told),
         None => told.add("no watch"),
     }
-    Ok(())
 }
 
 fn tell_took(took: &Took, told: &mut Wording) {
@@ -221,4 +263,13 @@ fn tell_took(took: &Took, told: &mut Wording) {
             told.show(floor);
         }
     }
+}
+
+fn metrics<C: Client>(
+    seat: &mut Seat<C>,
+    resource: &str,
+    told: &mut Wording,
+) -> Result<(), Memory> {
+    tell_metrics(&seat.metrics()?, resource, told);
+    Ok(())
 }

@@ -74,8 +74,21 @@ impl Part {
         }
     }
 
+    // Counts a write that was accepted. It isn't older than the last one.
+    fn accept(&mut self, last: u64, rev: u64) {
+        self.accepted = self.accepted.saturating_add(1);
+        if rev <= last {
+            self.wrongs = self.wrongs.saturating_add(1);
+        }
+    }
+
+    // Counts a state that was compared with a list.
+    fn compare(&mut self) {
+        self.compared = self.compared.saturating_add(1);
+    }
+
     /// Both parts together.
-    pub fn with(self, other: Part) -> Part {
+    fn with(self, other: Part) -> Part {
         Part {
             wrongs: self.wrongs.saturating_add(other.wrongs),
             accepted: self.accepted.saturating_add(other.accepted),
@@ -83,6 +96,18 @@ impl Part {
             compared: self.compared.saturating_add(other.compared),
         }
     }
+}
+
+/// All parts together, where none lacked memory.
+pub fn sum_of(parts: &[Result<Part, Memory>]) -> Result<Part, Memory> {
+    let mut sum = Part::new();
+    for part in parts {
+        match part {
+            Ok(part) => sum = sum.with(*part),
+            Err(_) => return Err(Memory),
+        }
+    }
+    Ok(sum)
 }
 
 /// What a storm leaves, in words: `right`, or what isn't. It led from one revision to another.
@@ -106,8 +131,10 @@ pub fn outcome(first: u64, last: u64, sum: Part, told: &mut Wording) {
 /// The revision that the log has reached.
 pub fn newest_of<C: Client>(alloc: Global, seat: &mut Seat<C>) -> Result<u64, Memory> {
     let ask = list_ask(alloc, some_selection(alloc, 0)?, Meaning::MostRecent)?;
-    let listed = seat.list(&ask).map_err(|_| Memory)?;
-    Ok(listed.rev)
+    match seat.list(&ask) {
+        Ok(listed) => Ok(listed.rev),
+        Err(_) => Err(Memory),
+    }
 }
 
 /// Plays one part of a storm.
@@ -145,10 +172,7 @@ fn write<C: Client, R: Wait + std::time::Clock + Copy>(
     let mut last = 0u64;
     for _ in 0..writes {
         if let Ok(written) = seat.write(&some_write(alloc, draws)?) {
-            part.accepted = part.accepted.saturating_add(1);
-            if written.rev <= last {
-                part.wrongs = part.wrongs.saturating_add(1);
-            }
+            part.accept(last, written.rev);
             last = written.rev;
         }
         doze(rt, draws.below(3));
@@ -186,8 +210,22 @@ fn watch<C: Client, R: Wait + std::time::Clock + Copy>(
     draws: &mut Draws,
     place: (&Progress, usize),
 ) -> Result<Part, Memory> {
+    let mut told = Told::new(alloc, some_selection(alloc, place.1)?);
+    let mut part = follow(rt, seat, draws, place, &mut told)?;
+    part.wrongs = told.wrongs;
+    part.lines = told.lines;
+    Ok(part)
+}
+
+// The same with a watcher that was told nothing yet.
+fn follow<C: Client, R: Wait + std::time::Clock + Copy>(
+    rt: R,
+    seat: &mut Seat<C>,
+    draws: &mut Draws,
+    place: (&Progress, usize),
+    told: &mut Told,
+) -> Result<Part, Memory> {
     let (progress, number) = place;
-    let mut told = Told::new(alloc, some_selection(alloc, number)?);
     told.begin(seat)?;
     progress.begun.fetch_add(1, SeqCst);
     if number % 9 == 0 {
@@ -201,16 +239,14 @@ fn watch<C: Client, R: Wait + std::time::Clock + Copy>(
                 break;
             }
             if draws.below(8) == 0 && told.compare(seat)? {
-                part.compared = part.compared.saturating_add(1);
+                part.compare();
             }
             doze(rt, 1);
         }
     }
     let is_listed = told.compare(seat)?;
     told.expect(is_listed);
-    part.compared = part.compared.saturating_add(1);
-    part.wrongs = told.wrongs;
-    part.lines = told.lines;
+    part.compare();
     Ok(part)
 }
 

@@ -2,7 +2,7 @@
 
 use crate::asks::{list_ask, watch_ask};
 use crate::seat::Seat;
-use client_api::{Client, Line, ListNo, Listed, Took};
+use client_api::{Begun, Client, Line, ListNo, Listed, Took};
 use encode_once::Shown;
 use kube_meta::{Key, Memory};
 use select_all::{Kind, Meaning, Selection};
@@ -13,6 +13,14 @@ use watch_rules::Start;
 
 /// How many lines a turn takes, about.
 const LINES: usize = 10;
+
+/// What a turn came to.
+#[derive(Clone, Copy)]
+enum Turn {
+    Told,
+    Quiet,
+    Lost,
+}
 
 /// What a stream told so far: the revision of each selected object, by its key, and the revision up to which all is
 /// told.
@@ -46,9 +54,16 @@ impl Told {
     pub fn begin<C: Client>(&mut self, seat: &mut Seat<C>) -> Result<(), Memory> {
         let start = Start::FromState(Meaning::MostRecent);
         let ask = watch_ask(self.selection.copy(self.alloc)?, start);
-        let begun = seat.watch(&ask).map_err(|_| Memory)?;
-        self.rows = BTreeMap::new(self.alloc);
-        for shown in &begun.initial {
+        match seat.watch(&ask) {
+            Ok(begun) => self.take_begun(&begun),
+            Err(_) => Err(Memory),
+        }
+    }
+
+    // Takes in the state that stands.
+    fn take_begun(&mut self, begun: &Begun) -> Result<(), Memory> {
+        self.rows.clear();
+        for shown in begun.initial.as_slice() {
             self.put(shown)?;
         }
         self.expect(self.at <= begun.at);
@@ -58,25 +73,36 @@ impl Told {
 
     /// Takes in one turn of the watch, which begins anew where it is lost. Answers whether there was nothing to tell.
     pub fn turn<C: Client>(&mut self, seat: &mut Seat<C>) -> Result<bool, Memory> {
-        match seat.take(LINES)? {
-            Some(Took::Events { from, upto, lines }) => {
-                self.expect(from == self.at);
-                self.take_lines(upto, lines.as_slice())?;
-                Ok(false)
-            }
-            Some(Took::Quiet { upto, .. }) => {
-                self.expect(self.at <= upto);
-                self.at = upto;
-                Ok(true)
-            }
-            Some(Took::Lost { at, floor }) => {
-                self.expect(at == self.at && at < floor);
+        match self.take_turn(&seat.take(LINES)?)? {
+            Turn::Told => Ok(false),
+            Turn::Quiet => Ok(true),
+            Turn::Lost => {
                 self.begin(seat)?;
                 Ok(false)
             }
+        }
+    }
+
+    // Takes in what a turn gave.
+    fn take_turn(&mut self, took: &Option<Took>) -> Result<Turn, Memory> {
+        match took {
+            Some(Took::Events { from, upto, lines }) => {
+                self.expect(*from == self.at);
+                self.take_lines(*upto, lines.as_slice())?;
+                Ok(Turn::Told)
+            }
+            Some(Took::Quiet { upto, .. }) => {
+                self.expect(self.at <= *upto);
+                self.at = *upto;
+                Ok(Turn::Quiet)
+            }
+            Some(Took::Lost { at, floor }) => {
+                self.expect(*at == self.at && *at < *floor);
+                Ok(Turn::Lost)
+            }
             None => {
                 self.expect(false);
-                Ok(true)
+                Ok(Turn::Quiet)
             }
         }
     }
@@ -108,20 +134,19 @@ impl Told {
 
     fn put(&mut self, shown: &Arc<Shown>) -> Result<(), Memory> {
         let row = shown.row();
-        self.rows
-            .insert(row.obj.key.clone()?, row.rev)
-            .map_err(|_| Memory)?;
-        Ok(())
+        match self.rows.insert(row.obj.key.clone()?, row.rev) {
+            Ok(_) => Ok(()),
+            Err(_) => Err(Memory),
+        }
     }
 
     /// Compares what was told with a list at the revision up to which it was. Answers whether that is still listed.
     pub fn compare<C: Client>(&mut self, seat: &mut Seat<C>) -> Result<bool, Memory> {
-        let selection = self.selection.copy(self.alloc)?;
-        let ask = list_ask(self.alloc, selection, Meaning::Exact(self.at))?;
+        let meaning = Meaning::Exact(self.at);
+        let ask = list_ask(self.alloc, self.selection.copy(self.alloc)?, meaning)?;
         match seat.list(&ask) {
             Ok(listed) => {
-                let is_right = self.is_state(&listed);
-                self.expect(is_right);
+                self.expect_state(&listed);
                 Ok(true)
             }
             Err(ListNo::Memory) => Err(Memory),
@@ -129,11 +154,13 @@ impl Told {
         }
     }
 
-    // Whether a list has just the objects that were told, at the revision up to which they were.
-    fn is_state(&self, listed: &Listed) -> bool {
-        listed.rev == self.at
-            && listed.items.len() == self.rows.len()
-            && listed.items.iter().all(|shown| self.has(shown))
+    // That a list has just the objects that were told, at the revision up to which they were.
+    fn expect_state(&mut self, listed: &Listed) {
+        let mut is_right = listed.rev == self.at && listed.items.len() == self.rows.len();
+        for shown in listed.items.as_slice() {
+            is_right = is_right && self.has(shown);
+        }
+        self.expect(is_right);
     }
 
     fn has(&self, shown: &Arc<Shown>) -> bool {

@@ -15,26 +15,43 @@ impl Steps for Asks {
     fn answer(&mut self, alloc: Global, step: &str, told: &mut Wording) -> Result<(), Memory> {
         let (start, rest) = split(step);
         let (whose, call) = Whose::split(rest);
-        let mut sink = sink_of(alloc, call)?;
-        match asked(alloc, start_of(start), whose, &mut sink)? {
-            Ok(()) => tell_written(sink.bytes(), told),
-            Err(AskNo::WriteFault) => {
-                tell_written(sink.bytes(), told);
-                told.add("<WriteFault>");
-            }
-            Err(AskNo::Memory) => return Err(Memory),
-        }
-        Ok(())
+        let fails = fails_of(alloc, !call.is_empty(), number(call))?;
+        tell_asked(
+            alloc,
+            start_of(start),
+            whose,
+            &mut MemSink::new(1, fails),
+            told,
+        )
     }
 }
 
-// A sink, of which this call fails, if one is given.
-fn sink_of(alloc: Global, call: &str) -> Result<MemSink, Memory> {
-    let mut fails = Vec::new(alloc);
-    if !call.is_empty() {
-        fails.push(number(call))?;
+/// The calls that fail: this one, if any does.
+pub fn fails_of(alloc: Global, fails: bool, call: u64) -> Result<Vec<u64>, Memory> {
+    let mut calls = Vec::new(alloc);
+    if fails {
+        calls.push(call)?;
     }
-    Ok(MemSink::new(1, fails))
+    Ok(calls)
+}
+
+// Asks for a watch, and tells what was written.
+fn tell_asked(
+    alloc: Global,
+    start: Start,
+    whose: Whose<'_>,
+    sink: &mut MemSink,
+    told: &mut Wording,
+) -> Result<(), Memory> {
+    match asked(alloc, start, whose, sink)? {
+        Ok(()) => tell_written(sink.bytes(), told),
+        Err(AskNo::WriteFault) => {
+            tell_written(sink.bytes(), told);
+            told.add("<WriteFault>");
+        }
+        Err(AskNo::Memory) => return Err(Memory),
+    }
+    Ok(())
 }
 
 fn asked(

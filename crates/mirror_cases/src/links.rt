@@ -5,8 +5,8 @@ ghost use Rattle.std.specs.Prelude.{◌≡◌, true};
 use crate::asks::tell_written;
 use crate::logs::{HISTORY, list};
 use crate::openings::opening_of;
-use crate::streams::bytes_of;
 use crate::whose::Whose;
+use crate::words::bytes_of;
 use case_rows::{Steps, Wording};
 use edge_io::{MemSink, MemSource};
 use kube_meta::Memory;
@@ -26,8 +26,15 @@ pub struct Links<'a, R> {
 }
 
 impl<'a, R: Wait> Steps for Links<'a, R> {
+    // Opens over the first connection, and follows it and the others.
     fn answer(&mut self, alloc: Global, step: &str, told: &mut Wording) -> Result<(), Memory> {
-        begin(self.rt, alloc, step, told)
+        let (whose, rest) = Whose::split(step);
+        let (first, others) = rest.split_once(" | ").unwrap_or((rest, ""));
+        let (mut source, mut sink) = ends_of(alloc, first)?;
+        match opening_of(alloc, whose, &mut source, &mut sink, told)? {
+            Some(opening) => begin(self.rt, alloc, opening, &mut source, others, told),
+            None => Ok(()),
+        }
     }
 }
 
@@ -39,16 +46,17 @@ fn ends_of(alloc: Global, words: &str) -> Result<(MemSource, MemSink), Memory> {
     ))
 }
 
-// Opens over the first connection, and follows it and the others.
-fn begin<R: Wait>(rt: &R, alloc: Global, step: &str, told: &mut Wording) -> Result<(), Memory> {
-    let (whose, rest) = Whose::split(step);
-    let (first, others) = rest.split_once(" | ").unwrap_or((rest, ""));
-    let others = String::from_str(alloc, others)?;
-    let (mut source, mut sink) = ends_of(alloc, first)?;
-    let Some(opening) = opening_of(alloc, whose, &mut source, &mut sink, told)? else {
-        return Ok(());
-    };
+// Begins the log of an opening.
+fn begin<R: Wait>(
+    rt: &R,
+    alloc: Global,
+    opening: Opening,
+    source: &mut MemSource,
+    others: &str,
+    told: &mut Wording,
+) -> Result<(), Memory> {
     let made = blank(alloc, opening.base())?;
+    let others = String::from_str(alloc, others)?;
     follow::<Brand, R>(rt, alloc, opening, made, source, others, told)
 }
 
@@ -58,7 +66,7 @@ fn follow<N: LogFacts, R: Wait>(
     alloc: Global,
     opening: Opening,
     made: Blank<Revision>,
-    mut source: MemSource,
+    source: &mut MemSource,
     others: String,
     told: &mut Wording,
 ) -> Result<(), Memory>
@@ -68,7 +76,7 @@ fn follow<N: LogFacts, R: Wait>(
     requires mirror { N.mirror ≡ true }
 {
     let mut mirror: Mirror<N, &R> = Mirror::new(rt, alloc, opening, made, HISTORY)?;
-    hear(&mut mirror, &mut source, told)?;
+    hear(&mut mirror, source, told)?;
     for words in others.as_str().split(" | ") {
         if !words.is_empty() {
             told.add(" | ");

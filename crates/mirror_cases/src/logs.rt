@@ -5,9 +5,8 @@ ghost use Rattle.kube_meta.specs.declared.resources.Resource.TheVariants.{Pods};
 ghost use Rattle.watch_read.specs.Lines.{ReadsPeerLine};
 
 use crate::openings::{opening_of, tell_rows};
-use crate::streams::bytes_of;
 use crate::whose::Whose;
-use crate::words::push_word;
+use crate::words::bytes_of;
 use case_rows::{Steps, Wording, number, split};
 use edge_io::{MemSink, MemSource};
 use kube_meta::{MAX_REVISION, Memory, Resource};
@@ -32,20 +31,14 @@ pub struct Logs<'a, R> {
 }
 
 impl<'a, R: Wait> Steps for Logs<'a, R> {
+    // Begins a log, and makes the steps on it.
     fn answer(&mut self, alloc: Global, step: &str, told: &mut Wording) -> Result<(), Memory> {
-        begun(self.rt, alloc, step, told)
+        let (head, words) = step.split_once(" | ").unwrap_or((step, ""));
+        match opening_at(alloc, head, told)? {
+            Some(opening) => begun(self.rt, alloc, opening, words, told),
+            None => Ok(()),
+        }
     }
-}
-
-// Begins a log, and makes the steps on it.
-fn begun<R: Wait>(rt: &R, alloc: Global, step: &str, told: &mut Wording) -> Result<(), Memory> {
-    let (head, words) = step.split_once(" | ").unwrap_or((step, ""));
-    let words = String::from_str(alloc, words)?;
-    let Some(opening) = opening_at(alloc, head, told)? else {
-        return Ok(());
-    };
-    let made = blank(alloc, opening.base())?;
-    heard::<Brand, R>(rt, alloc, opening, made, words, told)
 }
 
 // The opening at a base of the pods with a label, where those that are named stand. Where there is none, it tells why.
@@ -53,7 +46,16 @@ fn opening_at(alloc: Global, head: &str, told: &mut Wording) -> Result<Option<Op
     let (base, rest) = split(head);
     let (label, rows) = split(rest);
     let words = format!(in alloc; "H [ {rows} C:{base} ; ]")?;
-    let bytes = bytes_of(alloc, words.as_str())?;
+    opening_over(alloc, label, words.as_str(), told)
+}
+
+// The opening of the pods with a label over the bytes of words.
+fn opening_over(
+    alloc: Global,
+    label: &str,
+    words: &str,
+    told: &mut Wording,
+) -> Result<Option<Opening>, Memory> {
     let whose = Whose {
         ns: "-",
         label,
@@ -62,10 +64,23 @@ fn opening_at(alloc: Global, head: &str, told: &mut Wording) -> Result<Option<Op
     opening_of(
         alloc,
         whose,
-        &mut MemSource::new(bytes, 65536, Vec::new(alloc)),
+        &mut MemSource::new(bytes_of(alloc, words)?, 65536, Vec::new(alloc)),
         &mut MemSink::new(65536, Vec::new(alloc)),
         told,
     )
+}
+
+// Begins the log of an opening.
+fn begun<R: Wait>(
+    rt: &R,
+    alloc: Global,
+    opening: Opening,
+    words: &str,
+    told: &mut Wording,
+) -> Result<(), Memory> {
+    let made = blank(alloc, opening.base())?;
+    let words = String::from_str(alloc, words)?;
+    heard::<Brand, R>(rt, alloc, opening, made, words, told)
 }
 
 // Makes the steps on the log of an opening.
@@ -145,27 +160,22 @@ fn make_step<N: LogFacts, R: Wait>(
 ) -> Result<(), Memory>
     requires mirror { N.mirror ≡ true }
 {
-    if let Some(rev) = word.strip_prefix("hear:") {
-        return hear_elsewhere(alloc, door, pass, number(rev).min(MAX_REVISION), told);
+    let (verb, rest) = word.split_once(':').unwrap_or((word, ""));
+    match verb {
+        "hear" => hear_elsewhere(alloc, door, pass, number(rest).min(MAX_REVISION), told)?,
+        "list" => list(door, pass, number(rest), told),
+        "watch" => watch(door, pass, number(rest), told),
+        "anew" => begin_anew(alloc, log, rest, told)?,
+        "cut" => cut(log, told),
+        _ => take(alloc, log, word, told)?,
     }
-    if let Some(at) = word.strip_prefix("list:") {
-        list(door, pass, number(at), told);
-        return Ok(());
-    }
-    if let Some(at) = word.strip_prefix("watch:") {
-        watch(door, pass, number(at), told);
-        return Ok(());
-    }
-    if let Some(words) = word.strip_prefix("anew:") {
-        return begin_anew(alloc, log, words, told);
-    }
-    if word == "cut" {
-        log.forget();
-        told.add("cut at ");
-        told.show(&log.to());
-        return Ok(());
-    }
-    take(alloc, log, word, told)
+    Ok(())
+}
+
+fn cut<N: LogFacts, R: Wait>(log: &mut MirrorLog<N, &R>, told: &mut Wording) {
+    log.forget();
+    told.add("cut at ");
+    told.show(&log.to());
 }
 
 /// The pods of the store at a revision.
@@ -218,27 +228,29 @@ fn begin_anew<N: LogFacts, R: Wait>(
     words: &str,
     told: &mut Wording,
 ) -> Result<(), Memory> {
-    let head = head_of(alloc, words)?;
-    match opening_at(alloc, head.as_str(), told)? {
+    let words = opened(alloc, words)?;
+    match opening_over(alloc, "-", words.as_str(), told)? {
         Some(opening) => rebase(log, opening, told),
         None => Ok(()),
     }
 }
 
-// The base, the selector of all and the lines of the pods that are named, or of other lines with their own names.
-fn head_of(alloc: Global, words: &str) -> Result<String, Memory> {
+// The words of an opening with the lines of the pods that are named, or with other lines under their own names.
+fn opened(alloc: Global, words: &str) -> Result<String, Memory> {
     let (base, pods) = words.split_once(',').unwrap_or((words, ""));
-    let mut head = Wording::new(alloc);
-    head.add(base);
-    head.add(" -");
+    let mut text = Wording::new(alloc);
+    text.add("H [ ");
     for pod in pods.split(',') {
         if !pod.is_empty() {
-            head.add(if pod.contains(':') { " " } else { " A:" });
-            head.add(pod);
-            head.add(" ;");
+            text.add(if pod.contains(':') { "" } else { "A:" });
+            text.add(pod);
+            text.add(" ; ");
         }
     }
-    head.whole()
+    text.add("C:");
+    text.add(base);
+    text.add(" ; ]");
+    text.whole()
 }
 
 // Begins the log anew with an opening.
@@ -294,8 +306,7 @@ fn unchanged(alloc: Global, rev: u64) -> Revision
 fn line_of(alloc: Global, word: &str) -> Result<Option<PeerLine>, Memory>
     ensures { IfOk result (λ found. (text : List ℕ) × ReadsPeerLine Pods text found) }
 {
-    let mut text = Vec::new(alloc);
-    push_word(alloc, &mut text, word)?;
+    let text = bytes_of(alloc, word)?;
     read_line(alloc, Resource::Pods, text.as_slice())
 }
 

@@ -2,8 +2,10 @@
 
 ghost use Rattle.std.specs.Prelude.{◌≤◌, length};
 
-use crate::streams::bytes_of;
+use crate::asks::fails_of;
+use crate::streams::tell_both;
 use crate::whose::{Whose, namespace_of, selector_of};
+use crate::words::bytes_of;
 use case_rows::{Steps, Wording, split, tell_row};
 use edge_io::{MemSink, MemSource};
 use kube_meta::{Memory, Resource, Row};
@@ -19,19 +21,25 @@ impl Steps for Openings {
     fn answer(&mut self, alloc: Global, step: &str, told: &mut Wording) -> Result<(), Memory> {
         let (how, rest) = split(step);
         if how == "CUT" || how == "READ" || how == "WRITE" {
-            return sweep(alloc, how, rest, told);
+            let (whose, words) = Whose::split(rest);
+            return sweep(alloc, whose, how, &bytes_of(alloc, words)?, told);
         }
         let (whose, words) = Whose::split(step);
-        let bytes = bytes_of(alloc, words)?;
-        let slow = broken_at(alloc, whose, "SLOW", bytes.as_slice(), bytes.len())?;
-        let fast = broken_at(alloc, whose, "CUT", bytes.as_slice(), bytes.len())?;
-        told.add(fast.as_str());
-        if slow.as_str() != fast.as_str() {
-            told.add(", and byte by byte ");
-            told.add(slow.as_str());
-        }
-        Ok(())
+        open_both(alloc, whose, &bytes_of(alloc, words)?, told)
     }
+}
+
+// The opening over bytes that come at once; and over the same that come one by one, where that is another one.
+fn open_both(
+    alloc: Global,
+    whose: Whose<'_>,
+    bytes: &[u8],
+    told: &mut Wording,
+) -> Result<(), Memory> {
+    let fast = broken_at(alloc, whose, "CUT", bytes, bytes.len())?;
+    let slow = broken_at(alloc, whose, "SLOW", bytes, bytes.len())?;
+    tell_both(fast.as_str(), slow.as_str(), told);
+    Ok(())
 }
 
 /// An opening over these ends. Where there is none, it tells why.
@@ -87,10 +95,31 @@ fn broken_at(
 ) -> Result<String, Memory>
     requires { at ≤ length bytes.now }
 {
-    let (mut source, mut sink) = broken_ends(alloc, how, bytes, at)?;
     let mut told = Wording::new(alloc);
-    tell_opening(alloc, whose, &mut source, &mut sink, &mut told)?;
+    tell_broken(alloc, whose, how, bytes, at, &mut told)?;
     told.whole()
+}
+
+// Tells of the opening over a connection that breaks at a place: the source's bytes are cut off, or its call there
+// fails, or the sink's does. A call takes one byte, unless the bytes are cut off.
+fn tell_broken(
+    alloc: Global,
+    whose: Whose<'_>,
+    how: &str,
+    bytes: &[u8],
+    at: usize,
+    told: &mut Wording,
+) -> Result<(), Memory>
+    requires { at ≤ length bytes.now }
+{
+    let (bytes, step) = match how {
+        "CUT" => (&bytes[..at], 65536),
+        _ => (bytes, 1),
+    };
+    let fails = fails_of(alloc, how == "READ", at as u64)?;
+    let mut source = MemSource::new(bytes.to_vec(alloc)?, step, fails);
+    let fails = fails_of(alloc, how == "WRITE", at as u64)?;
+    tell_opening(alloc, whose, &mut source, &mut MemSink::new(1, fails), told)
 }
 
 fn tell_opening(
@@ -107,61 +136,47 @@ fn tell_opening(
     Ok(())
 }
 
-// The ends of a connection that breaks at a place: the source's bytes are cut off, or its call there fails, or the
-// sink's does. A call takes one byte, unless the bytes are cut off.
-fn broken_ends(
+// How the openings end whose connections break at each place in turn: so many by the refusal, then so many not at all.
+fn sweep(
     alloc: Global,
+    whose: Whose<'_>,
     how: &str,
     bytes: &[u8],
-    at: usize,
-) -> Result<(MemSource, MemSink), Memory>
-    requires { at ≤ length bytes.now }
-{
-    let whole = bytes.to_vec(alloc)?;
-    let mut fails = Vec::new(alloc);
-    fails.push(at as u64)?;
-    match how {
-        "CUT" => Ok((
-            MemSource::new(bytes[..at].to_vec(alloc)?, 65536, Vec::new(alloc)),
-            MemSink::new(1, Vec::new(alloc)),
-        )),
-        "READ" => Ok((
-            MemSource::new(whole, 1, fails),
-            MemSink::new(1, Vec::new(alloc)),
-        )),
-        "WRITE" => Ok((
-            MemSource::new(whole, 1, Vec::new(alloc)),
-            MemSink::new(1, fails),
-        )),
-        _ => Ok((
-            MemSource::new(whole, 1, Vec::new(alloc)),
-            MemSink::new(1, Vec::new(alloc)),
-        )),
-    }
-}
-
-// How the openings end whose connections break at each place in turn: so many by the refusal, then so many not at all.
-fn sweep(alloc: Global, how: &str, rest: &str, told: &mut Wording) -> Result<(), Memory> {
-    let (whose, words) = Whose::split(rest);
-    let bytes = bytes_of(alloc, words)?;
-    let mut last = String::new(alloc);
-    let mut times = 0u64;
+    told: &mut Wording,
+) -> Result<(), Memory> {
+    let mut run = Run {
+        answer: String::new(alloc),
+        times: 0,
+    };
     for at in 0..bytes.len() {
-        let answer = broken_at(alloc, whose, how, bytes.as_slice(), at)?;
-        if answer.as_str() != last.as_str() && times > 0 {
-            tell_times(times, last.as_str(), told);
-            told.add(", ");
-            times = 0;
-        }
-        last = answer;
-        times = times.saturating_add(1);
+        run.add(broken_at(alloc, whose, how, bytes, at)?, told);
     }
-    tell_times(times, last.as_str(), told);
+    run.tell(told);
     Ok(())
 }
 
-fn tell_times(times: u64, answer: &str, told: &mut Wording) {
-    told.show(&times);
-    told.add(" ");
-    told.add(answer);
+/// The same answer, so many times.
+#[derive(Drop)]
+struct Run {
+    answer: String,
+    times: u64,
+}
+
+impl Run {
+    // Counts an answer; before another one, it tells how often there was the same.
+    fn add(&mut self, answer: String, told: &mut Wording) {
+        if self.times > 0 && answer.as_str() != self.answer.as_str() {
+            self.tell(told);
+            told.add(", ");
+            self.times = 0;
+        }
+        self.answer = answer;
+        self.times = self.times.saturating_add(1);
+    }
+
+    fn tell(&self, told: &mut Wording) {
+        told.show(&self.times);
+        told.add(" ");
+        told.add(self.answer.as_str());
+    }
 }

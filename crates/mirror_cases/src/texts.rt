@@ -1,6 +1,6 @@
 //! Rows of texts that are read as lines of a watch: the resource, and words that are put one behind the other.
 
-use crate::words::push_word;
+use crate::words::bytes_of;
 use case_rows::{Steps, Wording, split};
 use kube_meta::{Memory, Resource};
 use std::alloc::Global;
@@ -13,15 +13,11 @@ pub struct Texts;
 impl Steps for Texts {
     fn answer(&mut self, alloc: Global, step: &str, told: &mut Wording) -> Result<(), Memory> {
         let (plural, words) = split(step);
-        let Some(resource) = Resource::of_plural(plural.as_bytes()) else {
-            told.add("no resource");
-            return Ok(());
-        };
-        let mut text = Vec::new(alloc);
-        for word in words.split(' ') {
-            push_word(alloc, &mut text, word)?;
+        match Resource::of_plural(plural.as_bytes()) {
+            Some(resource) => tell_text(alloc, resource, &bytes_of(alloc, words)?, told)?,
+            None => told.add("no resource"),
         }
-        tell_text(alloc, resource, text.as_slice(), told)
+        Ok(())
     }
 }
 

@@ -4,8 +4,75 @@ use case_rows::{Wording, plain};
 use kube_meta::Memory;
 use std::alloc::Global;
 
-/// Writes what a word stands for.
-pub fn push_word(alloc: Global, bytes: &mut Vec<u8>, word: &str) -> Result<(), Memory> {
+/// The bytes that words stand for. Those between `[` and `]` are one chunk, those between `[` and `]]` a chunk each.
+pub fn bytes_of(alloc: Global, words: &str) -> Result<Vec<u8>, Memory> {
+    let mut bytes = Vec::new(alloc);
+    push_words(alloc, &mut bytes, &mut Vec::new(alloc), words)?;
+    Ok(bytes)
+}
+
+// Writes what words stand for; the data of a chunk is gathered first.
+fn push_words(
+    alloc: Global,
+    bytes: &mut Vec<u8>,
+    data: &mut Vec<u8>,
+    words: &str,
+) -> Result<(), Memory> {
+    let mut is_data = false;
+    for word in words.split(' ') {
+        match word {
+            "[" => is_data = true,
+            "]" | "]]" => {
+                push_chunks(alloc, bytes, data, word)?;
+                is_data = false;
+            }
+            _ if is_data => push_word(alloc, data, word)?,
+            _ => push_outside(alloc, bytes, word)?,
+        }
+    }
+    Ok(())
+}
+
+// Writes what a word outside of a chunk's data stands for.
+fn push_outside(alloc: Global, bytes: &mut Vec<u8>, word: &str) -> Result<(), Memory> {
+    match word {
+        "H" => push_head(bytes, "200"),
+        "END" => push_text(bytes, "0\r\n\r\n"),
+        _ => match word.strip_prefix("H:") {
+            Some(code) => push_head(bytes, code),
+            None => push_word(alloc, bytes, word),
+        },
+    }
+}
+
+// Writes the data that was gathered as one chunk, or as a chunk for each byte.
+fn push_chunks(
+    alloc: Global,
+    bytes: &mut Vec<u8>,
+    data: &mut Vec<u8>,
+    end: &str,
+) -> Result<(), Memory> {
+    if end == "]" {
+        push_chunk(alloc, bytes, data.as_slice())?;
+    } else {
+        for byte in data.as_slice() {
+            push_chunk(alloc, bytes, &[*byte])?;
+        }
+    }
+    data.clear();
+    Ok(())
+}
+
+// Writes a chunk.
+fn push_chunk(alloc: Global, bytes: &mut Vec<u8>, data: &[u8]) -> Result<(), Memory> {
+    let size = data.len();
+    push_text(bytes, format!(in alloc; "{size:x}\r\n")?.as_str())?;
+    bytes.extend_from_slice(data)?;
+    push_text(bytes, "\r\n")
+}
+
+// Writes what a word stands for.
+fn push_word(alloc: Global, bytes: &mut Vec<u8>, word: &str) -> Result<(), Memory> {
     let (name, rest) = word.split_once(':').unwrap_or((word, ""));
     match name {
         "A" | "M" | "D" | "B" | "C" | "E" | "DEEP" | "MANY" => {
@@ -35,15 +102,15 @@ fn tell_line(name: &str, rest: &str, text: &mut Wording) {
     }
 }
 
-/// Writes the head of a chunked reply with this status code.
-pub fn push_head(alloc: Global, bytes: &mut Vec<u8>, code: &str) -> Result<(), Memory> {
-    push_text(
-        bytes,
-        format!(in alloc;
-            "HTTP/1.1 {code} Told\r\nContent-Type: application/json\r\nTransfer-Encoding: chunked\r\n\r\n"
-        )?.as_str(),
-    )
+// Writes the head of a chunked reply with this status code.
+fn push_head(bytes: &mut Vec<u8>, code: &str) -> Result<(), Memory> {
+    push_text(bytes, "HTTP/1.1 ")?;
+    push_text(bytes, code)?;
+    push_text(bytes, HEAD)
 }
+
+// What stands in a head behind its status code.
+const HEAD: &str = " Told\r\nContent-Type: application/json\r\nTransfer-Encoding: chunked\r\n\r\n";
 
 const CLOSING: &str = "\"annotations\":{\"k8s.io/initial-events-end\":\"true\"},";
 

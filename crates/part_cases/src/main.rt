@@ -22,9 +22,12 @@ use std::sync::Wait;
 use std::thread::Threads;
 use std::{env, fs, io};
 use step_cases::{run_passes, run_steps, two_threads};
+use texts::TextRows;
 
 fn main(rt: HostRuntime) -> io::Result<()> {
     let mut tally = Tally::new();
+    let threads = two_threads(&rt, rt.alloc())?;
+    let mut scenes = Scenes { rt, threads };
     for file in env::args(&rt)?.skip(1) {
         let text = fs::read_to_string(&rt, file.as_str())?;
         let lines = Lines {
@@ -32,13 +35,7 @@ fn main(rt: HostRuntime) -> io::Result<()> {
             first: 1,
             text: text.as_str(),
         };
-        if file.as_str() == "scenes.txt" {
-            let threads = two_threads(&rt, rt.alloc())?;
-            let mut scenes = Scenes { rt, threads };
-            run_rows(&rt, rt.alloc(), lines, &mut scenes, &mut tally)?;
-        } else {
-            run_file(&rt, rt.alloc(), lines, &mut tally)?;
-        }
+        run_file(&rt, rt.alloc(), lines, &mut scenes, &mut tally)?;
     }
     println!(rt; "{} rows, {} mismatches", tally.rows, tally.mismatches)
 }
@@ -48,18 +45,25 @@ fn run_file<R: Runtime + Wait + Threads + Sync>(
     rt: &R,
     alloc: Global,
     lines: Lines<'_>,
+    scenes: &mut Scenes,
     tally: &mut Tally,
 ) -> io::Result<()> {
-    if lines.file.starts_with("texts/") {
-        texts::run(rt, alloc, lines, tally)
-    } else if lines.file.starts_with("records/") {
-        run_records(rt, alloc, lines, tally)
-    } else if lines.file.starts_with("hub/") {
-        run_script(rt, alloc, lines, tally)
-    } else if lines.file.starts_with("store/") || lines.file == "passes.txt" {
-        run_scripts(rt, alloc, lines, tally)
-    } else {
-        run_steps(rt, alloc, lines, tally)
+    let file = lines.file;
+    match folder(file) {
+        "scenes.txt" => run_rows(rt, alloc, lines, scenes, tally),
+        "texts" => run_rows(rt, alloc, lines, &mut TextRows { file }, tally),
+        "records" => run_records(rt, alloc, lines, tally),
+        "hub" => run_script(rt, alloc, lines, tally),
+        "store" | "passes.txt" => run_scripts(rt, alloc, lines, tally),
+        _ => run_steps(rt, alloc, lines, tally),
+    }
+}
+
+/// The folder that a file stands in; its name where it stands in none.
+fn folder(file: &str) -> &str {
+    match file.split_once('/') {
+        Some((folder, _)) => folder,
+        None => file,
     }
 }
 
@@ -70,15 +74,11 @@ fn run_scripts<R: Runtime + Wait + Threads + Sync>(
     lines: Lines<'_>,
     tally: &mut Tally,
 ) -> io::Result<()> {
-    let mut next = lines.first;
+    let mut first = lines.first;
     for text in lines.text.split("\n\n") {
-        let script = Lines {
-            file: lines.file,
-            first: next,
-            text,
-        };
-        run_script(rt, alloc, script, tally)?;
-        next = next
+        let file = lines.file;
+        run_script(rt, alloc, Lines { file, first, text }, tally)?;
+        first = first
             .saturating_add(text.lines().count() as u64)
             .saturating_add(1);
     }
@@ -98,9 +98,9 @@ fn run_script<R: Runtime + Wait + Threads + Sync>(
         first: script.first.saturating_add(1),
         text,
     };
-    match script.file {
-        file if file.starts_with("hub/") => run_hub(rt, alloc, head, rows, tally),
-        file if file.starts_with("store/") => run_store(rt, alloc, head, rows, tally),
+    match folder(script.file) {
+        "hub" => run_hub(rt, alloc, head, rows, tally),
+        "store" => run_store(rt, alloc, head, rows, tally),
         _ => run_passes(rt, alloc, head, rows, tally),
     }
 }

@@ -17,18 +17,24 @@ pub struct Scenes {
 impl Steps for Scenes {
     fn answer(&mut self, alloc: Global, step: &str, told: &mut Wording) -> Result<(), Memory> {
         match step {
-            "the usual settings" => told.debug(&Settings::usual()),
-            "the cache of an empty log" => empty_cache(alloc, told)?,
-            "a pump that misses nothing" => pump(alloc, false, told)?,
-            "a pump without memory" => pump(alloc, true, told)?,
+            "the cache of an empty log" => return empty_cache(alloc, told),
+            "a pump that misses nothing" => return pump(alloc, false, told),
+            "a pump without memory" => return pump(alloc, true, told),
             "two threads at one log" => told.add(self.threads.as_str()),
-            "the laws" => told.add(laws::called()),
-            "standard input and output" => systems::standard_ends(self.rt, told),
-            "the system's clock" => systems::clock(self.rt, told),
-            "a TCP connection" => systems::connection(self.rt, told),
-            "a port that was shut" => told.add(systems::shut_port(self.rt)),
-            _ => told.add(NO_STEP),
+            _ => tell(self.rt, step, told),
         }
         Ok(())
+    }
+}
+
+fn tell(rt: HostRuntime, step: &str, told: &mut Wording) {
+    match step {
+        "the usual settings" => told.debug(&Settings::usual()),
+        "the laws" => told.add(laws::called()),
+        "standard input and output" => systems::standard_ends(rt, told),
+        "the system's clock" => systems::clock(rt, told),
+        "a TCP connection" => systems::connection(rt, told),
+        "a port that was shut" => told.add(systems::shut_port(rt)),
+        _ => told.add(NO_STEP),
     }
 }

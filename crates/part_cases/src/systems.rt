@@ -1,21 +1,18 @@
 //! The ends, the clock and the net of the system.
 
 use case_rows::Wording;
-use edge_io::{Clock, Listener, Net, ReadEnd, Source, SystemClock, WriteEnd};
+use edge_io::{Clock, Failed, Listener, Net, ReadEnd, Source, SystemClock, WriteEnd};
 use std::io;
 use std::net::TcpListener;
 use step_cases::send;
-use tcp_net::LoopbackNet;
+use tcp_net::{Connection, LoopbackNet};
 
 /// Standard input gives nothing to an empty buffer, and standard output takes a line.
 pub fn standard_ends(rt: HostRuntime, told: &mut Wording) {
     told.debug(&ReadEnd::new(rt.reader()).read(&mut []));
     told.add(", ");
-    let sent = send(
-        &mut WriteEnd::new(rt.alloc(), rt.stdout()),
-        b"standard output\n",
-    );
-    told.debug(&sent);
+    let mut output = WriteEnd::new(rt.alloc(), rt.stdout());
+    told.debug(&send(&mut output, b"standard output\n"));
 }
 
 /// A rest of the system's clock takes 15 milliseconds at least, and it doesn't ask to stop.
@@ -36,28 +33,39 @@ fn free_port(rt: &HostRuntime) -> io::Result<u16> {
 
 /// What comes over a TCP connection, and what comes once it was hung up.
 pub fn connection(rt: HostRuntime, told: &mut Wording) {
-    let Ok(port) = free_port(&rt) else {
-        told.add("no port");
-        return;
-    };
+    match free_port(&rt) {
+        Ok(port) => connect(rt, port, told),
+        Err(_) => told.add("no port"),
+    }
+}
+
+fn connect(rt: HostRuntime, port: u16, told: &mut Wording) {
     let mut net = LoopbackNet::new(rt.alloc(), rt);
     let Ok(mut listener) = net.listen(port) else {
-        told.add("no listener");
-        return;
+        return told.add("no listener");
     };
     let Ok((source, mut sink)) = net.dial(port) else {
-        told.add("no connection");
-        return;
+        return told.add("no connection");
     };
     let sent = send(&mut sink, b"ping");
     let Ok(Some((mut theirs, _sink, _clock))) = listener.accept() else {
-        told.add("not accepted");
-        return;
+        return told.add("not accepted");
     };
-    let mut buf = [0u8; 8];
-    let first = theirs.read(&mut buf);
+    let first = read(&mut theirs);
     net.hang_up(source, sink);
-    let then = theirs.read(&mut buf);
+    tell_reads(sent, first, read(&mut theirs), told);
+}
+
+fn read(source: &mut ReadEnd<Connection>) -> Result<usize, Failed> {
+    source.read(&mut [0u8; 8])
+}
+
+fn tell_reads(
+    sent: Result<(), Failed>,
+    first: Result<usize, Failed>,
+    then: Result<usize, Failed>,
+    told: &mut Wording,
+) {
     told.debug(&sent);
     told.add(", ");
     told.debug(&first);

@@ -5,57 +5,25 @@ mod command_lines;
 mod refusals;
 mod routes;
 
-use case_rows::{Lines, Row, Tally, Wording, meets, plain};
-use std::alloc::{AllocError, Global};
-use std::io;
-use std::rt::Runtime;
+use case_rows::{Steps, Wording, plain};
+use kube_meta::Memory;
+use std::alloc::Global;
 
-/// What a line wants that is no row: an answer that nothing gives.
-const NO_ROW: &str = "(a row is written INPUT => ANSWER)";
+/// The rows of a file, whose name says what they ask.
+#[derive(Clone, Copy)]
+pub struct TextRows<'f> {
+    /// The file's name.
+    pub file: &'f str,
+}
 
-/// Runs the rows of one file.
-pub fn run<R: Runtime>(
-    rt: &R,
-    alloc: Global,
-    lines: Lines<'_>,
-    tally: &mut Tally,
-) -> io::Result<()> {
-    let mut number = lines.first;
-    for line in lines.text.lines() {
-        if let Some(row) = Row::of_line(line, NO_ROW) {
-            let met = run_row(rt, alloc, row, (lines.file, number))?;
-            tally.count(met);
-        }
-        number = number.saturating_add(1);
+impl Steps for TextRows<'_> {
+    fn answer(&mut self, alloc: Global, step: &str, told: &mut Wording) -> Result<(), Memory> {
+        answer(alloc, self.file, plain(alloc, step)?.as_str(), told);
+        Ok(())
     }
-    Ok(())
 }
 
-/// Whether a row has the answer that it wants; if not, both are printed.
-fn run_row<R: Runtime>(
-    rt: &R,
-    alloc: Global,
-    row: Row<'_>,
-    place: (&str, u64),
-) -> io::Result<bool> {
-    let input = plain(alloc, row.step)?;
-    let wanted = plain(alloc, row.wanted)?;
-    let answer = answer_to(alloc, place.0, input.as_str())?;
-    let row = Row {
-        step: input.as_str(),
-        wanted: wanted.as_str(),
-    };
-    meets(rt, place, row, answer.as_str())
-}
-
-/// The answer of the subject that a file's name says.
-fn answer_to(alloc: Global, file: &str, input: &str) -> Result<String, AllocError> {
-    let mut told = Wording::new(alloc);
-    answer(alloc, file, input, &mut told)?;
-    told.whole()
-}
-
-fn answer(alloc: Global, file: &str, input: &str, told: &mut Wording) -> Result<(), AllocError> {
+fn answer(alloc: Global, file: &str, input: &str, told: &mut Wording) {
     match file {
         "texts/routes.txt" => routes::answer(alloc, input, told),
         "texts/refusals.txt" => refusals::answer(alloc, input, told),

@@ -2,6 +2,7 @@
 
 ghost use Rattle.std.specs.Prelude.{◌≡◌, []};
 
+use crate::words::tell_number;
 use cache_core::Cache;
 use case_rows::Wording;
 use kube_meta::{Memory, Resource};
@@ -38,24 +39,18 @@ pub fn empty_cache(alloc: Global, told: &mut Wording) -> Result<(), Memory> {
     tell_cache(&cache, told)?;
     let mut fresh = Vec::new(alloc);
     cache.apply(&no_revisions(alloc), &mut fresh)?;
-    told.add("; polled: end ");
-    told.show(&cache.end());
-    told.add(", ");
-    told.show(&fresh.len());
+    tell_number("; polled: end ", cache.end(), told);
+    tell_number(", ", fresh.len() as u64, told);
     told.add(" events");
     Ok(())
 }
 
 /// The numbers of a cache, its rows, and what it says of revision 0.
 fn tell_cache(cache: &Cache, told: &mut Wording) -> Result<(), Memory> {
-    told.add("end ");
-    told.show(&cache.end());
-    told.add(", base ");
-    told.show(&cache.base());
-    told.add(", floor ");
-    told.show(&cache.floor());
-    told.add(", ");
-    told.show(&cache.snapshot()?.len());
+    tell_number("end ", cache.end(), told);
+    tell_number(", base ", cache.base(), told);
+    tell_number(", floor ", cache.floor(), told);
+    tell_number(", ", cache.snapshot()?.len() as u64, told);
     told.add(" rows, ");
     match cache.at(0) {
         Ok(_) => told.add("0 is served"),

@@ -10,7 +10,8 @@ mod texts;
 
 use crate::hub::scene::{Scene, Stage};
 use crate::hub::start::Start;
-use case_rows::{Lines, Tally, run_rows};
+use crate::run_on;
+use case_rows::{Lines, Tally};
 use rev_front::{Blank, blank};
 use rev_log::Revision;
 use std::alloc::Global;
@@ -29,10 +30,10 @@ pub fn run_hub<R: Runtime>(
 ) -> io::Result<()> {
     let start = Start::read(alloc, first)?;
     let made = blank(alloc, 1)?;
-    run_on::<Brand, R>(rt, alloc, made, start, rows, tally)
+    run_scene::<Brand, R>(rt, alloc, made, start, rows, tally)
 }
 
-fn run_on<N: LogFacts, R: Runtime>(
+fn run_scene<N: LogFacts, R: Runtime>(
     rt: &R,
     alloc: Global,
     made: Blank<Revision>,
@@ -45,9 +46,6 @@ fn run_on<N: LogFacts, R: Runtime>(
     requires own { N.mirror ≡ false }
 {
     let scene: Scene<N> = Scene::new(alloc, made, start)?;
-    let mut stage = Stage {
-        scene,
-        watches: Vec::new(alloc),
-    };
-    run_rows(rt, alloc, rows, &mut stage, tally)
+    let watches = Vec::new(alloc);
+    run_on(rt, alloc, rows, Stage { scene, watches }, tally)
 }

@@ -8,8 +8,24 @@ mod caches;
 mod hub;
 mod pumps;
 mod store;
+mod words;
 
 pub use caches::empty_cache;
+use case_rows::{Lines, Steps, Tally, run_rows};
 pub use hub::run_hub;
 pub use pumps::pump;
+use std::alloc::Global;
+use std::io;
+use std::rt::Runtime;
 pub use store::run_store;
+
+/// Makes the steps of a script on what stands until its last line.
+fn run_on<R: Runtime, S: Steps + Drop>(
+    rt: &R,
+    alloc: Global,
+    rows: Lines<'_>,
+    mut part: S,
+    tally: &mut Tally,
+) -> io::Result<()> {
+    run_rows(rt, alloc, rows, &mut part, tally)
+}

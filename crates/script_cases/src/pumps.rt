@@ -2,6 +2,7 @@
 
 ghost use Rattle.std.specs.Prelude.{◌≡◌, IfOk};
 
+use crate::words::tell_number;
 use case_rows::{Wording, key};
 use kube_meta::{Memory, Resource, Row};
 use reflect_core::Reflector;
@@ -12,7 +13,7 @@ use std::marker::Brand;
 use up_api::{Feed, Held, History, LogFacts, Pass, Polled, UpNo, Upstream};
 
 /// An upstream that has no memory. It counts how often it was asked.
-#[derive(Debug, Drop)]
+#[derive(Drop)]
 struct Poor {
     asked: u64,
 }
@@ -59,7 +60,7 @@ impl<N: LogFacts> Upstream<N> for Poor {
 }
 
 /// The least cache that can be fed: it keeps its end alone.
-#[derive(Debug, Drop)]
+#[derive(Drop)]
 struct Least {
     resource: Resource,
     end: u64,
@@ -149,9 +150,7 @@ fn pump_at<N: LogFacts>(
     let until = pass.shown();
     let mut reflector = Reflector::with_batch(Resource::Pods, 2);
     told.debug(&reflector.pump(&mut held, &mut up, &mut pass, until));
-    told.add("; asked ");
-    told.show(&up.asked);
-    told.add(", end ");
-    told.show(&held.end);
+    tell_number("; asked ", up.asked, told);
+    tell_number(", end ", held.end, told);
     Ok(())
 }

@@ -8,11 +8,11 @@ mod opening;
 mod served;
 pub mod writes;
 
+use crate::run_on;
 use crate::store::calls::{Client, Doors, Mirror, twenty};
 use crate::store::opening::{Kind, Script};
-use crate::store::served::Served;
 use crate::store::writes::row;
-use case_rows::{Lines, Tally, run_rows};
+use case_rows::{Lines, Tally};
 use kube_meta::{Memory, Row};
 use rev_front::{Blank, blank};
 use rev_log::Revision;
@@ -34,20 +34,24 @@ pub fn run_store<R: Runtime + Wait + Threads + Sync>(
     tally: &mut Tally,
 ) -> io::Result<()> {
     let Some(script) = Script::read(alloc, head)? else {
-        tally.count(false);
-        return println!(rt; "{}:{}: nothing is opened so", rows.file, rows.first);
+        return opens_nothing(rt, rows, tally);
     };
     let first = script.first();
     let made = blank(alloc, first)?;
     match script.kind {
         Kind::Store => store::<Brand, R>(rt, alloc, script, made, rows, tally),
-        Kind::Door => doors::<Brand, R>(rt, alloc, script, made, rows, tally),
-        Kind::Threads => threads::<Brand, R>(rt, alloc, script, made, rows, tally),
+        Kind::Door => doors::<Brand, R>(rt, alloc, &script, made, rows, tally),
+        Kind::Threads => threads::<Brand, R>(rt, alloc, &script, made, rows, tally),
         Kind::Mirror => {
             let base = row(alloc, "base", first)?;
             mirror::<Brand, R>(rt, alloc, script, made, base, rows, tally)
         }
     }
+}
+
+fn opens_nothing<R: Runtime>(rt: &R, rows: Lines<'_>, tally: &mut Tally) -> io::Result<()> {
+    tally.count(false);
+    println!(rt; "{}:{}: nothing is opened so", rows.file, rows.first)
 }
 
 /// The steps on a store that cuts and compacts by a script of its own.
@@ -66,14 +70,14 @@ fn store<N: LogFacts, R: Runtime>(
     let store: Store<N> = Store::new(alloc, made, script.history())?;
     let mut scripted = ScriptedStore::new(store, script.cuts);
     scripted.also_compact(script.compactions);
-    run_rows(rt, alloc, rows, &mut client_of(scripted)?, tally)
+    run_on(rt, alloc, rows, client_of(scripted)?, tally)
 }
 
 /// The steps on two doors to one store, by turns.
 fn doors<N: LogFacts, R: Runtime + Wait>(
     rt: &R,
     alloc: Global,
-    script: Script,
+    script: &Script,
     made: Blank<Revision>,
     rows: Lines<'_>,
     tally: &mut Tally,
@@ -83,22 +87,28 @@ fn doors<N: LogFacts, R: Runtime + Wait>(
     requires own { N.mirror ≡ false }
 {
     let store: Store<N> = Store::new(alloc, made, script.history())?;
+    run_on(rt, alloc, rows, doors_of(rt, store)?, tally)
+}
+
+/// Two doors to a store, of which the first one is used next.
+fn doors_of<N: LogFacts, R: Wait + Copy>(
+    rt: R,
+    store: Store<N>,
+) -> Result<Doors<N, StoreDoor<N, R>>, Memory> {
     let door = StoreDoor::new(rt, store)?;
-    let second = client_of(door.again()?)?;
-    let first = client_of(door)?;
-    let mut doors = Doors {
-        first,
+    let second = client_at(&door)?;
+    Ok(Doors {
+        first: client_at(&door)?,
         second,
         is_second: true,
-    };
-    run_rows(rt, alloc, rows, &mut doors, tally)
+    })
 }
 
 /// Two threads create pods through doors of their own, and then the steps are made.
 fn threads<N: LogFacts + Send + Sync, R: Runtime + Wait + Threads + Sync>(
     rt: &R,
     alloc: Global,
-    script: Script,
+    script: &Script,
     made: Blank<Revision>,
     rows: Lines<'_>,
     tally: &mut Tally,
@@ -109,16 +119,25 @@ fn threads<N: LogFacts + Send + Sync, R: Runtime + Wait + Threads + Sync>(
 {
     let store: Store<N> = Store::new(alloc, made, script.history())?;
     let door = StoreDoor::new(rt, store)?;
-    let first = client_of(door.again()?)?;
-    let second = client_of(door.again()?)?;
+    create_by_two(rt, alloc, &door)?;
+    run_on(rt, alloc, rows, client_at(&door)?, tally)
+}
+
+/// Two threads create pods, each through a door of its own.
+fn create_by_two<N: LogFacts + Send + Sync, R: Runtime + Wait + Threads + Sync>(
+    rt: &R,
+    alloc: Global,
+    door: &StoreDoor<N, &R>,
+) -> Result<(), Memory> {
+    let first = client_at(door)?;
+    let second = client_at(door)?;
     let (one, other) = thread::join(
         rt,
         move || twenty(alloc, first, "a"),
         move || twenty(alloc, second, "b"),
     );
     one?;
-    other?;
-    run_rows(rt, alloc, rows, &mut client_of(door)?, tally)
+    other
 }
 
 /// The steps on a mirror's store, which begins with one pod.
@@ -139,7 +158,7 @@ fn mirror<N: LogFacts, R: Runtime>(
     let held = alone(alloc, base)?;
     let store: Store<N> = Store::from_base(alloc, made, held, script.history())?;
     let client = client_of(ScriptedStore::new(store, script.cuts))?;
-    run_rows(rt, alloc, rows, &mut Mirror { client }, tally)
+    run_on(rt, alloc, rows, Mirror { client }, tally)
 }
 
 /// The list of this row.
@@ -151,10 +170,24 @@ fn alone(alloc: Global, row: Row) -> Result<Vec<Row>, Memory>
     Ok(rows)
 }
 
-fn client_of<N: LogFacts, U: Served<N> + Drop>(mut served: U) -> Result<Client<N, U>, Memory> {
-    let told = served.pass()?;
+fn client_of<N: LogFacts>(
+    mut served: ScriptedStore<N>,
+) -> Result<Client<N, ScriptedStore<N>>, Memory> {
+    let told = served.store().pass()?;
     Ok(Client {
         served,
+        told,
+        feed: None,
+    })
+}
+
+/// A client with a door of its own beside this one.
+fn client_at<N: LogFacts, R: Wait + Copy>(
+    door: &StoreDoor<N, R>,
+) -> Result<Client<N, StoreDoor<N, R>>, Memory> {
+    let told = door.pass()?;
+    Ok(Client {
+        served: door.again()?,
         told,
         feed: None,
     })

@@ -1,8 +1,8 @@
 //! What connections were written, which others wait for and read.
 
-ghost use Rattle.std.specs.Prelude.{◌≤◌, length};
+ghost use Rattle.std.specs.Prelude.{◌≤◌, length, IfSome};
 
-use edge_io::Failed;
+use case_rows::Wording;
 use std::alloc::{AllocError, Global};
 use std::sync::{Mutex, Wait};
 use std::thread;
@@ -18,32 +18,66 @@ struct Wire {
     is_cut: bool,
 }
 
-/// What was written, by the numbers of the wires.
+impl Wire {
+    // Copies what stands behind so many bytes, as far as there is room, and answers how much that is; `None` where
+    // nothing stands there yet.
+    fn read(&self, at: usize, buf: &mut [u8]) -> Option<usize>
+        ensures { IfSome result (λ n. n ≤ length buf.new) }
+    {
+        if at >= self.text.len() && !self.is_cut {
+            return None;
+        }
+        Some(copy_from(self.text.as_slice(), at, usize::MAX, buf))
+    }
+}
+
+/// What was written, by the numbers of the wires: on 0 the mirror says what becomes of its peer, the next ones are of
+/// the connections, and on those behind them the mirror asks, over one dialled connection after the other.
 #[derive(Drop)]
 pub struct Board<R> {
     pub rt: R,
     wires: Vec<Mutex<Wire>>,
+    connections: usize,
+    /// The connections that the mirror dials; none where nobody is there.
+    pub dials: Vec<Option<usize>>,
 }
 
 impl<R: Wait + Drop> Board<R> {
-    /// A board of so many wires.
-    pub fn new(rt: R, alloc: Global, count: usize) -> Result<Board<R>, AllocError> {
+    /// A board of so many connections, on which nothing was written.
+    pub fn new(
+        rt: R,
+        alloc: Global,
+        connections: usize,
+        dials: Vec<Option<usize>>,
+    ) -> Result<Board<R>, AllocError> {
         let mut wires = Vec::new(alloc);
-        for _ in 0..count {
+        for _ in 0..connections.saturating_add(dials.len()).saturating_add(1) {
             wires.push(Mutex::new(Wire {
                 text: Vec::new(alloc),
                 is_cut: false,
             }))?;
         }
-        Ok(Board { rt, wires })
+        Ok(Board {
+            rt,
+            wires,
+            connections,
+            dials,
+        })
     }
 
-    /// What a wire was written.
-    pub fn text(&self, alloc: Global, number: usize) -> Result<Vec<u8>, AllocError> {
-        match self.wires.get(number) {
-            Some(wire) => Vec::from_slice(alloc, wire.lock(&self.rt).text.as_slice()),
-            None => Ok(Vec::new(alloc)),
+    /// The wire on which the mirror asks over the connection that it dials behind so many others.
+    pub fn ask_wire(&self, at: usize) -> usize {
+        self.connections.saturating_add(at).saturating_add(1)
+    }
+
+    /// The wire on which the mirror asks over a connection, if it dials that.
+    pub fn asked_on(&self, connection: usize) -> Option<usize> {
+        for at in 0..self.dials.len() {
+            if self.dials.get(at).copied() == Some(Some(connection)) {
+                return Some(self.ask_wire(at));
+            }
         }
+        None
     }
 
     /// Whether a wire was written this.
@@ -54,15 +88,11 @@ impl<R: Wait + Drop> Board<R> {
         }
     }
 
-    /// Writes to a wire, if there is memory.
-    pub fn write(&self, number: usize, bytes: &[u8]) -> Result<(), Failed> {
+    /// Writes to a wire, and answers whether there was memory.
+    pub fn write(&self, number: usize, bytes: &[u8]) -> bool {
         match self.wires.get(number) {
-            Some(wire) => wire
-                .lock(&self.rt)
-                .text
-                .extend_from_slice(bytes)
-                .map_err(|_| Failed),
-            None => Err(Failed),
+            Some(wire) => wire.lock(&self.rt).text.extend_from_slice(bytes).is_ok(),
+            None => false,
         }
     }
 
@@ -73,24 +103,21 @@ impl<R: Wait + Drop> Board<R> {
         }
     }
 
-    /// Reads what a wire was written behind so many bytes, as far as there is room, and answers how much that is.
-    pub fn read(&self, number: usize, at: usize, buf: &mut [u8]) -> usize
-        ensures { result ≤ length buf.new }
-    {
+    /// Tells what a wire was written, if something else is wanted.
+    pub fn compare(&self, number: usize, wanted: &[u8], told: &mut Wording) {
         match self.wires.get(number) {
-            Some(wire) => copy_into(wire.lock(&self.rt).text.as_slice(), at, buf),
-            None => 0,
+            Some(wire) => tell_otherwise(wanted, wire.lock(&self.rt).text.as_slice(), told),
+            None => tell_otherwise(wanted, b"", told),
         }
     }
 
-    // Whether there is something behind so many bytes, or nothing more will be.
-    fn is_ready(&self, number: usize, at: usize) -> bool {
+    // Reads what a wire was written behind so many bytes, once it is written or the wire is cut.
+    fn look(&self, number: usize, at: usize, buf: &mut [u8]) -> Option<usize>
+        ensures { IfSome result (λ n. n ≤ length buf.new) }
+    {
         match self.wires.get(number) {
-            Some(wire) => {
-                let wire = wire.lock(&self.rt);
-                wire.is_cut || at < wire.text.len()
-            }
-            None => true,
+            Some(wire) => wire.lock(&self.rt).read(at, buf),
+            None => Some(0),
         }
     }
 }
@@ -98,7 +125,12 @@ impl<R: Wait + Drop> Board<R> {
 impl<R: Wait + Drop + std::time::Clock> Board<R> {
     /// Waits for all signs, and answers whether they came in time.
     pub fn all_come(&self, signs: &[Sign]) -> bool {
-        signs.iter().all(|sign| self.comes(sign))
+        for sign in signs {
+            if !self.comes(sign) {
+                return false;
+            }
+        }
+        true
     }
 
     // Waits for one.
@@ -112,14 +144,18 @@ impl<R: Wait + Drop + std::time::Clock> Board<R> {
         false
     }
 
-    /// Waits until a wire has something behind so many bytes, or is cut, or the time is over.
-    pub fn await_more(&self, number: usize, at: usize) {
+    /// Waits until a wire has something behind so many bytes, or is cut, or the time is over; reads it, as far as there
+    /// is room, and answers how much that is.
+    pub fn read(&self, number: usize, at: usize, buf: &mut [u8]) -> usize
+        ensures { result ≤ length buf.new }
+    {
         for _ in 0..LOOKS {
-            if self.is_ready(number, at) {
-                return;
+            if let Some(n) = self.look(number, at, buf) {
+                return n;
             }
             thread::sleep(&self.rt, Duration::from_millis(1));
         }
+        0
     }
 }
 
@@ -133,14 +169,29 @@ fn contains(text: &[u8], part: &[u8]) -> bool {
     false
 }
 
-// Copies what stands from a place on, as far as there is room, and answers how much that is.
-fn copy_into(text: &[u8], at: usize, buf: &mut [u8]) -> usize
+/// Copies what stands from a place on, as far as there is room, at most so many bytes, and answers how much that is.
+pub fn copy_from(text: &[u8], at: usize, most: usize, buf: &mut [u8]) -> usize
     ensures { result ≤ length buf.new }
 {
     let left = text.get(at..).unwrap_or(&[]);
-    let n = left.len().min(buf.len());
+    let n = left.len().min(buf.len()).min(most);
     buf[..n].copy_from_slice(&left[..n]);
     n
+}
+
+/// Tells both texts, if they differ.
+pub fn tell_otherwise(wanted: &[u8], text: &[u8], told: &mut Wording) {
+    if wanted != text {
+        tell_text("    wanted: ", wanted, told);
+        tell_text("    is:     ", text, told);
+    }
+}
+
+fn tell_text(name: &str, text: &[u8], told: &mut Wording) {
+    let text = str::from_utf8(text).unwrap_or("(no UTF-8)");
+    told.add(name);
+    told.add(text);
+    told.add("\n");
 }
 
 /// A text that a wire is to be written.
@@ -148,23 +199,4 @@ fn copy_into(text: &[u8], at: usize, buf: &mut [u8]) -> usize
 pub struct Sign {
     pub number: usize,
     pub text: Vec<u8>,
-}
-
-impl Sign {
-    /// The same sign once more.
-    pub fn copy(&self, alloc: Global) -> Result<Sign, AllocError> {
-        Ok(Sign {
-            number: self.number,
-            text: Vec::from_slice(alloc, self.text.as_slice())?,
-        })
-    }
-}
-
-/// Copies of these signs.
-pub fn copies(alloc: Global, signs: &[Sign]) -> Result<Vec<Sign>, AllocError> {
-    let mut all = Vec::new(alloc);
-    for sign in signs {
-        all.push(sign.copy(alloc)?)?;
-    }
-    Ok(all)
 }

@@ -1,31 +1,50 @@
 //! How a case is written, line by line.
 
 use crate::board::Sign;
-use crate::ends::Times;
-use case_rows::{plain, split};
+use bells::Bell;
+use case_rows::{Wording, number, plain, says_nothing, split};
 use std::alloc::{AllocError, Global};
+use std::collections::VecDeque;
+use std::sync::Arc;
 
 /// More bytes than a connection has.
 const UNCUT: u64 = 1 << 62;
 
-/// A connection: what it waits for, what it sends, when it ends and what cuts it, how its clock goes, and what is
-/// wanted to come back.
+/// What a connection sends: bytes that come once all signs of `waits` are there, and end once those of `lasts` are.
+/// After so many bytes it is cut, if there are more.
 #[derive(Drop)]
-pub struct Plan {
+pub struct Input {
     pub waits: Vec<Sign>,
-    pub bytes: Vec<u8>,
     pub lasts: Vec<Sign>,
-    /// How many bytes it reads and writes before it is cut.
-    pub reads: u64,
-    pub writes: u64,
-    /// After how many bytes it stops reading what it is written, and until when.
+    pub bytes: Vec<u8>,
+    pub breaks: u64,
+}
+
+/// What a connection takes: after so many bytes it is cut, and after so many it takes no more until all signs are
+/// there.
+#[derive(Drop)]
+pub struct Output {
+    pub breaks: u64,
     pub holds_at: u64,
     pub holds: Vec<Sign>,
-    /// By which texts that it was written its clock shows a minute, is late, and asks it to stop.
+}
+
+/// By which texts a clock shows a minute, is late, and asks to stop; an empty one never comes.
+#[derive(Drop)]
+pub struct Times {
+    pub minute: Vec<u8>,
+    pub late: Vec<u8>,
+    pub stop: Vec<u8>,
+}
+
+/// A connection, and the bell until whose ring its clock rests, if it has one.
+#[derive(Drop)]
+pub struct Plan {
+    pub number: usize,
+    pub input: Input,
+    pub output: Output,
     pub times: Times,
-    /// Whether its clock has a bell, and rests until that is rung.
-    pub has_bell: bool,
-    pub wanted: Vec<u8>,
+    pub bell: Option<Arc<Bell, Global>>,
 }
 
 /// Of which log a server is.
@@ -39,7 +58,7 @@ pub enum Whose {
     Mirror,
 }
 
-/// A server, its connections, and how it is wanted to end.
+/// A server and its connections.
 #[derive(Drop)]
 pub struct ServerPlan {
     pub whose: Whose,
@@ -48,80 +67,118 @@ pub struct ServerPlan {
     pub open: Option<u64>,
     pub connections: u64,
     pub fails: Option<u64>,
-    pub plans: Vec<Plan>,
-    pub end: String,
+    pub plans: VecDeque<Plan>,
 }
 
-/// Servers, the connections that the mirror dials, and what it is wanted to say.
+/// What the mirror is wanted to say, what each connection to get back, and how the servers are to end, line by line.
+#[derive(Drop)]
+pub struct Wanted {
+    pub news: Vec<u8>,
+    pub texts: Vec<Vec<u8>>,
+    pub ends: Vec<u8>,
+}
+
+/// Servers, the connections that the mirror dials, and what is wanted of them.
 #[derive(Drop)]
 pub struct Case {
-    pub name: String,
-    pub servers: Vec<ServerPlan>,
+    pub servers: VecDeque<ServerPlan>,
     /// Each is the number of a connection; none where nobody is there.
     pub dials: Vec<Option<usize>>,
-    pub news: Vec<u8>,
-    alloc: Global,
+    pub wanted: Wanted,
 }
 
 impl Case {
-    /// A case with this name, of a server with four workers that nobody connects to.
-    pub fn new(alloc: Global, name: &str) -> Result<Case, AllocError> {
-        let mut servers = Vec::new(alloc);
-        servers.push(new_server(alloc, Whose::Own))?;
-        Ok(Case {
-            name: String::from_str(alloc, name)?,
-            servers,
+    /// A case without servers.
+    pub fn new(alloc: Global) -> Case {
+        Case {
+            servers: VecDeque::new(alloc),
             dials: Vec::new(alloc),
-            news: Vec::new(alloc),
-            alloc,
-        })
+            wanted: Wanted {
+                news: Vec::new(alloc),
+                texts: Vec::new(alloc),
+                ends: Vec::new(alloc),
+            },
+        }
     }
 
-    /// Takes in a line, and answers whether it is one of a case.
-    pub fn take_line(&mut self, line: &str) -> Result<bool, AllocError> {
+    /// Takes in the lines of a case, whose first server has a new log, and tells which aren't lines of one.
+    pub fn take_lines(
+        &mut self,
+        alloc: Global,
+        lines: &str,
+        told: &mut Wording,
+    ) -> Result<(), AllocError> {
+        self.begin(alloc, Whose::Own)?;
+        for line in lines.lines() {
+            if !says_nothing(line) && !self.take_line(alloc, line)? {
+                told.add("    no line of a case: ");
+                told.add(line);
+                told.add("\n");
+            }
+        }
+        Ok(())
+    }
+
+    // Takes in a line, and answers whether it is one of a case.
+    fn take_line(&mut self, alloc: Global, line: &str) -> Result<bool, AllocError> {
         let (word, text) = split(line);
         match word {
-            "again" => self.servers.push(new_server(self.alloc, Whose::Same))?,
-            "anew" => self.servers.push(new_server(self.alloc, Whose::Own))?,
-            "mirror" => self.servers.push(new_server(self.alloc, Whose::Mirror))?,
+            "again" => self.begin(alloc, Whose::Same)?,
+            "anew" => self.begin(alloc, Whose::Own)?,
+            "mirror" => self.begin(alloc, Whose::Mirror)?,
             "dials" => self.dials.push(text.parse::<usize>().ok())?,
-            "says" => {
-                self.news.extend_from_slice(text.as_bytes())?;
-                self.news.push(b'\n')?;
-            }
-            _ => return self.take_server_line(word, text),
+            "says" => push_line(&mut self.wanted.news, text)?,
+            "wants" => push_plain(alloc, self.wanted.texts.last_mut(), text)?,
+            "end" => push_line(&mut self.wanted.ends, text)?,
+            _ => return self.take_server_line(alloc, word, text),
         }
         Ok(true)
     }
 
-    // Takes in a line of the last server.
-    fn take_server_line(&mut self, word: &str, text: &str) -> Result<bool, AllocError> {
-        match self.servers.last_mut() {
-            Some(server) => server.take_line(self.alloc, word, text),
-            None => Ok(false),
-        }
+    // Begins with a server with four workers that nobody connects to.
+    fn begin(&mut self, alloc: Global, whose: Whose) -> Result<(), AllocError> {
+        self.servers.push_back(ServerPlan {
+            whose,
+            workers: 4,
+            open: None,
+            connections: 0,
+            fails: None,
+            plans: VecDeque::new(alloc),
+        })?;
+        Ok(())
     }
 
-    /// How many connections its servers have.
-    pub fn connections(&self) -> usize {
-        let mut count: usize = 0;
-        for server in self.servers.iter() {
-            count = count.saturating_add(server.plans.len());
+    // Takes in a line of the last server.
+    fn take_server_line(
+        &mut self,
+        alloc: Global,
+        word: &str,
+        text: &str,
+    ) -> Result<bool, AllocError> {
+        let Some(server) = self.servers.back_mut() else {
+            return Ok(false);
+        };
+        if word != "connection" {
+            return server.take_line(alloc, word, text);
         }
-        count
+        self.wanted.texts.push(Vec::new(alloc))?;
+        server
+            .plans
+            .push_back(Plan::new(alloc, self.wanted.texts.len()))?;
+        Ok(true)
     }
 }
 
-// A server with four workers that nobody connects to.
-fn new_server(alloc: Global, whose: Whose) -> ServerPlan {
-    ServerPlan {
-        whose,
-        workers: 4,
-        open: None,
-        connections: 0,
-        fails: None,
-        plans: Vec::new(alloc),
-        end: String::new(alloc),
+fn push_line(bytes: &mut Vec<u8>, text: &str) -> Result<(), AllocError> {
+    bytes.extend_from_slice(text.as_bytes())?;
+    bytes.extend_from_slice(b"\n")
+}
+
+// Puts the bytes that a text stands for.
+fn push_plain(alloc: Global, bytes: Option<&mut Vec<u8>>, text: &str) -> Result<(), AllocError> {
+    match bytes {
+        Some(bytes) => bytes.extend_from_slice(plain(alloc, text)?.as_bytes()),
+        None => Ok(()),
     }
 }
 
@@ -130,93 +187,80 @@ impl ServerPlan {
         match word {
             "workers" => self.workers = text.parse::<usize>().unwrap_or(0),
             "open" => self.open = text.parse::<u64>().ok(),
-            "connections" => self.connections = text.parse::<u64>().unwrap_or(0),
+            "connections" => self.connections = number(text),
             "fails" => self.fails = text.parse::<u64>().ok(),
-            "connection" => self.plans.push(new_plan(alloc))?,
-            "end" => self.end.push_str(text)?,
-            _ => return self.take_plan_line(alloc, word, text),
+            _ => {
+                return match self.plans.back_mut() {
+                    Some(plan) => plan.take_line(alloc, word, text),
+                    None => Ok(false),
+                };
+            }
         }
         Ok(true)
-    }
-
-    // Takes in a line of the last connection.
-    fn take_plan_line(
-        &mut self,
-        alloc: Global,
-        word: &str,
-        text: &str,
-    ) -> Result<bool, AllocError> {
-        match self.plans.last_mut() {
-            Some(plan) => plan.take_line(alloc, word, text),
-            None => Ok(false),
-        }
-    }
-}
-
-// A connection that sends nothing.
-fn new_plan(alloc: Global) -> Plan {
-    Plan {
-        waits: Vec::new(alloc),
-        bytes: Vec::new(alloc),
-        lasts: Vec::new(alloc),
-        reads: UNCUT,
-        writes: UNCUT,
-        holds_at: UNCUT,
-        holds: Vec::new(alloc),
-        times: Times {
-            minute: Vec::new(alloc),
-            late: Vec::new(alloc),
-            stop: Vec::new(alloc),
-        },
-        has_bell: false,
-        wanted: Vec::new(alloc),
     }
 }
 
 impl Plan {
+    /// The connection of this number, which sends nothing.
+    pub fn new(alloc: Global, number: usize) -> Plan {
+        Plan {
+            number,
+            input: Input {
+                waits: Vec::new(alloc),
+                lasts: Vec::new(alloc),
+                bytes: Vec::new(alloc),
+                breaks: UNCUT,
+            },
+            output: Output {
+                breaks: UNCUT,
+                holds_at: UNCUT,
+                holds: Vec::new(alloc),
+            },
+            times: Times {
+                minute: Vec::new(alloc),
+                late: Vec::new(alloc),
+                stop: Vec::new(alloc),
+            },
+            bell: None,
+        }
+    }
+
+    // Takes in a line, and answers whether it is one of a connection.
     fn take_line(&mut self, alloc: Global, word: &str, text: &str) -> Result<bool, AllocError> {
         match word {
-            "waits" => self.waits.push(read_sign(alloc, text)?)?,
-            "lasts" => self.lasts.push(read_sign(alloc, text)?)?,
-            "bell" => self.has_bell = true,
+            "waits" => push_sign(alloc, &mut self.input.waits, text)?,
+            "lasts" => push_sign(alloc, &mut self.input.lasts, text)?,
+            "bytes" => push_plain(alloc, Some(&mut self.input.bytes), text)?,
+            "bell" => self.hang_bell(alloc)?,
             "minute" => self.times.minute.extend_from_slice(text.as_bytes())?,
             "late" => self.times.late.extend_from_slice(text.as_bytes())?,
             "stop" => self.times.stop.extend_from_slice(text.as_bytes())?,
-            "bytes" => self
-                .bytes
-                .extend_from_slice(plain(alloc, text)?.as_bytes())?,
-            "wants" => self
-                .wanted
-                .extend_from_slice(plain(alloc, text)?.as_bytes())?,
-            _ => return self.take_cut(alloc, word, text),
-        }
-        Ok(true)
-    }
-
-    // Takes in a line that says where the connection is cut, or stops reading.
-    fn take_cut(&mut self, alloc: Global, word: &str, text: &str) -> Result<bool, AllocError> {
-        let (number, sign) = split(text);
-        let Ok(bytes) = number.parse::<u64>() else {
-            return Ok(false);
-        };
-        match word {
-            "reads" => self.reads = bytes,
-            "writes" => self.writes = bytes,
-            "holds" => {
-                self.holds_at = bytes;
-                self.holds.push(read_sign(alloc, sign)?)?;
-            }
+            "reads" => self.input.breaks = number(text),
+            "writes" => self.output.breaks = number(text),
+            "holds" => self.hold(alloc, text)?,
             _ => return Ok(false),
         }
         Ok(true)
     }
+
+    fn hang_bell(&mut self, alloc: Global) -> Result<(), AllocError> {
+        self.bell = Some(Arc::new(alloc, Bell::new())?);
+        Ok(())
+    }
+
+    // Takes no more behind so many bytes until a sign is there.
+    fn hold(&mut self, alloc: Global, text: &str) -> Result<(), AllocError> {
+        let (bytes, sign) = split(text);
+        self.output.holds_at = number(bytes);
+        push_sign(alloc, &mut self.output.holds, sign)
+    }
 }
 
-// The number of a wire and a text: of a connection, from 1, or 0, on which a mirror says what becomes of it.
-fn read_sign(alloc: Global, text: &str) -> Result<Sign, AllocError> {
-    let (number, text) = split(text);
-    Ok(Sign {
-        number: number.parse::<usize>().unwrap_or(usize::MAX),
-        text: Vec::from_slice(alloc, text.as_bytes())?,
-    })
+// Puts a sign: the number of a wire and a text.
+fn push_sign(alloc: Global, signs: &mut Vec<Sign>, text: &str) -> Result<(), AllocError> {
+    let (wire, text) = split(text);
+    let number = wire.parse::<usize>().unwrap_or(usize::MAX);
+    let text = Vec::from_slice(alloc, text.as_bytes())?;
+    signs.push(Sign { number, text })?;
+    Ok(())
 }

@@ -12,8 +12,8 @@ mod mirroring;
 mod serving;
 
 use case::Case;
-use case_rows::{Tally, says_nothing};
-use serving::{Host, Outcome, serve_case};
+use case_rows::{Tally, Wording, says_nothing};
+use serving::{Host, serve_case};
 use std::alloc::{AllocError, Global};
 use std::rt::Runtime;
 use std::{env, fs, io};
@@ -21,7 +21,8 @@ use std::{env, fs, io};
 fn main(rt: HostRuntime) -> io::Result<()> {
     let mut tally = Tally::new();
     for file in env::args(&rt)?.skip(1) {
-        run_file(rt, rt.alloc(), file.as_str(), &mut tally)?;
+        let text = fs::read_to_string(&rt, file.as_str())?;
+        run_file(rt, rt.alloc(), text.as_str(), &mut tally)?;
     }
     println!(rt;
         "{} servers, {} come out otherwise",
@@ -29,101 +30,65 @@ fn main(rt: HostRuntime) -> io::Result<()> {
     )
 }
 
-/// Runs the cases of one file.
+/// Runs the cases of a file, each of which begins with a line `case NAME`.
 fn run_file<R: Runtime + Host>(
     rt: R,
     alloc: Global,
-    file: &str,
+    text: &str,
     tally: &mut Tally,
 ) -> io::Result<()> {
-    let text = fs::read_to_string(&rt, file)?;
-    let mut case = None;
-    for line in text.as_str().lines() {
-        if let Some(name) = line.strip_prefix("case ") {
-            finish(rt, alloc, case, tally)?;
-            case = Some(Case::new(alloc, name)?);
-        } else if !take_line(&mut case, line)? {
-            println!(rt; "{file}: no line of a case: {line}")?;
-            tally.count(false);
-        }
+    let (front, cases) = text.split_once("\ncase ").unwrap_or((text, ""));
+    if !is_silent(front) {
+        println!(rt; "before the first case: {front}")?;
+        tally.count(false);
     }
-    finish(rt, alloc, case, tally)
-}
-
-/// Whether a line is one of the case, or says nothing.
-fn take_line(case: &mut Option<Case>, line: &str) -> Result<bool, AllocError> {
-    if says_nothing(line) {
-        return Ok(true);
+    for case in cases.split("\ncase ") {
+        run_case(rt, alloc, case, tally)?;
     }
-    match case {
-        Some(case) => case.take_line(line),
-        None => Ok(false),
-    }
-}
-
-/// Serves a case that was read whole, and counts it.
-fn finish<R: Runtime + Host>(
-    rt: R,
-    alloc: Global,
-    case: Option<Case>,
-    tally: &mut Tally,
-) -> io::Result<()> {
-    let Some(case) = case else {
-        return Ok(());
-    };
-    let outcome = serve_case(rt, alloc, &case)?;
-    let met = compare(rt, alloc, &case, &outcome)?;
-    tally.count(met);
     Ok(())
 }
 
-/// Whether a case came out as it is wanted; what didn't is printed.
-fn compare<R: Runtime + Host>(
-    rt: R,
-    alloc: Global,
-    case: &Case,
-    outcome: &Outcome,
-) -> io::Result<bool> {
-    let news = outcome.news.as_slice();
-    let mut met = comes(rt, alloc, case, case.news.as_slice(), news)?;
-    let mut texts = outcome.texts.iter();
-    let mut ends = outcome.ends.iter();
-    for server in case.servers.iter() {
-        for plan in server.plans.iter() {
-            let text = texts.next().map_or(&[][..], |text| text.as_slice());
-            met &= comes(rt, alloc, case, plan.wanted.as_slice(), text)?;
+/// Whether no line says anything.
+fn is_silent(text: &str) -> bool {
+    for line in text.lines() {
+        if !says_nothing(line) {
+            return false;
         }
-        let end = ends.next().map_or("", |end| end.as_str());
-        met &= comes(
-            rt,
-            alloc,
-            case,
-            server.end.as_str().as_bytes(),
-            end.as_bytes(),
-        )?;
     }
-    Ok(met)
+    true
 }
 
-/// Whether this came out as it is wanted; if not, both are printed.
-fn comes<R: Runtime + Host>(
+/// Runs a case, whose first line is its name, and counts it. One that comes out otherwise is printed.
+fn run_case<R: Runtime + Host>(
     rt: R,
     alloc: Global,
-    case: &Case,
-    wanted: &[u8],
-    text: &[u8],
-) -> io::Result<bool> {
-    if wanted == text {
-        return Ok(true);
+    case: &str,
+    tally: &mut Tally,
+) -> io::Result<()> {
+    let (name, lines) = case.split_once('\n').unwrap_or((case, ""));
+    let others = others_of(rt, alloc, lines)?;
+    tally.count(others.is_empty());
+    if !others.is_empty() {
+        println!(rt; "{name}")?;
+        print!(rt; "{others}")?;
     }
-    println!(rt; "{}", case.name.as_str())?;
-    println!(rt;
-        "    wanted: {}",
-        String::from_utf8_lossy(alloc, wanted)?.as_str()
-    )?;
-    println!(rt;
-        "    is:     {}",
-        String::from_utf8_lossy(alloc, text)?.as_str()
-    )?;
-    Ok(false)
+    Ok(())
+}
+
+/// What comes out otherwise.
+fn others_of<R: Host>(rt: R, alloc: Global, lines: &str) -> Result<String, AllocError> {
+    let mut told = Wording::new(alloc);
+    tell_others(rt, alloc, lines, &mut told)?;
+    told.whole()
+}
+
+fn tell_others<R: Host>(
+    rt: R,
+    alloc: Global,
+    lines: &str,
+    told: &mut Wording,
+) -> Result<(), AllocError> {
+    let mut case = Case::new(alloc);
+    case.take_lines(alloc, lines, told)?;
+    serve_case(rt, alloc, case, told)
 }

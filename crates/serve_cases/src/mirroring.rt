@@ -3,8 +3,10 @@
 ghost use Rattle.std.specs.Prelude.{◌≡◌, true};
 
 use crate::board::Board;
-use crate::ends::{CaseListener, CaseSink, CaseSource, StillClock};
-use crate::serving::{Host, Post, end_text};
+use crate::case::{Plan, ServerPlan};
+use crate::ends::{CaseListener, CaseSink, CaseSource, StillClock, ends_of};
+use crate::serving::{Host, tell_end};
+use case_rows::Wording;
 use edge_io::Failed;
 use kube_meta::{Memory, Resource};
 use mirror_link::Mirror;
@@ -16,129 +18,95 @@ use select_all::Selection;
 use shared_client::Cacher;
 use std::alloc::Global;
 use std::marker::Brand;
-use std::sync::{Arc, Wait};
+use std::sync::Wait;
 use up_api::{LogFacts, Settings};
 
-/// More bytes than a connection has.
-const UNCUT: u64 = 1 << 62;
-
-/// The connections that a mirror dials, one after the other: what it asks over each is written to the next wire. Where
-/// nobody is there, or all were dialled, dialling fails. What it says is written to wire 0.
+/// Dials one connection after the other, and asks over each on the next wire. Where nobody is there, or all were
+/// dialled, dialling fails. What it says is written to wire 0.
 #[derive(Drop)]
-pub struct CaseRedial<R: Wait + Copy + Drop> {
+pub struct CaseRedial<'a, R> {
     alloc: Global,
-    board: Arc<Board<R>>,
-    dials: Vec<Option<usize>>,
+    board: &'a Board<R>,
     at: usize,
-    asks: usize,
 }
 
-impl<R: Wait + Copy + Drop> CaseRedial<R> {
-    /// Those with these numbers, beside so many connections.
-    pub fn new(
-        alloc: Global,
-        board: &Arc<Board<R>>,
-        dials: &[Option<usize>],
-        connections: usize,
-    ) -> Result<CaseRedial<R>, Memory> {
-        Ok(CaseRedial {
-            alloc,
-            board: board.clone()?,
-            dials: Vec::from_slice(alloc, dials)?,
-            at: 0,
-            asks: connections,
-        })
-    }
+impl<'a, R: Wait + Drop + std::time::Clock + Send + Sync> Redial for CaseRedial<'a, R> {
+    type S = CaseSource<'a, R>;
 
-    // The ends of the connection with this number.
-    fn ends_of(&self, number: usize) -> Result<(CaseSource<R>, CaseSink<R>), Memory> {
-        let source = CaseSource {
-            board: self.board.clone()?,
-            wire: Some(number),
-            waits: Vec::new(self.alloc),
-            lasts: Vec::new(self.alloc),
-            bytes: Vec::new(self.alloc),
-            at: 0,
-            breaks: UNCUT,
-            faults: 0,
-        };
-        let sink = CaseSink {
-            board: self.board.clone()?,
-            number: self.asks.saturating_add(self.at),
-            taken: 0,
-            breaks: UNCUT,
-            holds_at: UNCUT,
-            holds: Vec::new(self.alloc),
-            faults: 0,
-        };
-        Ok((source, sink))
-    }
-}
+    type K = CaseSink<'a, R>;
 
-impl<R: Wait + Copy + Drop + std::time::Clock + Send + Sync> Redial for CaseRedial<R> {
-    type S = CaseSource<R>;
-
-    type K = CaseSink<R>;
-
-    fn redial(&mut self, _port: u16) -> Result<(CaseSource<R>, CaseSink<R>), Failed> {
-        let dialled = self.dials.get(self.at).copied();
+    fn redial(&mut self, _port: u16) -> Result<(CaseSource<'a, R>, CaseSink<'a, R>), Failed> {
+        let dialled = self.board.dials.get(self.at).copied();
+        let plan = Plan::new(self.alloc, self.board.ask_wire(self.at));
         self.at = self.at.saturating_add(1);
         match dialled {
-            Some(Some(number)) => self.ends_of(number).map_err(|_| Failed),
+            Some(Some(connection)) => {
+                let (source, sink, _) = ends_of(self.board, plan, Some(connection));
+                Ok((source, sink))
+            }
             _ => Err(Failed),
         }
     }
 
     fn say(&mut self, news: News) {
-        let text = match news {
-            News::Follows { from, .. } => format!(in self.alloc; "follows from {from}\n"),
-            News::IsOver { why } => format!(in self.alloc; "is over: {why}\n"),
-            News::BeginsAnew { why } => format!(in self.alloc; "begins anew: {why}\n"),
-            News::FollowsAgain { from } => format!(in self.alloc; "follows again from {from}\n"),
-            News::Ends { why } => format!(in self.alloc; "ends: {why}\n"),
-        };
-        if let Ok(text) = text {
-            let _ = self.board.write(0, text.as_str().as_bytes());
+        let mut told = Wording::new(self.alloc);
+        match news {
+            News::Follows { from, .. } => told.show(&format_args!("follows from {from}\n")),
+            News::IsOver { why } => told.show(&format_args!("is over: {why}\n")),
+            News::BeginsAnew { why } => told.show(&format_args!("begins anew: {why}\n")),
+            News::FollowsAgain { from } => told.show(&format_args!("follows again from {from}\n")),
+            News::Ends { why } => told.show(&format_args!("ends: {why}\n")),
+        }
+        if let Ok(text) = told.whole() {
+            self.board.write(0, text.as_bytes());
         }
     }
 }
 
-/// Serves by mirrors, one after the other, over the connections that they dial, and answers how they ended.
+/// Serves by a mirror, if one is named, over the connections that it dials, and answers how that ended.
 pub fn serve_mirrored<R: Host>(
-    rt: R,
     alloc: Global,
-    posts: Vec<Post<R>>,
-    redial: CaseRedial<R>,
-) -> Result<Vec<String>, Memory> {
-    let mut redial = redial;
-    let mut ends = Vec::new(alloc);
-    for post in posts {
-        ends.push(serve_peer(rt, alloc, post, &mut redial)?)?;
+    board: &Board<R>,
+    mirror: Option<ServerPlan>,
+) -> Result<String, Memory> {
+    let mut told = Wording::new(alloc);
+    if let Some(server) = mirror {
+        serve_peer(alloc, board, server, &mut told)?;
     }
-    Ok(ends)
+    told.whole()
 }
 
-// Serves by a mirror, and answers how it ended, or why it has no opening.
+// Serves by a mirror, and tells how it ended, or why it has no opening.
 fn serve_peer<R: Host>(
-    rt: R,
     alloc: Global,
-    post: Post<R>,
-    redial: &mut CaseRedial<R>,
-) -> Result<String, Memory> {
+    board: &Board<R>,
+    server: ServerPlan,
+    told: &mut Wording,
+) -> Result<(), Memory> {
+    let mut redial = CaseRedial {
+        alloc,
+        board,
+        at: 0,
+    };
     let Ok((mut source, mut request)) = redial.redial(0) else {
-        return Ok(String::from_str(alloc, "no connection")?);
+        told.add("no connection\n");
+        return Ok(());
     };
     match opening_of(alloc, &mut source, &mut request) {
-        Ok(opening) => serve_opening(rt, alloc, post, opening, &mut source, redial),
-        Err(no) => Ok(String::from_str(alloc, no.name())?),
+        Ok(opening) => serve_opening(server, opening, &mut source, &mut redial, told),
+        Err(no) => {
+            told.add(no.name());
+            told.add("\n");
+            Ok(())
+        }
     }
 }
 
 // All pods of the peer.
 fn opening_of<R: Host>(
     alloc: Global,
-    source: &mut CaseSource<R>,
-    request: &mut CaseSink<R>,
+    source: &mut CaseSource<'_, R>,
+    request: &mut CaseSink<'_, R>,
 ) -> Result<Opening, LinkNo> {
     let Ok(selection) = Selection::read(alloc, Resource::Pods, None, "", "") else {
         return Err(LinkNo::Memory);
@@ -147,43 +115,42 @@ fn opening_of<R: Host>(
 }
 
 // Serves over a new log that begins with this opening.
-fn serve_opening<R: Host>(
-    rt: R,
-    alloc: Global,
-    post: Post<R>,
+fn serve_opening<'a, R: Host>(
+    server: ServerPlan,
     opening: Opening,
-    source: &mut CaseSource<R>,
-    redial: &mut CaseRedial<R>,
-) -> Result<String, Memory> {
-    let made = blank(alloc, opening.base())?;
-    serve_log::<Brand, R>(rt, alloc, made, post, opening, source, redial)
+    source: &mut CaseSource<'a, R>,
+    redial: &mut CaseRedial<'a, R>,
+    told: &mut Wording,
+) -> Result<(), Memory> {
+    let made = blank(redial.alloc, opening.base())?;
+    serve_log::<Brand, R>(made, server, opening, source, redial, told)
 }
 
-fn serve_log<N: LogFacts + Send + Sync, R: Host>(
-    rt: R,
-    alloc: Global,
+fn serve_log<'a, N: LogFacts + Send + Sync, R: Host>(
     made: Blank<Revision>,
-    post: Post<R>,
+    server: ServerPlan,
     opening: Opening,
-    source: &mut CaseSource<R>,
-    redial: &mut CaseRedial<R>,
-) -> Result<String, Memory>
+    source: &mut CaseSource<'a, R>,
+    redial: &mut CaseRedial<'a, R>,
+    told: &mut Wording,
+) -> Result<(), Memory>
     requires name { made ≡ N.log }
     requires first { made.first ≡ opening.base }
     requires base { N.base ≡ opening.rows }
     requires mirror { N.mirror ≡ true }
     requires window { N.window ≡ 100 }
 {
+    let (alloc, board) = (redial.alloc, redial.board);
     let settings = Settings::usual();
-    let mut mirror = Mirror::<N, R>::new(rt, alloc, opening, made, settings.history)?;
-    let cacher = Cacher::new(rt, alloc, mirror.door()?, &settings)?;
+    let mut mirror = Mirror::<N, R>::new(board.rt, alloc, opening, made, settings.history)?;
+    let cacher = Cacher::new(board.rt, alloc, mirror.door()?, &settings)?;
     let mut clock = StillClock;
-    let listener = CaseListener::new(post.ends, post.fails);
-    let workers = post.workers.clamp(1, 64);
-    let open = post.open.unwrap_or(0);
-    let connections = post.connections.min(1_000);
+    let listener = CaseListener::new(board, server.plans, server.fails);
+    let workers = server.workers.clamp(1, 64);
+    let open = server.open.unwrap_or(0);
+    let connections = server.connections.min(1_000);
     let served = serve_mirror(
-        &rt,
+        &board.rt,
         alloc,
         listener,
         &cacher,
@@ -197,5 +164,13 @@ fn serve_log<N: LogFacts + Send + Sync, R: Host>(
         connections,
         &settings,
     )?;
-    end_text(alloc, &served)
+    let faults = served.listener.faults;
+    tell_end(
+        served.accepted,
+        served.faulted,
+        faults,
+        served.sessions,
+        told,
+    );
+    Ok(())
 }

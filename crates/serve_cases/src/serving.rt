@@ -3,20 +3,20 @@
 ghost use Rattle.std.specs.Prelude.{◌≡◌, [], false};
 ghost use Rattle.up_api.specs.Settings.{AreInRange};
 
-use crate::board::{Board, copies};
-use crate::case::{Case, Plan, ServerPlan, Whose};
-use crate::ends::{CaseClock, CaseEnds, CaseListener, CaseSink, CaseSource, StillClock};
-use crate::mirroring::{CaseRedial, serve_mirrored};
-use bells::Bell;
+use crate::board::{Board, tell_otherwise};
+use crate::case::{Case, ServerPlan, Wanted, Whose};
+use crate::ends::{CaseListener, StillClock};
+use crate::mirroring::serve_mirrored;
+use case_rows::Wording;
 use kube_meta::Memory;
-use net_front::{Served, serve_all, serve_open};
+use net_front::{serve_all, serve_open};
 use rev_front::{Blank, blank};
 use rev_log::Revision;
 use shared_client::Cacher;
 use std::alloc::Global;
 use std::collections::VecDeque;
 use std::marker::Brand;
-use std::sync::{Arc, Wait};
+use std::sync::Wait;
 use std::thread::{self, Threads};
 use up_api::{LogFacts, Settings};
 use up_store::{Store, StoreDoor};
@@ -26,214 +26,154 @@ pub trait Host: Wait + Threads + std::time::Clock + Copy + Send + Sync + Drop {}
 
 impl<R: Wait + Threads + std::time::Clock + Copy + Send + Sync + Drop> Host for R {}
 
-/// A server that may begin: how it is run, and the connections that it will be given.
-#[derive(Drop)]
-pub struct Post<R: Wait + Copy + Drop> {
-    pub whose: Whose,
-    pub workers: usize,
-    pub open: Option<u64>,
-    pub connections: u64,
-    pub fails: Option<u64>,
-    pub ends: Vec<CaseEnds<R>>,
+/// Serves the connections of a case by its servers, and tells what comes out otherwise.
+pub fn serve_case<R: Host>(
+    rt: R,
+    alloc: Global,
+    case: Case,
+    told: &mut Wording,
+) -> Result<(), Memory> {
+    let connections = case.wanted.texts.len();
+    let board = Board::new(rt, alloc, connections, case.dials)?;
+    let ends = serve_both(alloc, &board, case.servers)?;
+    tell_outcome(&board, &case.wanted, ends.as_bytes(), told);
+    Ok(())
 }
 
-/// How servers ended, what connections were written, and what the mirror said.
-#[derive(Drop)]
-pub struct Outcome {
-    pub ends: Vec<String>,
-    pub texts: Vec<Vec<u8>>,
-    pub news: Vec<u8>,
+// Tells what came out otherwise.
+fn tell_outcome<R: Host>(board: &Board<R>, wanted: &Wanted, ends: &[u8], told: &mut Wording) {
+    board.compare(0, wanted.news.as_slice(), told);
+    let mut number: usize = 0;
+    for text in wanted.texts.iter() {
+        number = number.saturating_add(1);
+        board.compare(number, text.as_slice(), told);
+    }
+    tell_otherwise(wanted.ends.as_slice(), ends, told);
 }
 
-/// Serves the connections of a case by its servers: one after the other, and the mirror's beside them.
-pub fn serve_case<R: Host>(rt: R, alloc: Global, case: &Case) -> Result<Outcome, Memory> {
-    let count = case.connections();
-    let wires = count.saturating_add(case.dials.len()).saturating_add(1);
-    let board = Arc::new(alloc, Board::new(rt, alloc, wires)?)?;
-    let (posts, mirrors) = posts_of(alloc, case, &board, count)?;
-    let redial = CaseRedial::new(alloc, &board, case.dials.as_slice(), count)?;
-    let serving = || serve_posts(rt, alloc, posts);
-    let mirroring = || serve_mirrored(rt, alloc, mirrors, redial);
-    let (served, mirrored) = thread::join(&rt, serving, mirroring);
+// Serves by all servers, one after the other, and by the mirror's beside them, which is the last one. Answers how they
+// ended.
+fn serve_both<R: Host>(
+    alloc: Global,
+    board: &Board<R>,
+    servers: VecDeque<ServerPlan>,
+) -> Result<String, Memory> {
+    let mut servers = servers;
+    let mirror = mirror_of(&mut servers);
+    let serving = || serve_in_turn(alloc, board, servers);
+    let mirroring = || serve_mirrored(alloc, board, mirror);
+    let (served, mirrored) = thread::join(&board.rt, serving, mirroring);
     let mut ends = served?;
-    for end in mirrored? {
-        ends.push(end)?;
-    }
-    let mut texts = Vec::new(alloc);
-    for number in 0..count {
-        texts.push(board.text(alloc, number.saturating_add(1))?)?;
-    }
-    Ok(Outcome {
-        ends,
-        texts,
-        news: board.text(alloc, 0)?,
-    })
-}
-
-// The servers that follow one another, and the mirror's.
-fn posts_of<R: Host>(
-    alloc: Global,
-    case: &Case,
-    board: &Arc<Board<R>>,
-    count: usize,
-) -> Result<(Vec<Post<R>>, Vec<Post<R>>), Memory> {
-    let mut posts = Vec::new(alloc);
-    let mut mirrors = Vec::new(alloc);
-    let mut number: usize = 1;
-    for server in case.servers.iter() {
-        let mut ends = Vec::new(alloc);
-        for plan in server.plans.iter() {
-            let wire = dialled(case.dials.as_slice(), number, count);
-            ends.push(ends_of(alloc, board, plan, number, wire)?)?;
-            number = number.saturating_add(1);
-        }
-        let post = post_of(server, ends);
-        match post.whose {
-            Whose::Mirror => mirrors.push(post)?,
-            Whose::Own | Whose::Same => posts.push(post)?,
-        }
-    }
-    Ok((posts, mirrors))
-}
-
-// A server that will be given these connections.
-fn post_of<R: Host>(server: &ServerPlan, ends: Vec<CaseEnds<R>>) -> Post<R> {
-    Post {
-        whose: server.whose,
-        workers: server.workers,
-        open: server.open,
-        connections: server.connections,
-        fails: server.fails,
-        ends,
-    }
-}
-
-// The wire on which the mirror asks over a connection, if it dials that.
-fn dialled(dials: &[Option<usize>], number: usize, count: usize) -> Option<usize> {
-    let at = dials.iter().position(|dial| *dial == Some(number))?;
-    Some(at.saturating_add(count).saturating_add(1))
-}
-
-// The ends of the connection with this number; it reads what a wire is written, if one is named.
-fn ends_of<R: Host>(
-    alloc: Global,
-    board: &Arc<Board<R>>,
-    plan: &Plan,
-    number: usize,
-    wire: Option<usize>,
-) -> Result<CaseEnds<R>, Memory> {
-    let source = CaseSource {
-        board: board.clone()?,
-        wire,
-        waits: copies(alloc, plan.waits.as_slice())?,
-        lasts: copies(alloc, plan.lasts.as_slice())?,
-        bytes: Vec::from_slice(alloc, plan.bytes.as_slice())?,
-        at: 0,
-        breaks: plan.reads,
-        faults: 0,
-    };
-    let sink = CaseSink {
-        board: board.clone()?,
-        number,
-        taken: 0,
-        breaks: plan.writes,
-        holds_at: plan.holds_at,
-        holds: copies(alloc, plan.holds.as_slice())?,
-        faults: 0,
-    };
-    let bell = match plan.has_bell {
-        true => Some(Arc::new(alloc, Bell::new())?),
-        false => None,
-    };
-    let times = plan.times.copy(alloc)?;
-    let clock = CaseClock::new(board.clone()?, number, times, bell);
-    Ok((source, sink, clock))
-}
-
-// Serves by servers of new logs, one after the other, and answers how they ended.
-fn serve_posts<R: Host>(rt: R, alloc: Global, posts: Vec<Post<R>>) -> Result<Vec<String>, Memory> {
-    let mut ends = Vec::new(alloc);
-    let count = posts.len();
-    let mut waiting = VecDeque::from(posts);
-    for _ in 0..count {
-        if !waiting.is_empty() {
-            serve_new(rt, alloc, &mut waiting, &mut ends)?;
-        }
-    }
+    ends.push_str(mirrored?.as_str())?;
     Ok(ends)
+}
+
+// Takes the mirror's server, if there is one.
+fn mirror_of(servers: &mut VecDeque<ServerPlan>) -> Option<ServerPlan> {
+    match servers.back() {
+        Some(server) if server.whose == Whose::Mirror => servers.pop_back(),
+        _ => None,
+    }
+}
+
+// Serves by these servers, one after the other, and answers how they ended.
+fn serve_in_turn<R: Host>(
+    alloc: Global,
+    board: &Board<R>,
+    servers: VecDeque<ServerPlan>,
+) -> Result<String, Memory> {
+    let mut told = Wording::new(alloc);
+    serve_logs(alloc, board, servers, &mut told)?;
+    told.whole()
+}
+
+// Serves over one new log after the other.
+fn serve_logs<R: Host>(
+    alloc: Global,
+    board: &Board<R>,
+    servers: VecDeque<ServerPlan>,
+    told: &mut Wording,
+) -> Result<(), Memory> {
+    let mut servers = servers;
+    for _ in 0..servers.len() {
+        if !servers.is_empty() {
+            serve_new(alloc, board, &mut servers, told)?;
+        }
+    }
+    Ok(())
 }
 
 // Serves by the first server, of a new log, and by those of the same log behind it.
 fn serve_new<R: Host>(
-    rt: R,
     alloc: Global,
-    waiting: &mut VecDeque<Post<R>>,
-    ends: &mut Vec<String>,
+    board: &Board<R>,
+    servers: &mut VecDeque<ServerPlan>,
+    told: &mut Wording,
 ) -> Result<(), Memory> {
     let made = blank(alloc, 1)?;
-    serve_on::<Brand, R>(rt, alloc, made, waiting, ends)
+    serve_log::<Brand, R>(alloc, board, made, servers, told)
 }
 
-fn serve_on<N: LogFacts + Send + Sync, R: Host>(
-    rt: R,
+fn serve_log<N: LogFacts + Send + Sync, R: Host>(
     alloc: Global,
+    board: &Board<R>,
     made: Blank<Revision>,
-    waiting: &mut VecDeque<Post<R>>,
-    ends: &mut Vec<String>,
+    servers: &mut VecDeque<ServerPlan>,
+    told: &mut Wording,
 ) -> Result<(), Memory>
     requires name { made ≡ N.log }
     requires base { N.base ≡ [] }
     requires own { N.mirror ≡ false }
     requires window { N.window ≡ 100 }
 {
-    let settings = Settings::usual();
-    let store: Store<N> = Store::new(alloc, made, settings.history)?;
-    let door = StoreDoor::new(rt, store)?;
-    for _ in 0..waiting.len() {
-        let Some(post) = waiting.pop_front() else {
+    let store: Store<N> = Store::new(alloc, made, Settings::usual().history)?;
+    let door = StoreDoor::new(board.rt, store)?;
+    for _ in 0..servers.len() {
+        let Some(server) = servers.pop_front() else {
             return Ok(());
         };
-        ends.push(serve_door(rt, alloc, post, door.again()?)?)?;
-        match waiting.front() {
-            Some(post) if post.whose == Whose::Same => {}
+        serve_over(alloc, board, &door, server, told)?;
+        match servers.front() {
+            Some(next) if next.whose == Whose::Same => {}
             _ => return Ok(()),
         }
     }
     Ok(())
 }
 
-// Serves over caches of the log behind a door, and answers how the server ended.
-fn serve_door<N: LogFacts + Send + Sync, R: Host>(
-    rt: R,
+// Serves by a server over caches of the log behind a door.
+fn serve_over<N: LogFacts + Send + Sync, R: Host>(
     alloc: Global,
-    post: Post<R>,
-    door: StoreDoor<N, R>,
-) -> Result<String, Memory>
+    board: &Board<R>,
+    door: &StoreDoor<N, R>,
+    server: ServerPlan,
+    told: &mut Wording,
+) -> Result<(), Memory>
     requires window { N.window ≡ 100 }
 {
     let settings = Settings::usual();
-    let cacher = Cacher::new(rt, alloc, door, &settings)?;
-    let served = serve_post(rt, alloc, post, &cacher, &settings)?;
-    end_text(alloc, &served)
+    let cacher = Cacher::new(board.rt, alloc, door.again()?, &settings)?;
+    serve(alloc, board, server, &cacher, &settings, told)
 }
 
-// Serves the connections of a server, as the case says: by workers alone, or by helpers too.
-fn serve_post<N: LogFacts + Send + Sync, R: Host>(
-    rt: R,
+// Serves the connections of a server, by workers alone or by helpers too, and tells how it ended.
+fn serve<N: LogFacts + Send + Sync, R: Host>(
     alloc: Global,
-    post: Post<R>,
+    board: &Board<R>,
+    server: ServerPlan,
     cacher: &Cacher<N, R>,
     settings: &Settings,
-) -> Result<Served<CaseListener<R>>, Memory>
+    told: &mut Wording,
+) -> Result<(), Memory>
     requires settings { AreInRange settings.now }
 {
     let mut clock = StillClock;
-    let listener = CaseListener::new(post.ends, post.fails);
-    let workers = post.workers.clamp(1, 64);
-    let connections = post.connections.min(1_000);
-    match post.open {
+    let listener = CaseListener::new(board, server.plans, server.fails);
+    let workers = server.workers.clamp(1, 64);
+    let connections = server.connections.min(1_000);
+    let served = match server.open {
         None => serve_all(
-            &rt,
+            &board.rt,
             alloc,
             listener,
             cacher,
@@ -243,7 +183,7 @@ fn serve_post<N: LogFacts + Send + Sync, R: Host>(
             settings,
         ),
         Some(open) => serve_open(
-            &rt,
+            &board.rt,
             alloc,
             listener,
             cacher,
@@ -253,21 +193,30 @@ fn serve_post<N: LogFacts + Send + Sync, R: Host>(
             connections,
             settings,
         ),
-    }
+    }?;
+    let faults = served.listener.faults;
+    tell_end(
+        served.accepted,
+        served.faulted,
+        faults,
+        served.sessions,
+        told,
+    );
+    Ok(())
 }
 
-/// How a server ended: how many connections it accepted, whether accepting failed, and how many sessions were run.
-pub fn end_text<R: Host>(
-    alloc: Global,
-    served: &Served<CaseListener<R>>,
-) -> Result<String, Memory> {
-    let faults = served.listener.faults();
-    let begun = format!(in alloc;
-        "accepted {} faulted {} faults {}",
-        served.accepted, served.faulted, faults
-    )?;
-    match served.sessions {
-        Some(sessions) => Ok(format!(in alloc; "{} sessions {}", begun.as_str(), sessions)?),
-        None => Ok(begun),
+/// Tells how a server ended: how many connections it accepted, whether accepting failed, how often, and how many
+/// sessions were run.
+pub fn tell_end(
+    accepted: u64,
+    faulted: bool,
+    faults: u64,
+    sessions: Option<u64>,
+    told: &mut Wording,
+) {
+    told.show(&format_args!("accepted {accepted} faulted {faulted} faults {faults}"));
+    if let Some(sessions) = sessions {
+        told.show(&format_args!(" sessions {sessions}"));
     }
+    told.add("\n");
 }

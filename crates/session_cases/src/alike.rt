@@ -3,7 +3,7 @@
 use crate::difference::first_difference;
 use crate::kind::Kind;
 use crate::options::Options;
-use crate::serving::{Outcome, in_pieces};
+use crate::serving::{Outcome, Way, serve};
 use crate::storm::Session;
 use kube_meta::Memory;
 use sess_serve::SessionEnd;
@@ -32,35 +32,61 @@ pub fn look<R: Wait + Copy + Drop>(
     alloc: Global,
     seed: u64,
 ) -> Result<Option<Amiss>, Memory> {
-    let session = Session::drawn(alloc, seed)?;
+    let session = Session::drawn(alloc, seed);
+    if !session.text.is_whole() {
+        return Err(Memory);
+    }
     let options = if session.is_narrow {
         Options::narrow(seed % 4)
     } else {
         Options::usual()
     };
-    let input = session.text.as_slice();
-    let plain = in_pieces(rt, alloc, Kind::Plain, &options, input, PIECE)?;
+    look_at(rt, alloc, &options, session.text.as_slice())
+}
+
+// The same for this session.
+fn look_at<R: Wait + Copy + Drop>(
+    rt: R,
+    alloc: Global,
+    options: &Options,
+    input: &[u8],
+) -> Result<Option<Amiss>, Memory> {
+    let way = Way::in_pieces(PIECE);
+    let plain = serve(rt, alloc, Kind::Plain, options, input, way)?;
     if !is_meant(&plain) {
         return Ok(Some(Amiss::NotMeant));
     }
-    for kind in [Kind::Local, Kind::Shared] {
-        let other = in_pieces(rt, alloc, kind, &options, input, PIECE)?;
-        if let Some(amiss) = compare(kind, &plain, &other) {
-            return Ok(Some(amiss));
-        }
-    }
-    Ok(None)
+    compare_kinds(rt, alloc, options, input, &plain)
+}
+
+// What the other kinds do otherwise than the plain client.
+fn compare_kinds<R: Wait + Copy + Drop>(
+    rt: R,
+    alloc: Global,
+    options: &Options,
+    input: &[u8],
+    plain: &Outcome,
+) -> Result<Option<Amiss>, Memory> {
+    let way = Way::in_pieces(PIECE);
+    let local = compare(
+        Kind::Local,
+        plain,
+        &serve(rt, alloc, Kind::Local, options, input, way)?,
+    );
+    let shared = compare(
+        Kind::Shared,
+        plain,
+        &serve(rt, alloc, Kind::Shared, options, input, way)?,
+    );
+    Ok(local.or(shared))
 }
 
 // What a kind did otherwise than the plain client.
 fn compare(kind: Kind, plain: &Outcome, other: &Outcome) -> Option<Amiss> {
-    if let Some(at) = first_difference(plain.bytes(), other.bytes()) {
-        return Some(Amiss::Differs(kind, at));
-    }
-    if plain.end == other.end {
-        None
-    } else {
-        Some(Amiss::Ends(kind))
+    match first_difference(plain.bytes(), other.bytes()) {
+        Some(at) => Some(Amiss::Differs(kind, at)),
+        None if plain.end != other.end => Some(Amiss::Ends(kind)),
+        None => None,
     }
 }
 

@@ -6,13 +6,12 @@ use crate::kind::Kind;
 use crate::load::Load;
 use crate::options::Options;
 use crate::request::Requests;
-use case_rows::split;
+use case_rows::{says_nothing, split};
 use std::alloc::{AllocError, Global};
 
 /// What a client sends, how the server is set, and what is wanted to come back.
 #[derive(Drop)]
 pub struct Case {
-    pub name: String,
     pub options: Options,
     pub requests: Requests,
     /// The load that is made and served in place of requests.
@@ -45,10 +44,9 @@ struct Other {
 }
 
 impl Case {
-    /// A case with this name, of a client that sends nothing.
-    pub fn new(alloc: Global, name: &str) -> Result<Case, AllocError> {
-        Ok(Case {
-            name: String::from_str(alloc, name)?,
+    /// A case of a client that sends nothing.
+    pub fn new(alloc: Global) -> Case {
+        Case {
             options: Options::usual(),
             requests: Requests::none(alloc),
             load: None,
@@ -58,7 +56,7 @@ impl Case {
             last_at: 0,
             others: Vec::new(alloc),
             left_out: Vec::new(alloc),
-        })
+        }
     }
 
     /// What is wanted of a kind; nothing, where it isn't run with it.
@@ -89,26 +87,19 @@ impl Case {
         (length, is_between)
     }
 
-    /// Takes in a line, and answers whether it is one of a case.
+    /// Takes in a line, and answers whether it is one of a case, or says nothing.
     pub fn take_line(&mut self, line: &str) -> Result<bool, AllocError> {
-        let (word, text) = split(line);
-        if self.set(word, text) {
+        if says_nothing(line) {
             return Ok(true);
         }
+        let (word, text) = split(line);
         match word {
+            "settings" => Ok(self.options.take(text)),
+            "load" => Ok(self.make_load(text)),
             "breaks" => self.break_off(text),
             "without" => self.leave_out(text),
             "otherwise" => self.begin_other(text),
             _ => self.take_text(word, text),
-        }
-    }
-
-    // How the server is set, and what is done.
-    fn set(&mut self, word: &str, text: &str) -> bool {
-        match word {
-            "settings" => self.options.take(text),
-            "load" => self.make_load(text),
-            _ => false,
         }
     }
 
@@ -141,7 +132,7 @@ impl Case {
         let Some(kind) = with_reason(text) else {
             return Ok(false);
         };
-        let answer = self.answer.beginning(self.last_at)?;
+        let answer = self.answer.beginning(self.last_at);
         self.others.push(Other { kind, answer })?;
         Ok(true)
     }
@@ -149,14 +140,14 @@ impl Case {
     // Takes in a line of what is sent or comes back. Nothing more is sent once a kind answers otherwise.
     fn take_text(&mut self, word: &str, text: &str) -> Result<bool, AllocError> {
         if let Some(other) = self.others.last_mut() {
-            return other.answer.take_line(word, text);
+            return Ok(other.answer.take_line(word, text));
         }
         let begin = Begin {
             sent: self.requests.bytes.len(),
             answered: self.answer.bytes.len(),
         };
-        if !self.requests.take_line(word, text)? {
-            return self.answer.take_line(word, text);
+        if !self.requests.take_line(word, text) {
+            return Ok(self.answer.take_line(word, text));
         }
         self.last_at = begin.answered;
         if word == "request" {

@@ -1,6 +1,6 @@
 //! The first place at which two texts differ.
 
-use std::alloc::{AllocError, Global};
+use case_rows::Wording;
 
 /// How much is shown before that place, and from it on.
 const BEFORE: usize = 40;
@@ -22,10 +22,13 @@ pub fn first_difference(wanted: &[u8], given: &[u8]) -> Option<usize> {
     }
 }
 
-/// What stands around a place.
-pub fn around(alloc: Global, bytes: &[u8], at: usize) -> Result<String, AllocError> {
+/// Tells what stands around a place.
+pub fn tell_around(bytes: &[u8], at: usize, told: &mut Wording) {
     let from = at.saturating_sub(BEFORE).min(bytes.len());
     let to = at.saturating_add(BEHIND).min(bytes.len());
     let part = bytes.get(from..to).unwrap_or(b"");
-    String::from_utf8_lossy(alloc, part)
+    match str::from_utf8(part) {
+        Ok(text) => told.add(text),
+        Err(_) => told.debug(&part),
+    }
 }

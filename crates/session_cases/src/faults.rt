@@ -3,10 +3,8 @@
 use crate::answer::Answer;
 use crate::case::Case;
 use crate::kind::Kind;
-use crate::serving::{Ends, Outcome, serve};
-use crate::sink::CaseSink;
+use crate::serving::{Outcome, Way, serve};
 use case_rows::{number, split};
-use edge_io::MemSource;
 use kube_meta::Memory;
 use sess_serve::SessionEnd;
 use std::alloc::Global;
@@ -31,11 +29,14 @@ pub enum Breaks {
 /// The most bytes that are read or written at once where that doesn't matter.
 const PIECE: usize = 65_536;
 
-/// How a session is to come out that breaks off at one place: its end, and how much of the answer it writes.
+/// A session that breaks off at one place: how much of its input there is, how it goes through its ends, and how it is
+/// to come out: its end, and how much of the answer it writes.
 #[derive(Clone, Copy)]
 struct BrokenOff {
-    length: usize,
+    sent: usize,
+    way: Way,
     end: SessionEnd,
+    length: usize,
 }
 
 impl Breaks {
@@ -45,16 +46,19 @@ impl Breaks {
         match end {
             "input" => Some(Breaks::Input),
             "source" => Some(Breaks::Source),
-            "sink" => {
-                let (step, every) = split(step);
-                let (every, only) = split(every);
-                Some(Breaks::Sink {
-                    step: number(step) as usize,
-                    every: (number(every) as usize).max(1),
-                    only: Kind::named(only),
-                })
-            }
+            "sink" => Some(Breaks::of_sink(step)),
             _ => None,
+        }
+    }
+
+    // What words behind `sink` name.
+    fn of_sink(words: &str) -> Breaks {
+        let (step, words) = split(words);
+        let (every, only) = split(words);
+        Breaks::Sink {
+            step: number(step) as usize,
+            every: (number(every) as usize).max(1),
+            only: Kind::named(only),
         }
     }
 
@@ -77,109 +81,6 @@ impl Breaks {
             _ => true,
         }
     }
-
-    // How a case is to come out at each place where it may break off.
-    fn places<R: Wait + Copy + Drop>(
-        self,
-        rt: R,
-        alloc: Global,
-        kind: Kind,
-        case: &Case,
-        answer: &Answer,
-    ) -> Result<Vec<BrokenOff>, Memory> {
-        match self {
-            Breaks::Input => cut_short(alloc, case, answer),
-            Breaks::Source => read_faults(alloc, case, answer),
-            Breaks::Sink { step, every, .. } => write_faults(rt, alloc, kind, case, step, every),
-        }
-    }
-
-    // The ends of a session that breaks off at this place.
-    fn ends(self, alloc: Global, case: &Case, at: usize) -> Result<Ends, Memory> {
-        let whole = case.requests.bytes.as_slice();
-        let (mut input, mut read, mut fails) = (whole, PIECE, Vec::new(alloc));
-        let mut sink = CaseSink::new(alloc, PIECE);
-        match self {
-            Breaks::Input => input = whole.get(..at).unwrap_or(whole),
-            Breaks::Source => {
-                read = 1;
-                fails.push(at as u64)?;
-            }
-            Breaks::Sink { step, every, .. } => {
-                sink = CaseSink::failing(alloc, step, at.saturating_mul(every))?;
-            }
-        }
-        Ok(Ends {
-            source: MemSource::new(input.to_vec(alloc)?, read.max(1), fails),
-            sink,
-            clock: case.options.clock(),
-        })
-    }
-}
-
-// The input ends behind each number of its bytes: what was asked whole is answered.
-fn cut_short(alloc: Global, case: &Case, answer: &Answer) -> Result<Vec<BrokenOff>, Memory> {
-    let mut places = Vec::new(alloc);
-    for sent in 0..case.requests.bytes.len().saturating_add(1) {
-        let (length, is_between) = case.answered(answer, sent);
-        let end = if is_between {
-            SessionEnd::Done
-        } else {
-            SessionEnd::CutShort
-        };
-        places.push(BrokenOff { length, end })?;
-    }
-    Ok(places)
-}
-
-// The source fails behind each number of the input's bytes: what was asked whole is answered.
-fn read_faults(alloc: Global, case: &Case, answer: &Answer) -> Result<Vec<BrokenOff>, Memory> {
-    let end = SessionEnd::ReadFault;
-    let mut places = Vec::new(alloc);
-    for sent in 0..case.requests.bytes.len().saturating_add(1) {
-        let (length, _) = case.answered(answer, sent);
-        places.push(BrokenOff { length, end })?;
-    }
-    Ok(places)
-}
-
-// The sink fails at the first of each so many calls: what the calls before wrote is written.
-fn write_faults<R: Wait + Copy + Drop>(
-    rt: R,
-    alloc: Global,
-    kind: Kind,
-    case: &Case,
-    step: usize,
-    every: usize,
-) -> Result<Vec<BrokenOff>, Memory> {
-    let ends = Ends {
-        source: MemSource::new(
-            case.requests.bytes.as_slice().to_vec(alloc)?,
-            PIECE,
-            Vec::new(alloc),
-        ),
-        sink: CaseSink::noting(alloc, step),
-        clock: case.options.clock(),
-    };
-    let whole = serve(rt, alloc, kind, &case.options, ends)?;
-    let end = SessionEnd::WriteFault;
-    let mut places = Vec::new(alloc);
-    for length in whole.before_calls().iter().step_by(every.max(1)) {
-        places.push(BrokenOff {
-            length: *length,
-            end,
-        })?;
-    }
-    Ok(places)
-}
-
-impl BrokenOff {
-    // Whether a session came out so.
-    fn is(&self, answer: &Answer, outcome: &Outcome) -> bool {
-        outcome.end == self.end
-            && outcome.bytes().len() == self.length
-            && answer.bytes.as_slice().starts_with(outcome.bytes())
-    }
 }
 
 /// The first place at which a case that breaks off there doesn't come out as it is wanted.
@@ -191,13 +92,131 @@ pub fn first_amiss<R: Wait + Copy + Drop>(
     answer: &Answer,
     breaks: Breaks,
 ) -> Result<Option<usize>, Memory> {
-    let places = breaks.places(rt, alloc, kind, case, answer)?;
-    for (at, wanted) in places.iter().enumerate() {
-        let ends = breaks.ends(alloc, case, at)?;
-        let outcome = serve(rt, alloc, kind, &case.options, ends)?;
-        if !wanted.is(answer, &outcome) {
+    match breaks {
+        Breaks::Sink { step, every, .. } => {
+            let way = written_by(step);
+            let whole = case.requests.bytes.as_slice();
+            let noted = serve(rt, alloc, kind, &case.options, whole, way)?;
+            first_call(
+                rt,
+                alloc,
+                kind,
+                case,
+                answer,
+                (way, every),
+                noted.before_calls(),
+            )
+        }
+        _ => first_sent(rt, alloc, kind, case, answer, breaks),
+    }
+}
+
+// A way that takes so many bytes in a call of the sink.
+fn written_by(step: usize) -> Way {
+    Way {
+        write: step,
+        ..Way::in_pieces(PIECE)
+    }
+}
+
+// Behind each number of the input's bytes.
+fn first_sent<R: Wait + Copy + Drop>(
+    rt: R,
+    alloc: Global,
+    kind: Kind,
+    case: &Case,
+    answer: &Answer,
+    breaks: Breaks,
+) -> Result<Option<usize>, Memory> {
+    for sent in 0..case.requests.bytes.len().saturating_add(1) {
+        let broken = BrokenOff::behind(breaks, case, answer, sent);
+        if !broken.is_met(rt, alloc, kind, case, answer)? {
+            return Ok(Some(sent));
+        }
+    }
+    Ok(None)
+}
+
+// At the first of each so many calls of the sink.
+fn first_call<R: Wait + Copy + Drop>(
+    rt: R,
+    alloc: Global,
+    kind: Kind,
+    case: &Case,
+    answer: &Answer,
+    (way, every): (Way, usize),
+    before_calls: &[usize],
+) -> Result<Option<usize>, Memory> {
+    let sent = case.requests.bytes.len();
+    for (at, length) in before_calls.iter().step_by(every.max(1)).enumerate() {
+        let broken = BrokenOff::at_call(sent, way, at.saturating_mul(every), *length);
+        if !broken.is_met(rt, alloc, kind, case, answer)? {
             return Ok(Some(at));
         }
     }
     Ok(None)
+}
+
+impl BrokenOff {
+    // Behind so many bytes of the input, which ends there or fails: what was asked whole is answered.
+    fn behind(breaks: Breaks, case: &Case, answer: &Answer, sent: usize) -> BrokenOff {
+        let (length, is_between) = case.answered(answer, sent);
+        match breaks {
+            Breaks::Source => BrokenOff {
+                sent: case.requests.bytes.len(),
+                way: Way {
+                    read: 1,
+                    read_fault: Some(sent),
+                    ..Way::in_pieces(PIECE)
+                },
+                end: SessionEnd::ReadFault,
+                length,
+            },
+            _ => BrokenOff {
+                sent,
+                way: Way::in_pieces(PIECE),
+                end: if is_between {
+                    SessionEnd::Done
+                } else {
+                    SessionEnd::CutShort
+                },
+                length,
+            },
+        }
+    }
+
+    // At a call of the sink: what the calls before wrote is written.
+    fn at_call(sent: usize, way: Way, call: usize, length: usize) -> BrokenOff {
+        BrokenOff {
+            sent,
+            way: Way {
+                write_fault: Some(call),
+                ..way
+            },
+            end: SessionEnd::WriteFault,
+            length,
+        }
+    }
+
+    // Whether a case comes out so.
+    fn is_met<R: Wait + Copy + Drop>(
+        self,
+        rt: R,
+        alloc: Global,
+        kind: Kind,
+        case: &Case,
+        answer: &Answer,
+    ) -> Result<bool, Memory> {
+        let whole = case.requests.bytes.as_slice();
+        let input = whole.get(..self.sent).unwrap_or(whole);
+        let outcome = serve(rt, alloc, kind, &case.options, input, self.way)?;
+        Ok(self.is(answer, &outcome))
+    }
+
+    // Whether a session came out so.
+    fn is(self, answer: &Answer, outcome: &Outcome) -> bool {
+        outcome.end == self.end
+            && outcome.bytes().len() == self.length
+            && answer.bytes.as_slice().starts_with(outcome.bytes())
+    }
 }

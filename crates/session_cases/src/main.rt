@@ -9,10 +9,10 @@
 
 mod alike;
 mod answer;
+mod bytes;
 mod case;
 mod clock;
 mod difference;
-mod ends;
 mod faults;
 mod kind;
 mod load;
@@ -26,10 +26,11 @@ mod trying;
 mod wanted;
 
 use alike::{Amiss, look};
+use answer::Answer;
 use case::Case;
-use case_rows::{Tally, says_nothing};
+use case_rows::Tally;
 use kind::Kind;
-use std::alloc::{AllocError, Global};
+use std::alloc::Global;
 use std::env::Env;
 use std::rt::Runtime;
 use std::sync::Wait;
@@ -56,15 +57,11 @@ fn run_files<R: Runtime + Env + Wait + Copy + Drop>(
     for file in env::args(&rt)?.skip(1) {
         run_file(rt, alloc, kind, file.as_str(), &mut tally)?;
     }
-    println!(rt;
-        "{}: {} cases, {} come out otherwise",
-        kind.word(),
-        tally.rows,
-        tally.mismatches
-    )
+    let (word, cases, others) = (kind.word(), tally.rows, tally.mismatches);
+    println!(rt; "{word}: {cases} cases, {others} come out otherwise")
 }
 
-/// Runs the cases of one file.
+/// Runs the cases of one file. Each begins with a line `case NAME`.
 fn run_file<R: Runtime + Wait + Copy + Drop>(
     rt: R,
     alloc: Global,
@@ -73,47 +70,59 @@ fn run_file<R: Runtime + Wait + Copy + Drop>(
     tally: &mut Tally,
 ) -> io::Result<()> {
     let text = fs::read_to_string(&rt, file)?;
-    let mut case = None;
-    for line in text.as_str().lines() {
-        if let Some(name) = line.strip_prefix("case ") {
-            finish(rt, alloc, kind, case, tally)?;
-            case = Some(Case::new(alloc, name)?);
-        } else if !take_line(&mut case, line)? {
+    for case in text.as_str().split("\ncase ").skip(1) {
+        run_case(rt, alloc, kind, file, case, tally)?;
+    }
+    Ok(())
+}
+
+/// Runs a case: its name, and its lines.
+fn run_case<R: Runtime + Wait + Copy + Drop>(
+    rt: R,
+    alloc: Global,
+    kind: Kind,
+    file: &str,
+    text: &str,
+    tally: &mut Tally,
+) -> io::Result<()> {
+    let (name, lines) = text.split_once('\n').unwrap_or((text, ""));
+    let mut case = Case::new(alloc);
+    read(rt, file, lines, &mut case, tally)?;
+    match case.answer_of(kind) {
+        Some(answer) => try_case(rt, alloc, (kind, name), &case, answer, tally),
+        None => Ok(()),
+    }
+}
+
+/// Tries a case that was read whole, and counts it.
+fn try_case<R: Runtime + Wait + Copy + Drop>(
+    rt: R,
+    alloc: Global,
+    (kind, name): (Kind, &str),
+    case: &Case,
+    answer: &Answer,
+    tally: &mut Tally,
+) -> io::Result<()> {
+    let report = comes_out(rt, alloc, kind, name, case, answer)?;
+    tally.count(report.is_empty());
+    print!(rt; "{}", report.as_str())
+}
+
+/// Reads the lines of a case. Those that are none are printed, and count as a case that comes out otherwise.
+fn read<R: Runtime>(
+    rt: R,
+    file: &str,
+    lines: &str,
+    case: &mut Case,
+    tally: &mut Tally,
+) -> io::Result<()> {
+    for line in lines.lines() {
+        if !case.take_line(line)? {
             println!(rt; "{file}: no line of a case: {line}")?;
             tally.count(false);
         }
     }
-    finish(rt, alloc, kind, case, tally)
-}
-
-/// Whether a line is one of the case, or says nothing.
-fn take_line(case: &mut Option<Case>, line: &str) -> Result<bool, AllocError> {
-    if says_nothing(line) {
-        return Ok(true);
-    }
-    match case {
-        Some(case) => case.take_line(line),
-        None => Ok(false),
-    }
-}
-
-/// Serves a case that was read whole, and counts it.
-fn finish<R: Runtime + Wait + Copy + Drop>(
-    rt: R,
-    alloc: Global,
-    kind: Kind,
-    case: Option<Case>,
-    tally: &mut Tally,
-) -> io::Result<()> {
-    let Some(case) = case else {
-        return Ok(());
-    };
-    let Some(answer) = case.answer_of(kind) else {
-        return Ok(());
-    };
-    let report = comes_out(rt, alloc, kind, &case, answer)?;
-    tally.count(report.is_empty());
-    print!(rt; "{}", report.as_str())
+    Ok(())
 }
 
 /// Serves the drawn sessions with each kind, and compares.

@@ -1,15 +1,15 @@
 //! What a client sends, line by line.
 
+use crate::bytes::Bytes;
 use case_rows::{plain, split};
-use itoa::Buffer;
-use std::alloc::{AllocError, Global};
+use std::alloc::Global;
 
 /// The bytes that are sent.
 #[derive(Drop)]
 pub struct Requests {
-    pub bytes: Vec<u8>,
+    pub bytes: Bytes,
     // The fields of the next request.
-    fields: String,
+    fields: Bytes,
     alloc: Global,
 }
 
@@ -17,55 +17,55 @@ impl Requests {
     /// Nothing.
     pub fn none(alloc: Global) -> Requests {
         Requests {
-            bytes: Vec::new(alloc),
-            fields: String::new(alloc),
+            bytes: Bytes::none(alloc),
+            fields: Bytes::none(alloc),
             alloc,
         }
     }
 
+    /// Whether there was memory for all of it.
+    pub fn is_whole(&self) -> bool {
+        self.bytes.is_whole() && self.fields.is_whole()
+    }
+
     /// Takes in a line of what is sent, and answers whether it is one.
-    pub fn take_line(&mut self, word: &str, text: &str) -> Result<bool, AllocError> {
+    pub fn take_line(&mut self, word: &str, text: &str) -> bool {
         match word {
-            "field" => self.put_field(text)?,
-            "request" => self.put_request(text)?,
-            "bytes" => self
-                .bytes
-                .extend_from_slice(plain(self.alloc, text)?.as_bytes())?,
-            _ => return Ok(false),
+            "field" => self.put_field(text),
+            "request" => self.put_request(text),
+            "bytes" => self.bytes.add_made(&plain(self.alloc, text)),
+            _ => return false,
         }
-        Ok(true)
+        true
     }
 
     // A field of the next request.
-    fn put_field(&mut self, field: &str) -> Result<(), AllocError> {
-        self.fields.push_str(field)?;
-        self.fields.push_str("\r\n")
+    fn put_field(&mut self, field: &str) {
+        self.fields.add(field);
+        self.fields.add("\r\n");
     }
 
     // A request: its method, its target, and its body, where it has one. A POST and a PUT tell the body's length.
-    fn put_request(&mut self, text: &str) -> Result<(), AllocError> {
+    fn put_request(&mut self, text: &str) {
         let (method, rest) = split(text);
         let (target, body) = split(rest);
-        self.put(&[method, " ", target, " HTTP/1.1\r\nHost: x\r\n"])?;
-        self.bytes.extend_from_slice(self.fields.as_bytes())?;
+        self.bytes.add(method);
+        self.bytes.add(" ");
+        self.bytes.add(target);
+        self.bytes.add(" HTTP/1.1\r\nHost: x\r\n");
+        self.bytes.put(self.fields.as_slice());
         self.fields.clear();
         if method == "POST" || method == "PUT" || !body.is_empty() {
-            self.put_length(body.len())?;
+            self.put_length(body.len() as u64);
         }
-        self.put(&["\r\n", body])
+        self.bytes.add("\r\n");
+        self.bytes.add(body);
     }
 
     // The field that tells a body's length.
-    fn put_length(&mut self, length: usize) -> Result<(), AllocError> {
-        let mut digits = Buffer::new();
-        self.put(&["Content-Length: ", digits.format(length), "\r\n"])
-    }
-
-    // Texts, one after the other.
-    fn put(&mut self, texts: &[&str]) -> Result<(), AllocError> {
-        for text in texts {
-            self.bytes.extend_from_slice(text.as_bytes())?;
-        }
-        Ok(())
+    fn put_length(&mut self, length: u64) {
+        self.bytes.add("Content-Length: ");
+        self.bytes.number(length);
+        self.bytes.add("\r\n");
     }
 }

@@ -22,30 +22,71 @@ use std::sync::Wait;
 use up_api::{LogFacts, Settings};
 use up_store::{Store, StoreDoor};
 
+/// How a session goes through its ends: the most bytes that are read and written at once, and the calls, from 0, at
+/// which its source and its sink fail.
+#[derive(Clone, Copy)]
+pub struct Way {
+    pub read: usize,
+    pub write: usize,
+    pub read_fault: Option<usize>,
+    pub write_fault: Option<usize>,
+}
+
+impl Way {
+    /// In pieces of so many bytes, and no call fails.
+    pub fn in_pieces(step: usize) -> Way {
+        Way {
+            read: step,
+            write: step,
+            read_fault: None,
+            write_fault: None,
+        }
+    }
+
+    // The ends of a session with this input.
+    fn ends(self, alloc: Global, options: &Options, input: &[u8]) -> Result<Ends, Memory> {
+        let read_faults = calls(alloc, self.read_fault)?;
+        Ok(Ends {
+            source: MemSource::new(input.to_vec(alloc)?, self.read.max(1), read_faults),
+            sink: CaseSink::new(alloc, self.write, calls(alloc, self.write_fault)?),
+            clock: options.clock(),
+        })
+    }
+}
+
+// The number of a call, where there is one.
+fn calls(alloc: Global, call: Option<usize>) -> Result<Vec<u64>, Memory> {
+    let mut calls = Vec::new(alloc);
+    if let Some(call) = call {
+        calls.push(call as u64)?;
+    }
+    Ok(calls)
+}
+
 /// Where a session is read from, where it is written to, and by which clock it goes.
 #[derive(Drop)]
-pub struct Ends {
-    pub source: MemSource,
-    pub sink: CaseSink,
-    pub clock: CaseClock,
+struct Ends {
+    source: MemSource,
+    sink: CaseSink,
+    clock: CaseClock,
 }
 
 /// What came of a session: its end, and what was written.
 #[derive(Drop)]
 pub struct Outcome {
     pub end: SessionEnd,
-    sink: CaseSink,
+    ends: Ends,
 }
 
 impl Outcome {
     /// What was written.
     pub fn bytes(&self) -> &[u8] {
-        self.sink.bytes()
+        self.ends.sink.bytes()
     }
 
-    /// How much was written before each call of the sink, where it noted that.
+    /// How much was written before each call of the sink.
     pub fn before_calls(&self) -> &[usize] {
-        self.sink.before_calls()
+        self.ends.sink.before_calls()
     }
 }
 
@@ -55,25 +96,31 @@ pub fn serve<R: Wait + Copy + Drop>(
     alloc: Global,
     kind: Kind,
     options: &Options,
-    mut ends: Ends,
+    input: &[u8],
+    way: Way,
 ) -> Result<Outcome, Memory> {
+    let mut ends = way.ends(alloc, options, input)?;
+    let end = serve_through(rt, alloc, kind, options, &mut ends)?;
+    Ok(Outcome { end, ends })
+}
+
+// Serves it through these ends.
+fn serve_through<R: Wait + Copy + Drop>(
+    rt: R,
+    alloc: Global,
+    kind: Kind,
+    options: &Options,
+    ends: &mut Ends,
+) -> Result<SessionEnd, Memory> {
     let settings = options.settings();
     let first = options.first_revision();
-    let end = match kind {
-        Kind::Plain => serve_plain(alloc, first, &settings, &mut ends),
-        Kind::Local => serve_local::<Brand>(alloc, blank(alloc, first)?, &settings, &mut ends)?,
-        Kind::Shared => serve_shared::<Brand, R>(
-            rt,
-            alloc,
-            blank(alloc, first)?,
-            &settings,
-            &mut ends,
-        )?,
-    };
-    Ok(Outcome {
-        end,
-        sink: ends.sink,
-    })
+    match kind {
+        Kind::Plain => Ok(serve_plain(alloc, first, &settings, ends)),
+        Kind::Local => serve_local::<Brand>(alloc, blank(alloc, first)?, &settings, ends),
+        Kind::Shared => {
+            serve_shared::<Brand, R>(rt, alloc, blank(alloc, first)?, &settings, ends)
+        }
+    }
 }
 
 // Serves it with a plain client.
@@ -82,8 +129,8 @@ fn serve_plain(alloc: Global, first: u64, settings: &Settings, ends: &mut Ends) 
     requires settings { AreInRange settings.now }
 {
     let (history, window) = (settings.history, settings.window as u64);
-    let mut client = PlainClient::new(alloc, first, history, window);
-    serve_with(alloc, &mut client, settings, ends)
+    let client = PlainClient::new(alloc, first, history, window);
+    serve_by(alloc, client, settings, ends)
 }
 
 // Serves it with a local client.
@@ -134,10 +181,21 @@ fn serve_one_of<N: LogFacts, R: Wait + Copy + Drop>(
 ) -> Result<SessionEnd, Memory>
     requires settings { AreInRange settings.now }
 {
-    let mut client = cacher.client()?;
-    let end = serve_with(alloc, &mut client, settings, ends);
-    drop(client);
-    Ok(end)
+    Ok(serve_by(alloc, cacher.client()?, settings, ends))
+}
+
+// Serves it with this client, which is let go.
+fn serve_by<C: Client + Drop>(
+    alloc: Global,
+    client: C,
+    settings: &Settings,
+    ends: &mut Ends,
+) -> SessionEnd
+    requires idle { (C.facts client).watching ≡ None }
+    requires settings { AreInRange settings.now }
+{
+    let mut client = client;
+    serve_with(alloc, &mut client, settings, ends)
 }
 
 // Serves it with this client.
@@ -156,22 +214,4 @@ fn serve_with<C: Client>(
         clock,
     } = ends;
     serve_session(alloc, client, source, sink, clock, settings)
-}
-
-/// Serves a session in pieces of so many bytes.
-pub fn in_pieces<R: Wait + Copy + Drop>(
-    rt: R,
-    alloc: Global,
-    kind: Kind,
-    options: &Options,
-    input: &[u8],
-    step: usize,
-) -> Result<Outcome, Memory> {
-    let step = step.max(1);
-    let ends = Ends {
-        source: MemSource::new(input.to_vec(alloc)?, step, Vec::new(alloc)),
-        sink: CaseSink::new(alloc, step),
-        clock: options.clock(),
-    };
-    serve(rt, alloc, kind, options, ends)
 }

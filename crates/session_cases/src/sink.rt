@@ -3,44 +3,22 @@
 ghost use Rattle.std.specs.Prelude.{◌≡◌, None, ⊤};
 
 use edge_io::{Failed, MemSink, Sink};
-use std::alloc::{AllocError, Global};
+use std::alloc::Global;
 
-/// A sink in memory. It may note how much was written before each of its calls.
+/// A sink in memory, which notes how much was written before each of its calls.
 #[derive(Drop)]
 pub struct CaseSink {
     sink: MemSink,
-    is_noting: bool,
     before_calls: Vec<usize>,
 }
 
 impl CaseSink {
-    /// A sink that takes at most so many bytes in a call.
-    pub fn new(alloc: Global, step: usize) -> CaseSink {
+    /// A sink that takes at most so many bytes in a call, and fails at the calls of these numbers, from 0.
+    pub fn new(alloc: Global, step: usize, fails: Vec<u64>) -> CaseSink {
         CaseSink {
-            sink: MemSink::new(step.max(1), Vec::new(alloc)),
-            is_noting: false,
-            before_calls: Vec::new(alloc),
-        }
-    }
-
-    /// The same, which notes how much was written before each of its calls.
-    pub fn noting(alloc: Global, step: usize) -> CaseSink {
-        CaseSink {
-            sink: MemSink::new(step.max(1), Vec::new(alloc)),
-            is_noting: true,
-            before_calls: Vec::new(alloc),
-        }
-    }
-
-    /// The same, which fails at the call of this number, from 0.
-    pub fn failing(alloc: Global, step: usize, call: usize) -> Result<CaseSink, AllocError> {
-        let mut fails = Vec::new(alloc);
-        fails.push(call as u64)?;
-        Ok(CaseSink {
             sink: MemSink::new(step.max(1), fails),
-            is_noting: false,
             before_calls: Vec::new(alloc),
-        })
+        }
     }
 
     /// What was written.
@@ -48,19 +26,17 @@ impl CaseSink {
         self.sink.bytes()
     }
 
-    /// How much was written before each of its calls, as far as it noted them.
+    /// How much was written before each of its calls, as far as there was memory to note it.
     pub fn before_calls(&self) -> &[usize] {
         self.before_calls.as_slice()
     }
 
-    // Notes how much was written. Once there is no memory for that, it notes no more.
+    // Notes how much was written.
     fn note(&mut self)
         ensures { self.new.sink ≡ self.old.sink }
     {
-        if self.is_noting {
-            let written = self.sink.bytes().len();
-            self.is_noting = self.before_calls.push(written).is_ok();
-        }
+        let written = self.sink.bytes().len();
+        let _ = self.before_calls.push(written);
     }
 }
 

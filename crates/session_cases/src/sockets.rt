@@ -10,30 +10,37 @@ pub fn reads_back(alloc: Global, answer: &Answer, output: &[u8]) -> bool {
     let Some(at) = answer.socket_at else {
         return true;
     };
-    let Some((_head, reader)) = output.split_at_checked(at) else {
-        return false;
-    };
+    match (
+        output.split_at_checked(at),
+        str::from_utf8(answer.messages.as_slice()),
+    ) {
+        (Some((_head, frames)), Ok(messages)) => reads(alloc, frames, messages),
+        _ => false,
+    }
+}
+
+// Whether a client reads these messages, each of which a line feed ends, and behind them a normal close.
+fn reads(alloc: Global, frames: &[u8], messages: &str) -> bool {
     let stream = Duplex {
-        reader,
+        reader: frames,
         writer: Vec::new(alloc),
     };
     let mut socket = WebSocket::from_raw_socket(alloc, stream, NoMask, Role::Client, None);
-    for line in answer.messages.as_slice() {
-        if !is_text(socket.read(), line.as_str()) {
-            return false;
-        }
+    let mut is_read = true;
+    for line in messages.lines() {
+        is_read = is_text(&socket.read(), line) && is_read;
     }
-    is_normal_close(socket.read())
+    is_normal_close(&socket.read()) && is_read
 }
 
-fn is_text(message: Result<Message, Error>, line: &str) -> bool {
+fn is_text(message: &Result<Message, Error>, line: &str) -> bool {
     match message {
         Ok(Message::Text(text)) => text.as_str() == line,
         _ => false,
     }
 }
 
-fn is_normal_close(message: Result<Message, Error>) -> bool {
+fn is_normal_close(message: &Result<Message, Error>) -> bool {
     match message {
         Ok(Message::Close(Some(frame))) => frame.code == CloseCode::Normal,
         _ => false,

@@ -13,8 +13,7 @@ mod storm;
 
 use case_rows::{Lines, Tally};
 use client_cases::Start;
-use kube_meta::Memory;
-use play::{Cast, Stage, play};
+use play::Stage;
 use rev_front::{Blank, blank};
 use rev_log::Revision;
 use shared_client::Cacher;
@@ -48,16 +47,15 @@ fn run_file<R: Host>(rt: R, alloc: Global, file: &str, tally: &mut Tally) -> io:
         .split_once('\n')
         .unwrap_or((text.as_str(), ""));
     let settings = Start::read(first).settings();
-    let made = blank(alloc, 1)?;
     let rows = Lines {
         file,
         first: 2,
         text: rows,
     };
-    run_script::<Brand, R>(rt, alloc, made, &settings, rows, tally)
+    run_script::<Brand, R>(rt, alloc, blank(alloc, 1)?, &settings, rows, tally)
 }
 
-/// Runs the rows of a script, on a store, a second door to it, and caches of it.
+/// Runs the rows of a script on a new store.
 fn run_script<N: LogFacts + Send + Sync, R: Host>(
     rt: R,
     alloc: Global,
@@ -72,34 +70,40 @@ fn run_script<N: LogFacts + Send + Sync, R: Host>(
     requires window { N.window ≡ settings.now.window }
     requires settings { AreInRange settings.now }
 {
-    let (cacher, door) = open::<N, R>(rt, alloc, made, settings)?;
-    let stage = Stage {
-        rt,
-        alloc,
-        cacher: &cacher,
-        door: &door,
-        noted: door.reads(),
-    };
-    let mut cast = Cast::new(alloc);
-    play(&stage, &mut cast, rows, tally)
+    let store: Store<N> = Store::new(alloc, made, settings.history)?;
+    let door = StoreDoor::new(rt, store)?;
+    run_rows_on(rt, alloc, &door, settings, rows, tally)
 }
 
-/// The caches of a new store, and a second door to it.
-fn open<N: LogFacts, R: Host>(
+/// Runs the rows of a script on caches of the store behind this door.
+fn run_rows_on<N: LogFacts + Send + Sync, R: Host>(
     rt: R,
     alloc: Global,
-    made: Blank<Revision>,
+    door: &StoreDoor<N, R>,
     settings: &Settings,
-) -> Result<(Cacher<N, R>, StoreDoor<N, R>), Memory>
-    requires name { made ≡ N.log }
-    requires base { N.base ≡ [] }
-    requires own { N.mirror ≡ false }
+    rows: Lines<'_>,
+    tally: &mut Tally,
+) -> io::Result<()>
     requires window { N.window ≡ settings.now.window }
     requires settings { AreInRange settings.now }
 {
-    let store: Store<N> = Store::new(alloc, made, settings.history)?;
-    let door = StoreDoor::new(rt, store)?;
-    let second = door.again()?;
-    let cacher = Cacher::new(rt, alloc, door, settings)?;
-    Ok((cacher, second))
+    let cacher = Cacher::new(rt, alloc, door.again()?, settings)?;
+    let played = play_rows(rt, alloc, &cacher, door, rows, tally);
+    cacher.close();
+    played
+}
+
+/// Plays the rows of a script by clients of these caches.
+fn play_rows<N: LogFacts + Send + Sync, R: Host>(
+    rt: R,
+    alloc: Global,
+    cacher: &Cacher<N, R>,
+    door: &StoreDoor<N, R>,
+    rows: Lines<'_>,
+    tally: &mut Tally,
+) -> io::Result<()> {
+    let mut stage = Stage::new(rt, alloc, cacher, door);
+    let played = stage.play(alloc, rows, tally);
+    stage.close();
+    played
 }

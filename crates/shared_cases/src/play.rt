@@ -1,4 +1,4 @@
-//! A script as it is played: its store and caches, its clients, and its rows.
+//! A script as it is played: its store and caches, its clients, and its steps.
 
 use crate::Host;
 use crate::storm::weather;
@@ -12,76 +12,130 @@ use std::io;
 use up_api::LogFacts;
 use up_store::StoreDoor;
 
-/// What all clients of a script share: the caches, and a door to the store, whose reads are counted from `noted` on.
+/// What all clients of a script share: the caches, and a door to the store, whose reads are counted from `noted` on;
+/// and the clients, by the names that its steps give them.
 #[derive(Drop)]
-pub struct Stage<'a, N: LogFacts, R: Host> {
-    pub rt: R,
-    pub alloc: Global,
-    pub cacher: &'a Cacher<N, R>,
-    pub door: &'a StoreDoor<N, R>,
-    pub noted: u64,
-}
-
-/// The clients of a script, by the names that its steps give them.
-#[derive(Drop)]
-pub struct Cast<C: Client> {
+pub struct Stage<'a, N: LogFacts, R: Host, C: Client> {
+    rt: R,
+    cacher: &'a Cacher<N, R>,
+    door: &'a StoreDoor<N, R>,
+    noted: u64,
     names: Vec<String>,
     seats: Vec<Seat<C>>,
 }
 
-impl<C: Client> Cast<C> {
+impl<N: LogFacts, R: Host, C: Client + Drop> Stage<'_, N, R, C> {
+    /// Lets the clients go.
+    pub fn close(self) {
+        drop(self);
+    }
+}
+
+impl<'a, N: LogFacts, R: Host> Stage<'a, N, R, SharedClient<'a, N, R>> {
     /// Nobody is named yet.
-    pub fn new(alloc: Global) -> Cast<C> {
-        Cast {
+    pub fn new(
+        rt: R,
+        alloc: Global,
+        cacher: &'a Cacher<N, R>,
+        door: &'a StoreDoor<N, R>,
+    ) -> Stage<'a, N, R, SharedClient<'a, N, R>> {
+        Stage {
+            rt,
+            cacher,
+            door,
+            noted: door.reads(),
             names: Vec::new(alloc),
             seats: Vec::new(alloc),
         }
     }
 
-    // The place of a name.
-    fn place(&self, name: &str) -> Option<usize> {
-        self.names.iter().position(|known| known.as_str() == name)
-    }
-}
-
-/// Plays the rows of a script, and counts them.
-pub fn play<'a, N: LogFacts + Send + Sync, R: Host>(
-    stage: &Stage<'a, N, R>,
-    cast: &mut Cast<SharedClient<'a, N, R>>,
-    rows: Lines<'_>,
-    tally: &mut Tally,
-) -> io::Result<()> {
-    let mut number = rows.first;
-    for line in rows.text.lines() {
-        if let Some(row) = Row::of_line(line, NO_ROW) {
-            let met = play_row(stage, cast, row, (rows.file, number))?;
-            tally.count(met);
+    // A step of the client with this name.
+    fn ask(
+        &mut self,
+        alloc: Global,
+        name: &str,
+        step: &str,
+        told: &mut Wording,
+    ) -> Result<(), Memory> {
+        let place = self.place_of(alloc, name)?;
+        match self.seats.get_mut(place) {
+            Some(seat) => answer(alloc, seat, step, told),
+            None => Err(Memory),
         }
-        number = number.saturating_add(1);
     }
-    Ok(())
+
+    // The place of the client with this name. One that isn't there yet is made.
+    fn place_of(&mut self, alloc: Global, name: &str) -> Result<usize, Memory> {
+        for (place, known) in self.names.iter().enumerate() {
+            if known.as_str() == name {
+                return Ok(place);
+            }
+        }
+        self.seats.push(Seat::new(self.cacher.client()?))?;
+        self.names.push(String::from_str(alloc, name)?)?;
+        Ok(self.names.len().saturating_sub(1))
+    }
 }
 
-// Whether a row has the answer that it wants, each time; if not, both are printed once.
-fn play_row<'a, N: LogFacts + Send + Sync, R: Host>(
-    stage: &Stage<'a, N, R>,
-    cast: &mut Cast<SharedClient<'a, N, R>>,
-    row: Row<'_>,
-    place: (&str, u64),
-) -> io::Result<bool> {
-    let (times, step) = repeated(row.step);
-    for time in 0..times {
-        let step = numbered(stage.alloc, step, time.saturating_add(1))?;
-        let answer = answer_to(stage, cast, step.as_str())?;
+impl<'a, N: LogFacts + Send + Sync, R: Host> Stage<'a, N, R, SharedClient<'a, N, R>> {
+    // Makes a step once, and tells its answer: of the store and the caches, or of the client that it names.
+    fn make(&mut self, alloc: Global, step: &str, told: &mut Wording) -> Result<(), Memory> {
+        let (word, rest) = split(step);
+        match word {
+            "reads" => count_reads(self.door, self.noted, told),
+            "pump" => pump(alloc, self.cacher, told),
+            "tick" => tick(self.cacher, number(rest), told),
+            "storm" => weather(self.rt, alloc, self.cacher, storm_of(rest), told),
+            _ => self.ask(alloc, word, rest, told),
+        }
+    }
+
+    // Whether a row has the answer that it wants at this time; if not, both are printed.
+    fn meets_once(
+        &mut self,
+        alloc: Global,
+        row: Row<'_>,
+        time: u64,
+        place: (&str, u64),
+    ) -> io::Result<bool> {
+        let step = numbered(alloc, row.step, time)?;
+        let mut told = Wording::new(alloc);
+        self.make(alloc, step.as_str(), &mut told)?;
+        let answer = told.whole()?;
         let row = Row {
             step: step.as_str(),
             wanted: row.wanted,
         };
-        if !meets(&stage.rt, place, row, answer.as_str())? {
-            return Ok(false);
-        }
+        meets(&self.rt, place, row, answer.as_str())
     }
-    Ok(true)
+
+    // Whether a row has the answer that it wants, each time.
+    fn meets_each(&mut self, alloc: Global, row: Row<'_>, place: (&str, u64)) -> io::Result<bool> {
+        let (times, step) = repeated(row.step);
+        let row = Row {
+            step,
+            wanted: row.wanted,
+        };
+        for time in 0..times {
+            if !self.meets_once(alloc, row, time.saturating_add(1), place)? {
+                return Ok(false);
+            }
+        }
+        Ok(true)
+    }
+
+    /// Plays the rows of a script, and counts them.
+    pub fn play(&mut self, alloc: Global, rows: Lines<'_>, tally: &mut Tally) -> io::Result<()> {
+        let mut number = rows.first;
+        for line in rows.text.lines() {
+            if let Some(row) = Row::of_line(line, NO_ROW) {
+                let met = self.meets_each(alloc, row, (rows.file, number))?;
+                tally.count(met);
+            }
+            number = number.saturating_add(1);
+        }
+        Ok(())
+    }
 }
 
 // How many times a step is done: `times N STEP` says it, and else it is done once.
@@ -109,80 +163,42 @@ fn numbered(alloc: Global, step: &str, time: u64) -> Result<String, Memory> {
     text.whole()
 }
 
-// What is answered to a step.
-fn answer_to<'a, N: LogFacts + Send + Sync, R: Host>(
-    stage: &Stage<'a, N, R>,
-    cast: &mut Cast<SharedClient<'a, N, R>>,
-    step: &str,
-) -> Result<String, Memory> {
-    let mut told = Wording::new(stage.alloc);
-    tell_answer(stage, cast, step, &mut told)?;
-    told.whole()
-}
-
-// Tells the answer to a step: of the store and the caches, or of the client that it names.
-fn tell_answer<'a, N: LogFacts + Send + Sync, R: Host>(
-    stage: &Stage<'a, N, R>,
-    cast: &mut Cast<SharedClient<'a, N, R>>,
-    step: &str,
+// How often the store was read since the caches stand.
+fn count_reads<N: LogFacts, R: Host>(
+    door: &StoreDoor<N, R>,
+    noted: u64,
     told: &mut Wording,
 ) -> Result<(), Memory> {
-    let (word, rest) = split(step);
-    match word {
-        "reads" => told.show(&stage.door.reads().saturating_sub(stage.noted)),
-        "pump" => {
-            pump(stage)?;
-            told.add("ok");
-        }
-        "tick" => {
-            stage.cacher.tick(number(rest));
-            told.add("ok");
-        }
-        "storm" => storm(stage, rest, told)?,
-        _ => {
-            let place = place_of(stage, cast, word)?;
-            match cast.seats.get_mut(place) {
-                Some(seat) => answer(stage.alloc, seat, rest, told)?,
-                None => told.add("no such client"),
-            }
-        }
-    }
+    told.show(&door.reads().saturating_sub(noted));
     Ok(())
 }
 
-// The place of the client with this name. One that isn't there yet is made.
-fn place_of<'a, N: LogFacts, R: Host>(
-    stage: &Stage<'a, N, R>,
-    cast: &mut Cast<SharedClient<'a, N, R>>,
-    name: &str,
-) -> Result<usize, Memory> {
-    if let Some(place) = cast.place(name) {
-        return Ok(place);
-    }
-    let place = cast.names.len();
-    cast.names.push(String::from_str(stage.alloc, name)?)?;
-    cast.seats.push(Seat::new(stage.cacher.client()?))?;
-    Ok(place)
+// Brings each cache to the end of the log. No lane of a script has a bell to ring.
+fn pump<N: LogFacts, R: Host>(
+    alloc: Global,
+    cacher: &Cacher<N, R>,
+    told: &mut Wording,
+) -> Result<(), Memory> {
+    told.add("ok");
+    cacher.feed(&mut cacher.pass()?, &mut Vec::new(alloc))
 }
 
-// Brings each cache to the end of the log. No lane of a script has a bell to ring.
-fn pump<N: LogFacts, R: Host>(stage: &Stage<'_, N, R>) -> Result<(), Memory> {
-    let mut pass = stage.cacher.pass()?;
-    let mut calls = Vec::new(stage.alloc);
-    stage.cacher.feed(&mut pass, &mut calls)?;
+// Each cache is told a time.
+fn tick<N: LogFacts, R: Host>(
+    cacher: &Cacher<N, R>,
+    ms: u64,
+    told: &mut Wording,
+) -> Result<(), Memory> {
+    cacher.tick(ms);
+    told.add("ok");
     Ok(())
 }
 
 // A storm: the seed of its draws, and how many writes each writer asks for.
-fn storm<N: LogFacts + Send + Sync, R: Host>(
-    stage: &Stage<'_, N, R>,
-    words: &str,
-    told: &mut Wording,
-) -> Result<(), Memory> {
+fn storm_of(words: &str) -> Storm {
     let (seed, writes) = split(words);
-    let storm = Storm {
+    Storm {
         seed: number(seed),
         writes: number(writes),
-    };
-    weather(stage.rt, stage.alloc, stage.cacher, storm, told)
+    }
 }

@@ -2,7 +2,10 @@
 
 use crate::Host;
 use case_rows::Wording;
-use client_cases::{Part, Progress, Seat, Storm, WATCHERS, WRITERS, newest_of, outcome, play_part};
+use client_api::Client;
+use client_cases::{
+    Part, Progress, Seat, Storm, WATCHERS, WRITERS, newest_of, outcome, play_part, sum_of,
+};
 use kube_meta::Memory;
 use shared_client::Cacher;
 use std::alloc::Global;
@@ -18,20 +21,16 @@ pub fn weather<N: LogFacts + Send + Sync, R: Host>(
     storm: Storm,
     told: &mut Wording,
 ) -> Result<(), Memory> {
-    let first = newest(alloc, cacher)?;
+    let first = newest(alloc, cacher.client()?)?;
     let sum = rage(&rt, alloc, cacher, storm)?;
-    let last = newest(alloc, cacher)?;
+    let last = newest(alloc, cacher.client()?)?;
     outcome(first, last, sum, told);
     Ok(())
 }
 
-// The revision that the log has reached.
-fn newest<N: LogFacts, R: Wait + std::time::Clock + Copy>(
-    alloc: Global,
-    cacher: &Cacher<N, R>,
-) -> Result<u64, Memory> {
-    let mut seat = Seat::new(cacher.client()?);
-    newest_of(alloc, &mut seat)
+// The revision that the log has reached, as this client tells, which is let go.
+fn newest<C: Client + Drop>(alloc: Global, client: C) -> Result<u64, Memory> {
+    newest_of(alloc, &mut Seat::new(client))
 }
 
 // All parts of a storm, side by side.
@@ -44,11 +43,7 @@ fn rage<N: LogFacts + Send + Sync, R: Threads + Wait + std::time::Clock + Copy +
     let progress = Progress::new();
     let part = |number: usize| play::<N, R>(*rt, alloc, cacher, &progress, storm, number);
     let parts = thread::map_indices(rt, alloc, WRITERS + 1 + WATCHERS, &part)?;
-    let mut sum = Part::new();
-    for part in parts {
-        sum = sum.with(part?);
-    }
-    Ok(sum)
+    sum_of(parts.as_slice())
 }
 
 // Plays one part of the storm, by a client of its own.
@@ -60,6 +55,17 @@ fn play<N: LogFacts, R: Wait + std::time::Clock + Copy>(
     storm: Storm,
     number: usize,
 ) -> Result<Part, Memory> {
-    let mut seat = Seat::new(cacher.client()?);
-    play_part(rt, alloc, &mut seat, progress, storm, number)
+    play_by(rt, alloc, cacher.client()?, progress, storm, number)
+}
+
+// The same with this client, which is let go.
+fn play_by<C: Client + Drop, R: Wait + std::time::Clock + Copy>(
+    rt: R,
+    alloc: Global,
+    client: C,
+    progress: &Progress,
+    storm: Storm,
+    number: usize,
+) -> Result<Part, Memory> {
+    play_part(rt, alloc, &mut Seat::new(client), progress, storm, number)
 }

@@ -21,6 +21,12 @@ pub fn tell_next(place: usize, number: u64, told: &mut Wording) {
     told.show(&number);
 }
 
+/// Tells a number behind these words.
+pub fn tell_number(words: &str, number: u64, told: &mut Wording) {
+    told.add(words);
+    told.show(&number);
+}
+
 /// Tells a number, or `nothing`.
 pub fn tell_one(found: Option<u64>, told: &mut Wording) {
     match found {
@@ -61,6 +67,11 @@ fn tell_byte(before: u8, byte: u8, told: &mut Wording) {
         b'\n' if before == b'\r' => {}
         b'\n' => told.add("<LF>"),
         b' '..=b'~' => told.show(&char::from(byte)),
-        _ => told.show(&format_args!("<{byte:02x}>")),
+        _ => tell_digits(byte, told),
     }
+}
+
+/// Tells a byte by its two hexadecimal digits.
+fn tell_digits(byte: u8, told: &mut Wording) {
+    told.show(&format_args!("<{byte:02x}>"));
 }

@@ -38,17 +38,17 @@ impl Steps for Ends {
     fn answer(&mut self, alloc: Global, step: &str, told: &mut Wording) -> Result<(), Memory> {
         let (verb, rest) = split(step);
         match verb {
-            "source" => open_source(self, source_of(alloc, rest)?, told),
+            "source" => return open_source(alloc, self, rest, told),
             "read" => read(&mut self.source, &mut self.buf, told),
-            "sink" => open_sink(self, sink_of(alloc, rest)?, told),
+            "sink" => return open_sink(alloc, self, rest, told),
             "write" => told.debug(&self.sink.write(rest.as_bytes())),
             "flush" => told.debug(&self.sink.flush()),
             "written" => tell_bytes(self.sink.bytes(), told),
             "now" => told.debug(&self.clock.now()),
             "rest" => rest_once(&mut self.clock, told),
-            "dial" => dial(alloc, rest, told)?,
-            "accept" => accept(alloc, rest, told)?,
-            "pass" => pass(alloc, rest, told)?,
+            "dial" => return dial(alloc, rest, told),
+            "accept" => return accept(alloc, rest, told),
+            "pass" => return pass(alloc, rest, told),
             "broken" => broken(alloc, rest, told),
             _ => told.add(NO_STEP),
         }
@@ -56,15 +56,28 @@ impl Steps for Ends {
     }
 }
 
-fn open_source(ends: &mut Ends, source: MemSource, told: &mut Wording) {
-    ends.source = source;
+/// Opens a source: how much it gives at a call, which call fails, and its bytes.
+fn open_source(
+    alloc: Global,
+    ends: &mut Ends,
+    text: &str,
+    told: &mut Wording,
+) -> Result<(), Memory> {
+    let (step, rest) = split(text);
+    let (fail, bytes) = split(rest);
+    let bytes = bytes.as_bytes().to_vec(alloc)?;
+    ends.source = MemSource::new(bytes, size(step), fails(alloc, fail)?);
     ends.buf = [0u8; 4];
     told.add("ok");
+    Ok(())
 }
 
-fn open_sink(ends: &mut Ends, sink: MemSink, told: &mut Wording) {
-    ends.sink = sink;
+/// Opens a sink: how much it takes at a call, and which call fails.
+fn open_sink(alloc: Global, ends: &mut Ends, text: &str, told: &mut Wording) -> Result<(), Memory> {
+    let (step, fail) = split(text);
+    ends.sink = MemSink::new(size(step), fails(alloc, fail)?);
     told.add("ok");
+    Ok(())
 }
 
 fn rest_once(clock: &mut StepClock, told: &mut Wording) {
@@ -84,20 +97,6 @@ fn fails(alloc: Global, word: &str) -> Result<Vec<u64>, Memory> {
         Ok(call) => Ok(vec![in alloc; call]?),
         Err(_) => Ok(Vec::new(alloc)),
     }
-}
-
-/// How much it gives at a call, which call fails, and its bytes.
-fn source_of(alloc: Global, text: &str) -> Result<MemSource, Memory> {
-    let (step, rest) = split(text);
-    let (fail, bytes) = split(rest);
-    let fails = fails(alloc, fail)?;
-    Ok(MemSource::new(bytes.as_bytes().to_vec(alloc)?, size(step), fails))
-}
-
-/// How much it takes at a call, and which call fails.
-fn sink_of(alloc: Global, text: &str) -> Result<MemSink, Memory> {
-    let (step, fail) = split(text);
-    Ok(MemSink::new(size(step), fails(alloc, fail)?))
 }
 
 /// A net whose connections bring these words.
@@ -126,17 +125,12 @@ fn read(source: &mut MemSource, buf: &mut [u8], told: &mut Wording) {
 
 /// What the connection brings that is dialled.
 fn dial(alloc: Global, text: &str, told: &mut Wording) -> Result<(), Memory> {
-    dial_in(&mut net(alloc, text)?, told);
-    Ok(())
-}
-
-fn dial_in(net: &mut MemNet, told: &mut Wording)
-    requires { net.old.faults ≡ 0 }
-{
+    let mut net = net(alloc, text)?;
     match net.dial(8001) {
         Ok((source, sink)) => net.hang_up(read_of(source, told), sink),
         Err(_) => told.add("no peer"),
     }
+    Ok(())
 }
 
 /// Reads a source once, and gives it back.
@@ -147,15 +141,12 @@ fn read_of(mut source: MemSource, told: &mut Wording) -> MemSource {
 
 /// What the connection brings that is accepted first.
 fn accept(alloc: Global, text: &str, told: &mut Wording) -> Result<(), Memory> {
-    accept_in(&mut net(alloc, text)?, told);
-    Ok(())
-}
-
-fn accept_in(net: &mut MemNet, told: &mut Wording) {
+    let mut net = net(alloc, text)?;
     match net.listen(8001) {
         Ok(listener) => net.shut(accept_once(listener, told)),
         Err(_) => told.add("no listener"),
     }
+    Ok(())
 }
 
 /// Accepts once, and gives the listener back.

@@ -10,7 +10,7 @@ use edge_io::{Failed, MemSink, Sink};
 use kube_meta::Memory;
 use std::alloc::Global;
 use tungstenite::{Duplex, Error, Message, NoMask, Role, WebSocket};
-use ws_watch::{accept_text, begin_message, begin_socket, end_socket, is_upgrade};
+use ws_watch::{begin_message, begin_socket, end_socket, is_upgrade};
 
 /// The key that RFC 6455, section 1.3, answers.
 const KEY: &str = "dGhlIHNhbXBsZSBub25jZQ==";
@@ -23,9 +23,8 @@ impl Steps for Frames {
     fn answer(&mut self, alloc: Global, step: &str, told: &mut Wording) -> Result<(), Memory> {
         let (verb, rest) = split(step);
         match verb {
-            "accept" => told.add(accept_text(alloc, rest)?.as_str()),
             "upgrade" => told.add(upgrade(rest)),
-            "fails" => fails(alloc, &WholeSocket, 50, told)?,
+            "fails" => return fails(alloc, &WholeSocket, 50, told),
             "read" => read_back(alloc, number(rest), told),
             _ => tell_written(alloc, verb, rest, told),
         }
@@ -110,13 +109,12 @@ fn read_messages(alloc: Global, bytes: &[u8], times: u64, told: &mut Wording) {
     };
     let mut socket = WebSocket::from_raw_socket(alloc, stream, NoMask, Role::Client, None);
     for _ in 0..times {
-        told.add("[");
         tell_message(&socket.read(), told);
-        told.add("]");
     }
 }
 
 fn tell_message(message: &Result<Message, Error>, told: &mut Wording) {
+    told.add("[");
     match message {
         Ok(Message::Text(text)) => tell_text(text.as_str(), told),
         Ok(Message::Close(Some(frame))) => {
@@ -129,16 +127,26 @@ fn tell_message(message: &Result<Message, Error>, told: &mut Wording) {
         Err(Error::ConnectionClosed) => told.add("closed"),
         Err(_) => told.add("another error"),
     }
+    told.add("]");
 }
 
 /// A text; one of the same byte throughout is told by its length.
 fn tell_text(text: &str, told: &mut Wording) {
     match text.bytes().next() {
-        Some(first) if text.len() > 100 && text.bytes().all(|byte| byte == first) => {
+        Some(first) if text.len() > 100 && has_only(text, first) => {
             told.show(&text.len());
             told.add(" of ");
             told.show(&char::from(first));
         }
         _ => told.add(text),
     }
+}
+
+fn has_only(text: &str, byte: u8) -> bool {
+    for other in text.bytes() {
+        if other != byte {
+            return false;
+        }
+    }
+    true
 }

@@ -2,6 +2,8 @@
 
 ghost use Rattle.std.specs.Prelude.{◌≡◌};
 
+use crate::answers::tell_number;
+use crate::mismatch;
 use case_rows::{Lines, NO_STEP, Steps, Tally, Wording, number, run_rows, split};
 use kube_meta::Memory;
 use rev_front::{Blank, Entry, Front, LogName, Pen, blank, start};
@@ -54,11 +56,7 @@ pub fn run_passes<R: Runtime>(
     tally: &mut Tally,
 ) -> io::Result<()> {
     let Some(first) = head.strip_prefix("log ") else {
-        tally.count(false);
-        return println!(rt;
-            "{}: no subject has this name, or no log begins so: {head}",
-            rows.file
-        );
+        return mismatch(rt, rows.file, "a log begins otherwise", tally);
     };
     let made = blank(alloc, number(first).clamp(1, LAST))?;
     run_log::<Brand, R>(rt, alloc, made, rows, tally)
@@ -80,18 +78,15 @@ fn run_log<N: LogName, R: Runtime>(
 impl<N: LogName> Steps for Fronts<N> {
     fn answer(&mut self, _alloc: Global, step: &str, told: &mut Wording) -> Result<(), Memory> {
         let (verb, rest) = split(step);
-        let (first, second) = split(rest);
         match verb {
             "commit" | "cut" | "compact" | "pen" => write(self, verb, number(rest), told),
-            "pass" => add_pass(self, told)?,
+            "pass" => return add_pass(self, told),
             "tell" => tell(self, place(rest), told),
             "learn" => learn(self, place(rest), told),
-            "look" | "look-generation" | "look-floor" | "show" => {
-                read(&mut self.passes, verb, place(rest), told);
-            }
-            "split" => split_pass(&mut self.passes, place(rest), told)?,
-            "meet" => meet(&mut self.passes, place(first), place(second), told),
-            "share" => share(&mut self.passes, place(first), place(second), told)?,
+            "look" | "look-generation" | "look-floor" | "show" => read(self, verb, rest, told),
+            "split" => return split_pass(self, place(rest), told),
+            "meet" => meet(self, two_places(rest), told),
+            "share" => return share(self, two_places(rest), told),
             "close" => close(self, told),
             _ => told.add(NO_STEP),
         }
@@ -101,6 +96,11 @@ impl<N: LogName> Steps for Fronts<N> {
 
 fn place(word: &str) -> usize {
     number(word) as usize
+}
+
+fn two_places(words: &str) -> (usize, usize) {
+    let (first, second) = split(words);
+    (place(first), place(second))
 }
 
 /// What is told where the log was closed.
@@ -117,8 +117,10 @@ fn write<N: LogName>(fronts: &mut Fronts<N>, verb: &str, at: u64, told: &mut Wor
     };
     match verb {
         "commit" => commit_to(pen, at),
-        "cut" => cut(pen),
-        "compact" => compact(pen, at),
+        "cut" if pen.generation() < LAST => {
+            pen.cut();
+        }
+        "compact" if pen.floor() <= at && at <= pen.revision() => pen.compact(at),
         _ => {}
     }
     tell_pen(pen, told);
@@ -137,12 +139,9 @@ fn add_pass<N: LogName>(fronts: &mut Fronts<N>, told: &mut Wording) -> Result<()
 }
 
 fn tell_pen<N: LogName>(pen: &Pen<Note, N>, told: &mut Wording) {
-    told.add("revision ");
-    told.show(&pen.revision());
-    told.add(", generation ");
-    told.show(&pen.generation());
-    told.add(", floor ");
-    told.show(&pen.floor());
+    tell_number("revision ", pen.revision(), told);
+    tell_number(", generation ", pen.generation(), told);
+    tell_number(", floor ", pen.floor(), told);
 }
 
 /// Commits the next entries, up to a revision.
@@ -156,26 +155,9 @@ fn commit_to<N: LogName>(pen: &mut Pen<Note, N>, end: u64) {
     }
 }
 
-fn cut<N: LogName>(pen: &mut Pen<Note, N>) {
-    if pen.generation() < LAST {
-        pen.cut();
-    }
-}
-
-fn compact<N: LogName>(pen: &mut Pen<Note, N>, at: u64) {
-    if pen.floor() <= at && at <= pen.revision() {
-        pen.compact(at);
-    }
-}
-
 /// The steps of one pass.
-fn read<N: LogName>(
-    passes: &mut Vec<Front<Note, N>>,
-    verb: &str,
-    place: usize,
-    told: &mut Wording,
-) {
-    let Some(pass) = passes.get_mut(place) else {
+fn read<N: LogName>(fronts: &mut Fronts<N>, verb: &str, rest: &str, told: &mut Wording) {
+    let Some(pass) = fronts.passes.get_mut(place(rest)) else {
         told.add(NO_PASS);
         return;
     };
@@ -189,10 +171,11 @@ fn read<N: LogName>(
 
 /// Adds a second pass that knows the same.
 fn split_pass<N: LogName>(
-    passes: &mut Vec<Front<Note, N>>,
+    fronts: &mut Fronts<N>,
     place: usize,
     told: &mut Wording,
 ) -> Result<(), Memory> {
+    let passes = &mut fronts.passes;
     match passes.get_mut(place) {
         Some(pass) => {
             let copy = pass.split()?;
@@ -205,14 +188,10 @@ fn split_pass<N: LogName>(
 }
 
 fn tell_pass<N: LogName>(pass: &Front<Note, N>, told: &mut Wording) {
-    told.add("end ");
-    told.show(&pass.end());
-    told.add(", shown ");
-    told.show(&pass.shown());
-    told.add(", last ");
-    told.show(&pass.last());
-    told.add(", floor ");
-    told.show(&pass.floor());
+    tell_number("end ", pass.end(), told);
+    tell_number(", shown ", pass.shown(), told);
+    tell_number(", last ", pass.last(), told);
+    tell_number(", floor ", pass.floor(), told);
 }
 
 /// Tells a pass all that the pen knows.
@@ -238,12 +217,9 @@ fn learn<N: LogName>(fronts: &mut Fronts<N>, place: usize, told: &mut Wording) {
 }
 
 /// A pass takes in one behind it, which is gone then.
-fn meet<N: LogName>(
-    passes: &mut Vec<Front<Note, N>>,
-    first: usize,
-    second: usize,
-    told: &mut Wording,
-) {
+fn meet<N: LogName>(fronts: &mut Fronts<N>, places: (usize, usize), told: &mut Wording) {
+    let (first, second) = places;
+    let passes = &mut fronts.passes;
     if first >= second || second >= passes.len() {
         told.add(NO_PASS);
         return;
@@ -257,22 +233,21 @@ fn meet<N: LogName>(
 
 /// A pass and one behind it go on with what both know.
 fn share<N: LogName>(
-    passes: &mut Vec<Front<Note, N>>,
-    first: usize,
-    second: usize,
+    fronts: &mut Fronts<N>,
+    places: (usize, usize),
     told: &mut Wording,
 ) -> Result<(), Memory> {
+    let (first, second) = places;
+    let passes = &mut fronts.passes;
     if first >= second || second >= passes.len() {
         told.add(NO_PASS);
         return Ok(());
     }
     let mut other = passes.remove(second);
-    let Some(pass) = passes.get_mut(first) else {
-        told.add(NO_PASS);
-        return Ok(());
-    };
-    pass.share(&mut other);
-    tell_pass(pass, told);
+    if let Some(pass) = passes.get_mut(first) {
+        pass.share(&mut other);
+        tell_pass(pass, told);
+    }
     passes.insert(second, other)?;
     Ok(())
 }
@@ -334,15 +309,12 @@ fn met<N: LogName>(
 fn tell_learnt<N: LogName>(mut pen: Pen<Note, N>, pass: Front<Note, N>, told: &mut Wording) {
     told.add(", learnt ");
     told.show(&pen.learn(pass).is_ok());
-    told.add(", revision ");
-    told.show(&pen.revision());
+    tell_number(", revision ", pen.revision(), told);
 }
 
 fn tell_both<N: LogName>(pass: &Front<Note, N>, told: &mut Wording) {
-    told.add("end ");
-    told.show(&pass.end());
-    told.add(", shown ");
-    told.show(&pass.shown());
+    tell_number("end ", pass.end(), told);
+    tell_number(", shown ", pass.shown(), told);
     let is_within = 1 <= pass.last() && pass.last() <= 51;
     told.add(if is_within {
         ", last within"

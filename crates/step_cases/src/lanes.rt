@@ -26,56 +26,59 @@ impl Steps for Lanes {
     fn answer(&mut self, alloc: Global, step: &str, told: &mut Wording) -> Result<(), Memory> {
         let (verb, rest) = split(step);
         match verb {
-            "add" => add(alloc, &mut self.index, None, rest, told)?,
-            "add-in" => {
-                let (ns, lane) = split(rest);
-                add(
-                    alloc,
-                    &mut self.index,
-                    Some(Text::new(alloc, ns)?),
-                    lane,
-                    told,
-                )?;
+            "add" => return add(alloc, self, None, rest, told),
+            "add-in" => return add_in(alloc, self, rest, told),
+            "drop" => {
+                self.index.drop_lane(number(rest));
+                told.add("ok");
             }
-            "drop" => drop_lane(&mut self.index, number(rest), told),
-            "change" => change(alloc, &self.index, rest, told)?,
+            "change" => return change(alloc, self, rest, told),
             _ => told.add(NO_STEP),
         }
         Ok(())
     }
 }
 
-fn drop_lane(index: &mut LaneIndex, id: u64, told: &mut Wording) {
-    index.drop_lane(id);
-    told.add("ok");
+/// Adds a lane in a namespace.
+fn add_in(alloc: Global, lanes: &mut Lanes, text: &str, told: &mut Wording) -> Result<(), Memory> {
+    let (ns, lane) = split(text);
+    let ns = Text::new(alloc, ns)?;
+    add(alloc, lanes, Some(ns), lane, told)
 }
 
 /// Adds a lane in a namespace, or in all.
 fn add(
     alloc: Global,
-    index: &mut LaneIndex,
+    lanes: &mut Lanes,
     ns: Option<Text>,
     text: &str,
     told: &mut Wording,
 ) -> Result<(), Memory> {
     let (id, fields) = split(text);
-    match Selection::read(alloc, Resource::Pods, ns, "", fields) {
-        Ok(selection) => index.add(number(id), &selection)?,
-        Err(_) => {
-            told.add("no selection");
-            return Ok(());
-        }
-    }
+    let Ok(selection) = Selection::read(alloc, Resource::Pods, ns, "", fields) else {
+        told.add("no selection");
+        return Ok(());
+    };
     told.add("ok");
-    Ok(())
+    lanes.index.add(number(id), &selection)
 }
 
 /// The lanes that are told of a change from one pod to another.
-fn change(alloc: Global, index: &LaneIndex, text: &str, told: &mut Wording) -> Result<(), Memory> {
+fn change(alloc: Global, lanes: &Lanes, text: &str, told: &mut Wording) -> Result<(), Memory> {
     let (old, new) = split(text);
     let old = pod(alloc, old)?;
     let new = pod(alloc, new)?;
-    tell_numbers(index.touched(old.as_ref(), new.as_ref())?.as_slice(), told);
+    tell_touched(lanes, old.as_ref(), new.as_ref(), told)
+}
+
+fn tell_touched(
+    lanes: &Lanes,
+    old: Option<&Obj>,
+    new: Option<&Obj>,
+    told: &mut Wording,
+) -> Result<(), Memory> {
+    let touched = lanes.index.touched(old, new)?;
+    tell_numbers(touched.as_slice(), told);
     Ok(())
 }
 

@@ -17,7 +17,7 @@ mod spaces;
 mod things;
 mod trees;
 
-use case_rows::{Lines, Tally, run_rows};
+use case_rows::{Lines, Steps, Tally, run_rows};
 use ends::Ends;
 pub use ends::send;
 use frames::Frames;
@@ -40,17 +40,31 @@ pub fn run_steps<R: Runtime>(
     tally: &mut Tally,
 ) -> io::Result<()> {
     match lines.file {
-        "ends.txt" => run_rows(rt, alloc, lines, &mut Ends::new(alloc), tally),
-        "objects.txt" => run_rows(rt, alloc, lines, &mut Objects::new(alloc), tally),
-        "replies.txt" => run_rows(rt, alloc, lines, &mut Replies, tally),
-        "frames.txt" => run_rows(rt, alloc, lines, &mut Frames, tally),
-        "rings.txt" => run_rows(rt, alloc, lines, &mut Rings::new(alloc)?, tally),
-        "trees.txt" => run_rows(rt, alloc, lines, &mut Trees::new(alloc)?, tally),
-        "logs.txt" => run_rows(rt, alloc, lines, &mut Logs::new(alloc), tally),
-        "lanes.txt" => run_rows(rt, alloc, lines, &mut Lanes::new(alloc), tally),
-        _ => {
-            tally.count(false);
-            println!(rt; "{}: no part has this name", lines.file)
-        }
+        "ends.txt" => run_on(rt, alloc, lines, Ends::new(alloc), tally),
+        "objects.txt" => run_on(rt, alloc, lines, Objects::new(alloc), tally),
+        "replies.txt" => run_on(rt, alloc, lines, Replies, tally),
+        "frames.txt" => run_on(rt, alloc, lines, Frames, tally),
+        "rings.txt" => run_on(rt, alloc, lines, Rings::new(alloc)?, tally),
+        "trees.txt" => run_on(rt, alloc, lines, Trees::new(alloc)?, tally),
+        "logs.txt" => run_on(rt, alloc, lines, Logs::new(alloc), tally),
+        "lanes.txt" => run_on(rt, alloc, lines, Lanes::new(alloc), tally),
+        _ => mismatch(rt, lines.file, "no part has this name", tally),
     }
+}
+
+/// Makes the steps of a file on a part that stands until its last line.
+fn run_on<R: Runtime, S: Steps + Drop>(
+    rt: &R,
+    alloc: Global,
+    lines: Lines<'_>,
+    mut part: S,
+    tally: &mut Tally,
+) -> io::Result<()> {
+    run_rows(rt, alloc, lines, &mut part, tally)
+}
+
+/// Counts and prints that nothing is run of a file.
+fn mismatch<R: Runtime>(rt: &R, file: &str, why: &str, tally: &mut Tally) -> io::Result<()> {
+    tally.count(false);
+    println!(rt; "{file}: {why}")
 }

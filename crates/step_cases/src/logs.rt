@@ -27,10 +27,10 @@ impl Steps for Logs {
     fn answer(&mut self, alloc: Global, step: &str, told: &mut Wording) -> Result<(), Memory> {
         let (verb, rest) = split(step);
         match verb {
-            "base" => put_base(alloc, &mut self.base, rest, told)?,
-            "write" => write(alloc, &mut self.log, rest, true, told)?,
-            "remove" => write(alloc, &mut self.log, rest, false, told)?,
-            "state" => tell_state(alloc, &self.base, &self.log, rest, told)?,
+            "base" => return put_base(alloc, self, rest, told),
+            "write" => return write(alloc, self, rest, true, told),
+            "remove" => return write(alloc, self, rest, false, told),
+            "state" => return tell_state(alloc, self, rest, told),
             _ => told.add(NO_STEP),
         }
         Ok(())
@@ -38,14 +38,9 @@ impl Steps for Logs {
 }
 
 /// Adds a pod of the first revision.
-fn put_base(
-    alloc: Global,
-    base: &mut Vec<Row>,
-    name: &str,
-    told: &mut Wording,
-) -> Result<(), Memory> {
+fn put_base(alloc: Global, logs: &mut Logs, name: &str, told: &mut Wording) -> Result<(), Memory> {
     let obj = Arc::new(alloc, object(alloc, key(alloc, name)?)?)?;
-    base.push(Row { obj, rev: 1 })?;
+    logs.base.push(Row { obj, rev: 1 })?;
     told.add("ok");
     Ok(())
 }
@@ -53,7 +48,7 @@ fn put_base(
 /// Adds the revision that writes or removes one object: `PLURAL NAME`. Its number is the next one.
 fn write(
     alloc: Global,
-    log: &mut Vec<Revision>,
+    logs: &mut Logs,
     text: &str,
     is_there: bool,
     told: &mut Wording,
@@ -63,9 +58,9 @@ fn write(
         told.add("no resource");
         return Ok(());
     };
-    let rev = (log.len() as u64).saturating_add(2);
+    let rev = (logs.log.len() as u64).saturating_add(2);
     let change = change_of(alloc, rev, resource, name, is_there)?;
-    log.push(Revision::single(alloc, change)?)?;
+    logs.log.push(Revision::single(alloc, change)?)?;
     told.show(&rev);
     Ok(())
 }
@@ -92,20 +87,14 @@ fn change_of(
 }
 
 /// The rows of a resource at a revision.
-fn tell_state(
-    alloc: Global,
-    base: &[Row],
-    log: &[Revision],
-    text: &str,
-    told: &mut Wording,
-) -> Result<(), Memory> {
+fn tell_state(alloc: Global, logs: &Logs, text: &str, told: &mut Wording) -> Result<(), Memory> {
     let (plural, at) = split(text);
-    match Resource::of_plural(plural.as_bytes()) {
-        Some(resource) => {
-            tell_rows(&state(alloc, base, log, resource, number(at))?, told);
-        }
-        None => told.add("no resource"),
-    }
+    let Some(resource) = Resource::of_plural(plural.as_bytes()) else {
+        told.add("no resource");
+        return Ok(());
+    };
+    let rows = state(alloc, &logs.base, &logs.log, resource, number(at))?;
+    tell_rows(&rows, told);
     Ok(())
 }
 

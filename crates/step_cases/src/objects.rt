@@ -1,6 +1,6 @@
 //! Labels, listed fields, keys, texts, and objects as rows.
 
-use crate::answers::tell_bytes;
+use crate::answers::{tell_bytes, tell_number};
 use case_rows::{NO_STEP, Steps, Wording, key, number, object, split};
 use encode_once::Shown;
 use kube_meta::{Fields, Key, Labels, Memory, Row, Text};
@@ -29,15 +29,15 @@ impl Steps for Objects {
         let (verb, rest) = split(step);
         match verb {
             "labels" => tell_count(self.labels.len(), self.labels.is_empty(), told),
-            "put" => put(alloc, &mut self.labels, rest, told)?,
+            "put" => return put(alloc, self, rest, told),
             "get" => tell_found(self.labels.get(rest), told),
-            "label" => tell_label(&self.labels, number(rest), told),
-            "fields" => replace(&mut self.fields, values(alloc, rest)?, told),
+            "label" => tell_label(self, number(rest), told),
+            "fields" => return set_fields(alloc, self, rest, told),
             "field" => tell_found(self.fields.get(number(rest) as usize), told),
-            "texts" => texts(alloc, rest, told)?,
-            "copy" => copy(alloc, rest, told)?,
-            "row" => row(alloc, rest, told)?,
-            "parts" => parts(alloc, rest, told)?,
+            "texts" => return texts(alloc, rest, told),
+            "copy" => return copy(alloc, rest, told),
+            "row" => return row(alloc, rest, told),
+            "parts" => return parts(alloc, rest, told),
             _ => told.add(NO_STEP),
         }
         Ok(())
@@ -51,9 +51,20 @@ fn tell_count(count: usize, is_empty: bool, told: &mut Wording) {
     }
 }
 
-fn replace(fields: &mut Fields, others: Fields, told: &mut Wording) {
-    *fields = others;
-    tell_count(fields.len(), fields.is_empty(), told);
+/// Lists the values that stand between blanks as fields.
+fn set_fields(
+    alloc: Global,
+    objects: &mut Objects,
+    text: &str,
+    told: &mut Wording,
+) -> Result<(), Memory> {
+    let mut values = Vec::new(alloc);
+    for value in text.split_whitespace() {
+        values.push(Text::new(alloc, value)?)?;
+    }
+    objects.fields = Fields::new(values);
+    tell_count(objects.fields.len(), objects.fields.is_empty(), told);
+    Ok(())
 }
 
 fn tell_found(text: Option<&Text>, told: &mut Wording) {
@@ -64,9 +75,9 @@ fn tell_found(text: Option<&Text>, told: &mut Wording) {
 }
 
 /// Puts a label, and tells the value that stood there.
-fn put(alloc: Global, labels: &mut Labels, text: &str, told: &mut Wording) -> Result<(), Memory> {
+fn put(alloc: Global, objects: &mut Objects, text: &str, told: &mut Wording) -> Result<(), Memory> {
     let (name, value) = two_texts(alloc, text)?;
-    tell_found(labels.put(name, value)?.as_ref(), told);
+    tell_found(objects.labels.put(name, value)?.as_ref(), told);
     Ok(())
 }
 
@@ -78,8 +89,8 @@ fn two_texts(alloc: Global, text: &str) -> Result<(Text, Text), Memory> {
 }
 
 /// The label at a place, in their order.
-fn tell_label(labels: &Labels, place: u64, told: &mut Wording) {
-    match labels.pairs().get(place as usize) {
+fn tell_label(objects: &Objects, place: u64, told: &mut Wording) {
+    match objects.labels.pairs().get(place as usize) {
         Some(pair) => {
             told.add(pair.0.as_str());
             told.add(" ");
@@ -89,61 +100,60 @@ fn tell_label(labels: &Labels, place: u64, told: &mut Wording) {
     }
 }
 
-fn values(alloc: Global, text: &str) -> Result<Fields, Memory> {
-    let mut values = Vec::new(alloc);
-    for value in text.split_whitespace() {
-        values.push(Text::new(alloc, value)?)?;
-    }
-    Ok(Fields::new(values))
-}
-
 /// Whether a text is before another one, whether its copy is the same, and the text that it is made of.
 fn texts(alloc: Global, text: &str, told: &mut Wording) -> Result<(), Memory> {
     let (one, other) = two_texts(alloc, text)?;
-    told.add(Text::from_string(one.to_string()?).as_str());
-    tell_order(&one, &other, &one.clone()?, told);
+    tell_text(&one, told)?;
+    tell_order(&one, &other, told)
+}
+
+/// Tells the text that a text's string is made of.
+fn tell_text(text: &Text, told: &mut Wording) -> Result<(), Memory> {
+    let made = Text::from_string(text.to_string()?);
+    told.add(made.as_str());
     Ok(())
 }
 
-fn tell_order(one: &Text, other: &Text, copy: &Text, told: &mut Wording) {
+fn tell_order(one: &Text, other: &Text, told: &mut Wording) -> Result<(), Memory> {
+    let copy = one.clone()?;
     told.add(if one < other {
         " is before"
     } else {
         " is not before"
     });
-    told.add(", its copy is ");
-    told.add(sameness(copy == one));
+    tell_copy(copy == *one, told);
+    Ok(())
 }
 
-fn sameness(same: bool) -> &'static str {
-    if same { "same" } else { "another" }
+fn tell_copy(same: bool, told: &mut Wording) {
+    told.add(", its copy is ");
+    told.add(if same { "same" } else { "another" });
 }
 
 /// The key that is read from a text, its two parts, and whether its copy and the key of its parts are the same.
 fn copy(alloc: Global, text: &str, told: &mut Wording) -> Result<(), Memory> {
     match Key::read(alloc, text.as_bytes())? {
-        Some(key) => tell_copy(&key, is_copied(&key)? && is_made(alloc, &key)?, told),
-        None => told.add("no key"),
+        Some(key) => tell_key(alloc, &key, told),
+        None => {
+            told.add("no key");
+            Ok(())
+        }
     }
-    Ok(())
 }
 
-fn tell_copy(key: &Key, same: bool, told: &mut Wording) {
+fn tell_key(alloc: Global, key: &Key, told: &mut Wording) -> Result<(), Memory> {
     told.add(key.ns());
     told.add(" / ");
     told.add(key.name());
-    told.add(", its copy is ");
-    told.add(sameness(same));
-}
-
-fn is_copied(key: &Key) -> Result<bool, Memory> {
-    Ok(key.clone()? == *key)
+    let is_copied = key.clone()? == *key;
+    tell_copy(is_copied && is_made(alloc, key)?, told);
+    Ok(())
 }
 
 /// Whether the key of its parts is the same one.
 fn is_made(alloc: Global, key: &Key) -> Result<bool, Memory> {
-    let (ns, name) = (Text::new(alloc, key.ns())?, Text::new(alloc, key.name())?);
-    match Key::new(ns, name) {
+    let ns = Text::new(alloc, key.ns())?;
+    match Key::new(ns, Text::new(alloc, key.name())?) {
         Ok(made) => Ok(made == *key),
         Err(_) => Ok(false),
     }
@@ -160,23 +170,15 @@ fn row_of(alloc: Global, text: &str) -> Result<Row, Memory> {
 
 /// What the copy of a row is.
 fn row(alloc: Global, text: &str, told: &mut Wording) -> Result<(), Memory> {
-    tell_copied(&row_of(alloc, text)?.clone()?, told);
-    Ok(())
-}
-
-fn tell_copied(row: &Row, told: &mut Wording) {
+    let row = row_of(alloc, text)?.clone()?;
     told.add(row.obj.key.as_str());
-    told.add(" ");
-    told.show(&row.rev);
+    tell_number(" ", row.rev, told);
+    Ok(())
 }
 
 /// The parts in which a row is shown.
 fn parts(alloc: Global, text: &str, told: &mut Wording) -> Result<(), Memory> {
-    tell_parts(&Shown::new(alloc, row_of(alloc, text)?)?, told);
-    Ok(())
-}
-
-fn tell_parts(shown: &Arc<Shown>, told: &mut Wording) {
+    let shown = Shown::new(alloc, row_of(alloc, text)?)?;
     told.show(&shown.row().rev);
     told.add(": ");
     tell_bytes(shown.front(), told);
@@ -184,4 +186,5 @@ fn tell_parts(shown: &Arc<Shown>, told: &mut Wording) {
     tell_bytes(shown.digits(), told);
     told.add(" | ");
     tell_bytes(shown.back(), told);
+    Ok(())
 }

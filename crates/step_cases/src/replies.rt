@@ -6,7 +6,7 @@ use crate::answers::tell_sent;
 use crate::faults::{Writing, fails};
 use case_rows::{Steps, Wording, number, split};
 use edge_io::{Failed, MemSink, Sink};
-use http_send::{begin_chunk, begin_reply, begin_stream, end_chunk, end_stream, part, send_chunk};
+use http_send::{begin_chunk, begin_reply, begin_stream, end_chunk, end_stream, part};
 use kube_meta::Memory;
 use std::alloc::Global;
 
@@ -74,7 +74,7 @@ fn stream(sink: &mut MemSink) -> Result<(), Failed> {
 }
 
 /// The chunk of a line, whose line feed is added.
-fn line(sink: &mut MemSink, text: &[u8]) -> Result<(), Failed> {
+fn line<K: Sink>(sink: &mut K, text: &[u8]) -> Result<(), Failed> {
     begin_chunk(sink, (text.len() as u64 % 1000).saturating_add(1))?;
     part(sink, text)?;
     part(sink, b"\n")?;
@@ -92,6 +92,6 @@ impl Writing for WholeStream {
 
 fn send_all<K: Sink>(sink: &mut K) -> Result<(), Failed> {
     begin_stream(sink)?;
-    send_chunk(sink, &[b"{}", b"\n"])?;
+    line(sink, b"{}")?;
     end_stream(sink)
 }

@@ -5,7 +5,7 @@ ghost use Rattle.std.specs.Cmp.Lexicographic.{slice_cmp};
 ghost use Rattle.std.specs.Ordering.{nat_cmp};
 ghost use Rattle.std.specs.declared.cmp.Ordering.TheVariants.{Less};
 
-use crate::answers::{tell_next, tell_one};
+use crate::answers::{tell_next, tell_number, tell_one};
 use crate::things::{revision, shown};
 use case_rows::{NO_STEP, Steps, Wording, key, number, split};
 use event_ring::{Event, Ring, Span};
@@ -35,69 +35,65 @@ impl Steps for Rings {
     fn answer(&mut self, alloc: Global, step: &str, told: &mut Wording) -> Result<(), Memory> {
         let (verb, rest) = split(step);
         match verb {
-            "ring" => replace(&mut self.ring, opened(alloc, rest)?, told),
+            "ring" => return open(alloc, self, rest, told),
             "state" => tell_state(&self.ring, told),
-            "push" => push(alloc, &mut self.ring, rest, told)?,
-            "pair" => tell_dropped(push_pair(alloc, &mut self.ring, number(rest))?, told),
-            "fit" => fit(&mut self.ring, number(rest), told)?,
-            "clear" => clear(&mut self.ring, number(rest), told),
-            "since" => since(&self.ring, number(rest), told),
-            "left" => left(alloc, rest, told)?,
+            "push" => return push(alloc, self, rest, told),
+            "pair" => return push_two(alloc, self, number(rest), told),
+            "fit" => return fit(self, number(rest), told),
+            "clear" => clear(self, number(rest), told),
+            "since" => since(self, number(rest), told),
+            "left" => return left(alloc, rest, told),
             _ => told.add(NO_STEP),
         }
         Ok(())
     }
 }
 
-/// A ring at the floor 1: how many events it has room for, at most how many, and how long one is fresh.
-fn opened(alloc: Global, text: &str) -> Result<Ring, Memory> {
+/// Opens a ring at the floor 1: how many events it has room for, at most how many, and how long one is fresh.
+fn open(alloc: Global, rings: &mut Rings, text: &str, told: &mut Wording) -> Result<(), Memory> {
     let (window, rest) = split(text);
     let (most, fresh) = split(rest);
     let window = number(window).clamp(1, MOST) as usize;
     let most = (number(most).min(MOST) as usize).max(window);
-    Ring::new(alloc, window, most, number(fresh), 1)
-}
-
-fn replace(ring: &mut Ring, other: Ring, told: &mut Wording) {
-    *ring = other;
-    tell_state(ring, told);
-}
-
-fn fit(ring: &mut Ring, now: u64, told: &mut Wording) -> Result<(), Memory> {
-    ring.fit(now)?;
-    tell_state(ring, told);
+    rings.ring = Ring::new(alloc, window, most, number(fresh), 1)?;
+    tell_state(&rings.ring, told);
     Ok(())
 }
 
-fn clear(ring: &mut Ring, floor: u64, told: &mut Wording) {
-    ring.clear(floor);
-    tell_state(ring, told);
+fn fit(rings: &mut Rings, now: u64, told: &mut Wording) -> Result<(), Memory> {
+    rings.ring.fit(now)?;
+    tell_state(&rings.ring, told);
+    Ok(())
+}
+
+fn clear(rings: &mut Rings, floor: u64, told: &mut Wording) {
+    rings.ring.clear(floor);
+    tell_state(&rings.ring, told);
 }
 
 fn tell_state(ring: &Ring, told: &mut Wording) {
     if ring.is_empty() {
         told.add("empty, ");
     }
-    told.add("floor ");
-    told.show(&ring.floor());
-    told.add(", last ");
-    told.show(&ring.last());
-    told.add(", ");
-    told.show(&ring.len());
-    told.add(" of ");
-    told.show(&ring.capacity());
+    tell_number("floor ", ring.floor(), told);
+    tell_number(", last ", ring.last(), told);
+    tell_number(", ", ring.len() as u64, told);
+    tell_number(" of ", ring.capacity() as u64, told);
 }
 
 /// Pushes the event of one change; behind ` at ` the time may stand, to which the ring is then fitted first.
-fn push(alloc: Global, ring: &mut Ring, text: &str, told: &mut Wording) -> Result<(), Memory> {
-    let dropped = match text.split_once(" at ") {
-        Some((rev, now)) => {
-            ring.fit(number(now))?;
-            push_one(alloc, ring, number(rev), number(now))?
-        }
-        None => push_one(alloc, ring, number(text), 0)?,
-    };
-    tell_dropped(dropped, told);
+fn push(alloc: Global, rings: &mut Rings, text: &str, told: &mut Wording) -> Result<(), Memory> {
+    let ring = &mut rings.ring;
+    let (rev, now) = text.split_once(" at ").unwrap_or((text, ""));
+    if !now.is_empty() {
+        ring.fit(number(now))?;
+    }
+    tell_dropped(push_one(alloc, ring, number(rev), number(now))?, told);
+    Ok(())
+}
+
+fn push_two(alloc: Global, rings: &mut Rings, rev: u64, told: &mut Wording) -> Result<(), Memory> {
+    tell_dropped(push_pair(alloc, &mut rings.ring, rev)?, told);
     Ok(())
 }
 
@@ -144,8 +140,8 @@ fn rises(first: &Key, second: &Key) -> bool
     }
 }
 
-fn since(ring: &Ring, at: u64, told: &mut Wording) {
-    match ring.since(at) {
+fn since(rings: &Rings, at: u64, told: &mut Wording) {
+    match rings.ring.since(at) {
         Ok(span) => tell_span(&span, told),
         Err(below) => told.debug(&below),
     }

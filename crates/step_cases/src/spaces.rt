@@ -1,5 +1,6 @@
 //! Objects of several namespaces in one tree.
 
+use crate::answers::tell_number;
 use crate::things::shown;
 use case_rows::{Wording, split};
 use kube_meta::{Key, Memory};
@@ -57,7 +58,11 @@ fn tell_revisions(found: &[u64], len: usize, told: &mut Wording) {
         told.add(" rows in place of ");
     }
     match (found.first(), found.last()) {
-        (Some(first), Some(last)) => told.show(&format_args!("{len} rows, {first} to {last}")),
+        (Some(first), Some(last)) => {
+            told.show(&len);
+            tell_number(" rows, ", *first, told);
+            tell_number(" to ", *last, told);
+        }
         _ => told.add("no rows"),
     }
 }

@@ -1,6 +1,6 @@
 //! Trees of objects, and snapshots of them. The objects are `p-1000` and so on, whose order is that of their numbers.
 
-use crate::answers::{tell_numbers, tell_one};
+use crate::answers::{tell_number, tell_numbers, tell_one};
 use crate::spaces::{lent, numbered, spread, within};
 use crate::things::{revision, shown};
 use case_rows::{NO_STEP, Steps, Wording, number, split};
@@ -33,26 +33,38 @@ impl Steps for Trees {
     fn answer(&mut self, alloc: Global, step: &str, told: &mut Wording) -> Result<(), Memory> {
         let (verb, rest) = split(step);
         match verb {
-            "evens" => replace(&mut self.tree, evens(alloc, number(rest))?, told),
-            "without" => without(alloc, &mut self.tree, rest, told)?,
-            "put" => tell_one(put(alloc, &mut self.tree, rest)?, told),
-            "remove" => tell_one(remove_pod(alloc, &mut self.tree, number(rest))?, told),
-            "get" => tell_one(get(alloc, &self.tree, number(rest))?, told),
-            "first" => tell_one(first(&self.tree, None)?, told),
-            "above" => tell_one(above(alloc, &self.tree, number(rest))?, told),
-            "keep" => keep(alloc, self, told)?,
-            "kept" => tell_kept(alloc, self, told)?,
-            "spread" => replace(&mut self.tree, spread(alloc, number(rest))?, told),
-            "within" => within(alloc, &self.tree, rest, told)?,
+            "evens" => return replace(self, evens(alloc, number(rest)), told),
+            "without" => return without(alloc, self, rest, told),
+            "put" => return tell_found(put(alloc, self, rest), told),
+            "remove" => return tell_found(remove(alloc, self, number(rest)), told),
+            "get" => return tell_found(get(alloc, self, number(rest)), told),
+            "first" => return tell_found(first(self, None), told),
+            "above" => return tell_found(above(alloc, self, number(rest)), told),
+            "keep" => return keep(alloc, self, told),
+            "kept" => return tell_kept(alloc, self, told),
+            "spread" => return replace(self, spread(alloc, number(rest)), told),
+            "within" => return within(alloc, &self.tree, rest, told),
             _ => told.add(NO_STEP),
         }
         Ok(())
     }
 }
 
-fn replace(tree: &mut Tree, other: Tree, told: &mut Wording) {
-    *tree = other;
-    tell_size(tree, told);
+/// Tells the revision that was found, unless memory was lacking.
+fn tell_found(found: Result<Option<u64>, Memory>, told: &mut Wording) -> Result<(), Memory> {
+    tell_one(found?, told);
+    Ok(())
+}
+
+/// Goes on with a tree that was made.
+fn replace(
+    trees: &mut Trees,
+    made: Result<Tree, Memory>,
+    told: &mut Wording,
+) -> Result<(), Memory> {
+    trees.tree = made?;
+    tell_size(&trees.tree, told);
+    Ok(())
 }
 
 fn tell_size(tree: &Tree, told: &mut Wording) {
@@ -60,8 +72,7 @@ fn tell_size(tree: &Tree, told: &mut Wording) {
         told.add("empty, ");
     }
     told.show(&tree.len());
-    told.add(" rows, pages ");
-    told.show(&tree.pages());
+    tell_number(" rows, pages ", tree.pages() as u64, told);
 }
 
 /// The key of the pod of a number, in `default`.
@@ -90,22 +101,22 @@ fn put_pod(alloc: Global, tree: &mut Tree, number: u64, rev: u64) -> Result<Opti
 }
 
 /// Removes the pod of a number, and tells the revision that stood there.
-fn remove_pod(alloc: Global, tree: &mut Tree, number: u64) -> Result<Option<u64>, Memory> {
-    let old = tree.remove(&pod(alloc, number)?)?;
+fn remove(alloc: Global, trees: &mut Trees, number: u64) -> Result<Option<u64>, Memory> {
+    let old = trees.tree.remove(&pod(alloc, number)?)?;
     Ok(revision(old.as_ref()))
 }
 
 /// Removes the even numbers from a place on, so many, and tells how many pages there were before and after each,
 /// where that changed.
-fn without(alloc: Global, tree: &mut Tree, text: &str, told: &mut Wording) -> Result<(), Memory> {
+fn without(alloc: Global, trees: &mut Trees, text: &str, told: &mut Wording) -> Result<(), Memory> {
     let (from, count) = split(text);
     let mut pages = Vec::new(alloc);
-    note_pages(tree, &mut pages)?;
+    note_pages(&trees.tree, &mut pages)?;
     for place in 0..number(count) {
-        remove_pod(alloc, tree, even(number(from).saturating_add(place)))?;
-        note_pages(tree, &mut pages)?;
+        remove(alloc, trees, even(number(from).saturating_add(place)))?;
+        note_pages(&trees.tree, &mut pages)?;
     }
-    told.show(&tree.len());
+    told.show(&trees.tree.len());
     told.add(" rows, pages ");
     tell_numbers(pages.as_slice(), told);
     Ok(())
@@ -120,25 +131,25 @@ fn note_pages(tree: &Tree, pages: &mut Vec<u64>) -> Result<(), Memory> {
     Ok(())
 }
 
-fn put(alloc: Global, tree: &mut Tree, text: &str) -> Result<Option<u64>, Memory> {
+fn put(alloc: Global, trees: &mut Trees, text: &str) -> Result<Option<u64>, Memory> {
     let (place, rev) = split(text);
-    put_pod(alloc, tree, number(place), number(rev))
+    put_pod(alloc, &mut trees.tree, number(place), number(rev))
 }
 
-fn get(alloc: Global, tree: &Tree, number: u64) -> Result<Option<u64>, Memory> {
-    Ok(revision(tree.get(&pod(alloc, number)?)))
+fn get(alloc: Global, trees: &Trees, number: u64) -> Result<Option<u64>, Memory> {
+    Ok(revision(trees.tree.get(&pod(alloc, number)?)))
 }
 
 /// The first revision, above a key where one is given.
-fn first(tree: &Tree, after: Option<&Key>) -> Result<Option<u64>, Memory> {
-    let snapshot = tree.snapshot()?;
+fn first(trees: &Trees, after: Option<&Key>) -> Result<Option<u64>, Memory> {
+    let snapshot = trees.tree.snapshot()?;
     let found = revision(snapshot.range(after).next());
     Ok(found)
 }
 
 /// The first revision above a number.
-fn above(alloc: Global, tree: &Tree, number: u64) -> Result<Option<u64>, Memory> {
-    first(tree, Some(&pod(alloc, number)?))
+fn above(alloc: Global, trees: &Trees, number: u64) -> Result<Option<u64>, Memory> {
+    first(trees, Some(&pod(alloc, number)?))
 }
 
 /// Keeps a snapshot, and what it shows.

@@ -1,26 +1,22 @@
 //! Label selectors.
 
-use crate::plain_labels;
-use crate::samples::{NO_INPUT, labels, sameness, truth};
+use crate::samples::{NO_INPUT, labels, parts, sameness, truth};
 use case_rows::{Wording, split};
-use label_select::{LabelSel, Tokens};
-use std::alloc::{AllocError, Global};
+use kube_meta::{Labels, Memory};
+use label_select::{LabelNo, LabelSel, Tokens};
+use std::alloc::Global;
 
-/// Rows: `read T`, `empty T`, `match T | LABELS`, `same T | T`, `tokens T`, and `alike LENGTH`, all short texts of a
-/// length beside a plain reader.
-pub fn answer(alloc: Global, input: &str, told: &mut Wording) -> Result<(), AllocError> {
+/// Rows: `read T`, `empty T`, `match T | LABELS`, `same T | T`, `tokens T`.
+pub fn answer(alloc: Global, input: &str, told: &mut Wording) {
     let (what, text) = split(input);
-    let (text, other) = text.split_once(" | ").unwrap_or((text, ""));
     match what {
         "read" => read(alloc, text, told),
         "empty" => empty(alloc, text, told),
-        "match" => matched(alloc, text, other, told)?,
-        "same" => same(alloc, text, other, told)?,
+        "match" => matched(alloc, text, told),
+        "same" => same(alloc, text, told),
         "tokens" => tokens(text, told),
-        "alike" => plain_labels::answer(alloc, text, told),
         _ => told.add(NO_INPUT),
     }
-    Ok(())
 }
 
 fn read(alloc: Global, text: &str, told: &mut Wording) {
@@ -37,38 +33,52 @@ fn empty(alloc: Global, text: &str, told: &mut Wording) {
     }
 }
 
-fn matched(alloc: Global, text: &str, pairs: &str, told: &mut Wording) -> Result<(), AllocError> {
-    let labels = labels(alloc, pairs)?;
-    match LabelSel::read(alloc, text) {
-        Ok(selector) => told.add(truth(selector.matches(&labels))),
-        Err(_) => told.add(NO_INPUT),
+fn matched(alloc: Global, input: &str, told: &mut Wording) {
+    let (text, pairs) = parts(input);
+    tell_match(&LabelSel::read(alloc, text), &labels(alloc, pairs), told);
+}
+
+fn tell_match(selector: &Result<LabelSel, LabelNo>, labels: &Option<Labels>, told: &mut Wording) {
+    match (selector, labels) {
+        (Ok(selector), Some(labels)) => told.add(truth(selector.matches(labels))),
+        _ => told.add(NO_INPUT),
     }
-    Ok(())
 }
 
 /// Whether two selectors, and their copies, are the same.
-fn same(alloc: Global, text: &str, other: &str, told: &mut Wording) -> Result<(), AllocError> {
-    let one = LabelSel::read(alloc, text);
-    let other = LabelSel::read(alloc, other);
-    match (&one, &other) {
-        (Ok(one), Ok(other)) => compare(alloc, one, other, told),
-        _ => {
-            told.add(NO_INPUT);
-            Ok(())
-        }
-    }
+fn same(alloc: Global, input: &str, told: &mut Wording) {
+    let (one, other) = parts(input);
+    compare(
+        alloc,
+        &LabelSel::read(alloc, one),
+        &LabelSel::read(alloc, other),
+        told,
+    );
 }
 
 fn compare(
     alloc: Global,
-    one: &LabelSel,
-    other: &LabelSel,
+    one: &Result<LabelSel, LabelNo>,
+    other: &Result<LabelSel, LabelNo>,
     told: &mut Wording,
-) -> Result<(), AllocError> {
-    let copy = one.copy(alloc)?;
-    let other_copy = other.copy(alloc)?;
-    told.add(sameness(one.same(other), copy.same(&other_copy)));
-    Ok(())
+) {
+    match (one, other) {
+        (Ok(one), Ok(other)) => {
+            told.add(told_same((one, other), &one.copy(alloc), &other.copy(alloc)));
+        }
+        _ => told.add(NO_INPUT),
+    }
+}
+
+fn told_same(
+    two: (&LabelSel, &LabelSel),
+    copy: &Result<LabelSel, Memory>,
+    other_copy: &Result<LabelSel, Memory>,
+) -> &'static str {
+    match (copy, other_copy) {
+        (Ok(copy), Ok(other)) => sameness(two.0.same(two.1), copy.same(other)),
+        _ => NO_INPUT,
+    }
 }
 
 fn tokens(text: &str, told: &mut Wording) {

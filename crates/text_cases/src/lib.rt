@@ -9,7 +9,6 @@ mod lists;
 mod names;
 mod objects;
 mod params;
-mod plain_labels;
 mod replies;
 mod requests;
 mod samples;
@@ -18,16 +17,11 @@ mod watches;
 
 use case_rows::Wording;
 pub use samples::{NO_INPUT, resource};
-use std::alloc::{AllocError, Global};
+use std::alloc::Global;
 
-/// The answer of the subject that a file's name says. An input that isn't written as its file's rows are, or whose
-/// file has another subject, is answered with `NO_INPUT`.
-pub fn answer(
-    alloc: Global,
-    file: &str,
-    input: &str,
-    told: &mut Wording,
-) -> Result<(), AllocError> {
+/// Tells the answer of the subject that a file's name says. An input that isn't written as its file's rows are, or
+/// whose file has another subject, is answered with `NO_INPUT`.
+pub fn answer(alloc: Global, file: &str, input: &str, told: &mut Wording) {
     match file {
         "texts/names.txt" => names::answer(alloc, input, told),
         "texts/labels.txt" => labels::answer(alloc, input, told),
@@ -39,9 +33,6 @@ pub fn answer(
         "texts/requests.txt" => requests::answer(alloc, input, told),
         "texts/objects.txt" => objects::answer(alloc, input, told),
         "texts/replies.txt" => replies::answer(alloc, input, told),
-        _ => {
-            told.add(NO_INPUT);
-            Ok(())
-        }
+        _ => told.add(NO_INPUT),
     }
 }

@@ -1,54 +1,54 @@
 //! The options of lists and gets, and continue tokens.
 
 use crate::samples::{NO_INPUT, key, resource};
-use case_rows::{Wording, split};
+use case_rows::{Wording, number, split};
 use http_read::Params;
 use kube_meta::{Key, Resource, Text};
-use list_rules::{AskNo, GetAsk, ListAsk, TokenNo, meaning, read_token, token};
-use select_all::{SelNo, Selection};
-use std::alloc::{AllocError, Global};
+use list_rules::{AskNo, GetAsk, ListAsk, read_token, token};
+use select_all::Selection;
+use std::alloc::Global;
 
 /// Rows: `list QUERY` of the pods of `default`; `get QUERY` of one of them; `token REVISION KEY` of these pods; `read
 /// RESOURCE TOKEN` of the resource in `default`.
-pub fn answer(alloc: Global, input: &str, told: &mut Wording) -> Result<(), AllocError> {
+pub fn answer(alloc: Global, input: &str, told: &mut Wording) {
     let (what, text) = split(input);
     match what {
-        "list" => list(alloc, text, told)?,
-        "get" => get(alloc, text, told)?,
-        "token" => write(alloc, text, told)?,
-        "read" => read(alloc, text, told)?,
+        "list" => list(alloc, text, told),
+        "get" => get(alloc, text, told),
+        "token" => write(alloc, text, told),
+        "read" => read(alloc, text, told),
         _ => told.add(NO_INPUT),
     }
-    Ok(())
 }
 
 /// All of a resource in `default`.
-fn in_default(alloc: Global, resource: Resource) -> Result<Result<Selection, SelNo>, AllocError> {
-    let ns = Some(Text::new(alloc, "default")?);
-    Ok(Selection::read(alloc, resource, ns, "", ""))
+fn in_default(alloc: Global, resource: Resource) -> Option<Selection> {
+    let ns = Text::new(alloc, "default").ok()?;
+    Selection::read(alloc, resource, Some(ns), "", "").ok()
 }
 
 /// What a query of the pods of `default` asks for.
-fn asked(alloc: Global, query: &str) -> Result<Option<Result<ListAsk, AskNo>>, AllocError> {
-    let params = Params::read(alloc, query)?;
-    match in_default(alloc, Resource::Pods)? {
-        Ok(selection) => Ok(Some(ListAsk::from_params(alloc, selection, &params))),
-        Err(_) => Ok(None),
-    }
+fn asked(alloc: Global, query: &str) -> Option<Result<ListAsk, AskNo>> {
+    let params = Params::read(alloc, query).ok()?;
+    let selection = in_default(alloc, Resource::Pods)?;
+    Some(ListAsk::from_params(alloc, selection, &params))
 }
 
-fn list(alloc: Global, query: &str, told: &mut Wording) -> Result<(), AllocError> {
-    match asked(alloc, query)? {
-        Some(Ok(ask)) => tell_ask(&ask, told),
-        Some(Err(fault)) => told.debug(&fault),
+fn list(alloc: Global, query: &str, told: &mut Wording) {
+    tell_asked(&asked(alloc, query), told);
+}
+
+fn tell_asked(asked: &Option<Result<ListAsk, AskNo>>, told: &mut Wording) {
+    match asked {
+        Some(Ok(ask)) => tell_ask(ask, told),
+        Some(Err(fault)) => told.debug(fault),
         None => told.add(NO_INPUT),
     }
-    Ok(())
 }
 
 /// The meaning, and then the limit and the key where there are such.
 fn tell_ask(ask: &ListAsk, told: &mut Wording) {
-    told.debug(&meaning(ask));
+    told.debug(&ask.meaning);
     if ask.limit != 0 {
         told.add(" limit ");
         told.show(&ask.limit);
@@ -59,66 +59,71 @@ fn tell_ask(ask: &ListAsk, told: &mut Wording) {
     }
 }
 
-fn get(alloc: Global, query: &str, told: &mut Wording) -> Result<(), AllocError> {
-    let params = Params::read(alloc, query)?;
-    match key(alloc, "default/p-5")? {
-        Some(key) => tell_get(&GetAsk::from_params(Resource::Pods, key, &params), told),
+/// What a query of one of these pods asks for.
+fn asked_of_one(alloc: Global, query: &str) -> Option<Result<GetAsk, AskNo>> {
+    let params = Params::read(alloc, query).ok()?;
+    let key = key(alloc, "default/p-5")?;
+    Some(GetAsk::from_params(Resource::Pods, key, &params))
+}
+
+fn get(alloc: Global, query: &str, told: &mut Wording) {
+    tell_get(&asked_of_one(alloc, query), told);
+}
+
+fn tell_get(asked: &Option<Result<GetAsk, AskNo>>, told: &mut Wording) {
+    match asked {
+        Some(Ok(ask)) => told.debug(&ask.meaning),
+        Some(Err(fault)) => told.debug(fault),
         None => told.add(NO_INPUT),
     }
-    Ok(())
 }
 
-fn tell_get(read: &Result<GetAsk, AskNo>, told: &mut Wording) {
-    match read {
-        Ok(ask) => told.debug(&ask.meaning),
-        Err(fault) => told.debug(fault),
-    }
-}
-
-fn write(alloc: Global, input: &str, told: &mut Wording) -> Result<(), AllocError> {
+fn write(alloc: Global, input: &str, told: &mut Wording) {
     let (revision, name) = split(input);
-    let last = key(alloc, name)?;
-    let ask = asked(alloc, "limit=2")?;
-    match (revision.parse::<u64>(), &last, &ask) {
-        (Ok(revision), Some(last), Some(Ok(ask))) => tell_token(alloc, ask, revision, last, told),
-        _ => {
-            told.add(NO_INPUT);
-            Ok(())
-        }
-    }
+    let asked = asked(alloc, "limit=2");
+    tell_token(
+        token_of(alloc, &asked, number(revision), &key(alloc, name)),
+        told,
+    );
 }
 
-fn tell_token(
+fn token_of(
     alloc: Global,
-    ask: &ListAsk,
+    asked: &Option<Result<ListAsk, AskNo>>,
     revision: u64,
-    last: &Key,
-    told: &mut Wording,
-) -> Result<(), AllocError> {
-    told.add(token(alloc, ask, revision, last)?.as_str());
-    Ok(())
-}
-
-fn read(alloc: Global, input: &str, told: &mut Wording) -> Result<(), AllocError> {
-    let (name, text) = split(input);
-    let Some(resource) = resource(name) else {
-        told.add(NO_INPUT);
-        return Ok(());
-    };
-    match in_default(alloc, resource)? {
-        Ok(selection) => tell_read(&read_token(alloc, text, &selection, "", ""), told),
-        Err(_) => told.add(NO_INPUT),
+    last: &Option<Key>,
+) -> Option<Text> {
+    match (asked, last) {
+        (Some(Ok(ask)), Some(last)) => token(alloc, ask, revision, last).ok(),
+        _ => None,
     }
-    Ok(())
 }
 
-fn tell_read(read: &Result<(u64, Key), TokenNo>, told: &mut Wording) {
-    match read {
+fn tell_token(token: Option<Text>, told: &mut Wording) {
+    match token {
+        Some(text) => told.add(text.as_str()),
+        None => told.add(NO_INPUT),
+    }
+}
+
+fn read(alloc: Global, input: &str, told: &mut Wording) {
+    let (name, text) = split(input);
+    match resource(name) {
+        Some(resource) => match in_default(alloc, resource) {
+            Some(selection) => tell_read(alloc, text, &selection, told),
+            None => told.add(NO_INPUT),
+        },
+        None => told.add(NO_INPUT),
+    }
+}
+
+fn tell_read(alloc: Global, text: &str, selection: &Selection, told: &mut Wording) {
+    match read_token(alloc, text, selection, "", "") {
         Ok((revision, key)) => {
-            told.show(revision);
+            told.show(&revision);
             told.add(" ");
             told.add(key.as_str());
         }
-        Err(fault) => told.debug(fault),
+        Err(fault) => told.debug(&fault),
     }
 }

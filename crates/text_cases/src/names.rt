@@ -1,31 +1,32 @@
 //! Names, labels, keys, revisions and resources.
 
-use crate::samples::{NO_INPUT, truth};
+use crate::samples::{self, NO_INPUT, resource, truth};
 use case_rows::{Wording, split};
 use kube_meta::{
-    Key, Resource, Rev, Text, is_label_key, is_label_value, is_namespace, is_object_name,
+    Key, KeyNo, Memory, Resource, Rev, Text, is_label_key, is_label_value, is_namespace,
+    is_object_name,
 };
-use std::alloc::{AllocError, Global};
+use std::alloc::Global;
+use std::cmp::Ordering;
 
 /// Rows: `namespace T`, `name T`, `label key T`, `label value T`, `revision T`, `key NAMESPACE NAME`, `read T`,
 /// `order KEY KEY`, `rank PLURAL PLURAL`, `resource PLURAL`, `group GROUP VERSION PLURAL`, where the core group is
 /// `core`.
-pub fn answer(alloc: Global, input: &str, told: &mut Wording) -> Result<(), AllocError> {
+pub fn answer(alloc: Global, input: &str, told: &mut Wording) {
     let (what, text) = split(input);
     match what {
         "namespace" => told.add(truth(is_namespace(text))),
         "name" => told.add(truth(is_object_name(text))),
         "label" => label(text, told),
         "revision" => revision(text, told),
-        "key" => key(alloc, text, told)?,
-        "read" => read(alloc, text, told)?,
-        "order" => order(alloc, text, told)?,
-        "rank" => told.add(rank(text)),
-        "resource" => found(Resource::of_plural(text.as_bytes()), told),
+        "key" => key(alloc, text, told),
+        "read" => read(alloc, text, told),
+        "order" => order(alloc, text, told),
+        "rank" => rank(text, told),
+        "resource" => found(resource(text), told),
         "group" => group(text, told),
         _ => told.add(NO_INPUT),
     }
-    Ok(())
 }
 
 fn label(text: &str, told: &mut Wording) {
@@ -44,20 +45,26 @@ fn revision(text: &str, told: &mut Wording) {
     }
 }
 
-fn key(alloc: Global, text: &str, told: &mut Wording) -> Result<(), AllocError> {
-    let Some((ns, name)) = text.split_once(' ') else {
-        told.add(NO_INPUT);
-        return Ok(());
-    };
-    match Key::new(Text::new(alloc, ns)?, Text::new(alloc, name)?) {
-        Ok(key) => {
+fn key(alloc: Global, text: &str, told: &mut Wording) {
+    tell_key(&key_of(alloc, text), told);
+}
+
+fn tell_key(read: &Result<Result<Key, KeyNo>, Memory>, told: &mut Wording) {
+    match read {
+        Ok(Ok(key)) => {
             told.add(key.as_str());
             told.add(" = ");
-            tell_parts(&key, told);
+            tell_parts(key, told);
         }
-        Err(fault) => told.debug(&fault),
+        Ok(Err(fault)) => told.debug(fault),
+        Err(_) => told.add(NO_INPUT),
     }
-    Ok(())
+}
+
+/// The key of a namespace and a name, or why it is none.
+fn key_of(alloc: Global, text: &str) -> Result<Result<Key, KeyNo>, Memory> {
+    let (ns, name) = split(text);
+    Ok(Key::new(Text::new(alloc, ns)?, Text::new(alloc, name)?))
 }
 
 fn tell_parts(key: &Key, told: &mut Wording) {
@@ -66,46 +73,44 @@ fn tell_parts(key: &Key, told: &mut Wording) {
     told.add(key.name());
 }
 
-fn read(alloc: Global, text: &str, told: &mut Wording) -> Result<(), AllocError> {
-    match Key::read(alloc, text.as_bytes())? {
-        Some(key) => tell_parts(&key, told),
-        None => told.add("no key"),
-    }
-    Ok(())
+fn read(alloc: Global, text: &str, told: &mut Wording) {
+    tell_read(&Key::read(alloc, text.as_bytes()), told);
 }
 
-fn order(alloc: Global, text: &str, told: &mut Wording) -> Result<(), AllocError> {
+fn tell_read(read: &Result<Option<Key>, Memory>, told: &mut Wording) {
+    match read {
+        Ok(Some(key)) => tell_parts(key, told),
+        Ok(None) => told.add("no key"),
+        Err(_) => told.add(NO_INPUT),
+    }
+}
+
+fn order(alloc: Global, text: &str, told: &mut Wording) {
     let (one, other) = split(text);
-    let one = crate::samples::key(alloc, one)?;
-    let other = crate::samples::key(alloc, other)?;
-    match (&one, &other) {
-        (Some(one), Some(other)) => told.add(sign(one, other)),
-        _ => told.add(NO_INPUT),
-    }
-    Ok(())
+    tell_order(&samples::key(alloc, one), &samples::key(alloc, other), told);
 }
 
-fn sign(one: &Key, other: &Key) -> &'static str {
-    if one < other {
-        "before"
-    } else if one == other {
-        "same"
-    } else {
-        "behind"
+fn tell_order(one: &Option<Key>, other: &Option<Key>, told: &mut Wording) {
+    match (one, other) {
+        (Some(one), Some(other)) => told.add(side(one.cmp(other))),
+        _ => told.add(NO_INPUT),
     }
 }
 
 /// The order of two resources.
-fn rank(text: &str) -> &'static str {
+fn rank(text: &str, told: &mut Wording) {
     let (one, other) = split(text);
-    let Some(one) = Resource::of_plural(one.as_bytes()) else {
-        return NO_INPUT;
-    };
-    match Resource::of_plural(other.as_bytes()) {
-        Some(other) if one < other => "before",
-        Some(other) if one == other => "same",
-        Some(_) => "behind",
-        None => NO_INPUT,
+    match (resource(one), resource(other)) {
+        (Some(one), Some(other)) => told.add(side(one.cmp(&other))),
+        _ => told.add(NO_INPUT),
+    }
+}
+
+fn side(order: Ordering) -> &'static str {
+    match order {
+        Ordering::Less => "before",
+        Ordering::Equal => "same",
+        Ordering::Greater => "behind",
     }
 }
 
@@ -113,8 +118,10 @@ fn rank(text: &str) -> &'static str {
 fn group(text: &str, told: &mut Wording) {
     let (group, rest) = split(text);
     let (version, plural) = split(rest);
-    let group = if group == "core" { "" } else { group };
-    found(Resource::of_group(group, version, plural), told);
+    match group {
+        "core" => found(Resource::of_group("", version, plural), told),
+        _ => found(Resource::of_group(group, version, plural), told),
+    }
 }
 
 fn found(resource: Option<Resource>, told: &mut Wording) {

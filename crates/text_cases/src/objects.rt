@@ -1,20 +1,25 @@
 //! Objects in bodies.
 
+ghost use Rattle.kube_meta.specs.Names.{IsNamespace};
+
+use crate::replies::tell_pieces;
 use crate::samples::{NO_INPUT, resource};
 use case_rows::{Wording, split};
 use json_obj::{ObjNo, obj_of, read_obj, read_value};
-use kube_meta::{Obj, Resource, Row, Text, is_namespace};
-use meta_view::meta_text;
+use kube_meta::{Obj, Resource, Text, is_namespace};
+use meta_view::{Form, shown_pieces};
 use serde_json::Value;
-use std::alloc::{AllocError, Global};
-use std::sync::Arc;
+use std::alloc::Global;
 
-/// What a row shows of an object: each begins with the resource and the namespace, and `replace` has the path's name
-/// then.
+/// How a row's object is read, and what is shown of it.
 #[derive(Clone, Copy)]
 enum Part {
     /// The JSON at revision 7, with the revision that the body gives.
     Json,
+    /// The same, where the path's name stands before the body.
+    Replaced,
+    /// The same of a value that may have floats.
+    OfValue,
     Labels,
     Fields,
     /// The metadata's JSON at revision 7, by its bounds.
@@ -26,81 +31,95 @@ enum Part {
 /// Rows: `create RESOURCE NAMESPACE BODY` and with the same words `labels`, `fields`, `metadata`, `partial`; `replace
 /// RESOURCE NAMESPACE NAME BODY`; `value RESOURCE NAMESPACE BODY`, a value that may have floats; `json BODY`, whether
 /// it is one value.
-pub fn answer(alloc: Global, input: &str, told: &mut Wording) -> Result<(), AllocError> {
+pub fn answer(alloc: Global, input: &str, told: &mut Wording) {
     let (what, text) = split(input);
+    match part_of(what) {
+        Some(part) => read(alloc, part, text, told),
+        None if what == "json" => json(alloc, text, told),
+        None => told.add(NO_INPUT),
+    }
+}
+
+fn part_of(what: &str) -> Option<Part> {
     match what {
-        "create" => shown(alloc, Part::Json, text, told)?,
-        "labels" => shown(alloc, Part::Labels, text, told)?,
-        "fields" => shown(alloc, Part::Fields, text, told)?,
-        "metadata" => shown(alloc, Part::Metadata, text, told)?,
-        "partial" => shown(alloc, Part::Partial, text, told)?,
-        "replace" => replaced(alloc, text, told)?,
-        "value" => of_value(alloc, text, told)?,
-        "json" => json(alloc, text, told),
-        _ => told.add(NO_INPUT),
+        "create" => Some(Part::Json),
+        "replace" => Some(Part::Replaced),
+        "value" => Some(Part::OfValue),
+        "labels" => Some(Part::Labels),
+        "fields" => Some(Part::Fields),
+        "metadata" => Some(Part::Metadata),
+        "partial" => Some(Part::Partial),
+        _ => None,
     }
-    Ok(())
 }
 
-/// The resource and the namespace of a row, and what stands behind them.
-fn place(input: &str) -> Option<(Resource, &str, &str)> {
+fn read(alloc: Global, part: Part, input: &str, told: &mut Wording) {
     let (name, rest) = split(input);
-    let (ns, behind) = split(rest);
+    let (ns, body) = split(rest);
     match resource(name) {
-        Some(resource) => Some((resource, ns, behind)),
-        None => None,
+        Some(resource) => {
+            if is_namespace(ns) {
+                tell_read(part, &read_in(alloc, part, resource, ns, body), told);
+            } else {
+                told.add(NO_INPUT);
+            }
+        }
+        None => told.add(NO_INPUT),
     }
 }
 
-fn shown(alloc: Global, what: Part, input: &str, told: &mut Wording) -> Result<(), AllocError> {
-    let Some((resource, ns, body)) = place(input) else {
-        told.add(NO_INPUT);
-        return Ok(());
-    };
-    let ns = Text::new(alloc, ns)?;
-    if !is_namespace(ns.as_str()) {
-        told.add(NO_INPUT);
-        return Ok(());
-    }
-    let read = read_obj(alloc, body.as_bytes(), resource, &ns, None);
-    tell_read(alloc, what, read, told)
+fn read_in(
+    alloc: Global,
+    part: Part,
+    resource: Resource,
+    ns: &str,
+    body: &str,
+) -> Result<(Obj, Option<u64>), ObjNo>
+    requires { IsNamespace ns.now }
+{
+    read_as(alloc, part, resource, &Text::new(alloc, ns)?, body)
 }
 
-fn replaced(alloc: Global, input: &str, told: &mut Wording) -> Result<(), AllocError> {
-    let Some((resource, ns, rest)) = place(input) else {
-        told.add(NO_INPUT);
-        return Ok(());
-    };
-    let (name, body) = split(rest);
+fn read_as(
+    alloc: Global,
+    part: Part,
+    resource: Resource,
+    ns: &Text,
+    body: &str,
+) -> Result<(Obj, Option<u64>), ObjNo>
+    requires { IsNamespace ns.now }
+{
+    match part {
+        Part::Replaced => read_replaced(alloc, resource, ns, body),
+        Part::OfValue => read_of_value(alloc, resource, ns, body),
+        _ => read_obj(alloc, body.as_bytes(), resource, ns, None),
+    }
+}
+
+fn read_replaced(
+    alloc: Global,
+    resource: Resource,
+    ns: &Text,
+    text: &str,
+) -> Result<(Obj, Option<u64>), ObjNo>
+    requires { IsNamespace ns.now }
+{
+    let (name, body) = split(text);
     let name = Text::new(alloc, name)?;
-    let ns = Text::new(alloc, ns)?;
-    if !is_namespace(ns.as_str()) {
-        told.add(NO_INPUT);
-        return Ok(());
-    }
-    let read = read_obj(alloc, body.as_bytes(), resource, &ns, Some(&name));
-    tell_read(alloc, Part::Json, read, told)
+    read_obj(alloc, body.as_bytes(), resource, ns, Some(&name))
 }
 
-fn of_value(alloc: Global, input: &str, told: &mut Wording) -> Result<(), AllocError> {
-    let Some((resource, ns, body)) = place(input) else {
-        told.add(NO_INPUT);
-        return Ok(());
-    };
-    let ns = Text::new(alloc, ns)?;
-    if !is_namespace(ns.as_str()) {
-        told.add(NO_INPUT);
-        return Ok(());
-    }
+fn read_of_value(
+    alloc: Global,
+    resource: Resource,
+    ns: &Text,
+    body: &str,
+) -> Result<(Obj, Option<u64>), ObjNo>
+    requires { IsNamespace ns.now }
+{
     match Value::from_str(alloc, body) {
-        Ok(value) => {
-            let read = obj_of(alloc, &value, resource, &ns, None);
-            tell_read(alloc, Part::Json, read, told)
-        }
-        Err(_) => {
-            told.add(NO_INPUT);
-            Ok(())
-        }
+        Ok(value) => obj_of(alloc, &value, resource, ns, None),
+        Err(_) => Err(ObjNo::NotJson),
     }
 }
 
@@ -121,36 +140,21 @@ fn kind_of(value: &Value) -> &'static str {
     }
 }
 
-fn tell_read(
-    alloc: Global,
-    what: Part,
-    read: Result<(Obj, Option<u64>), ObjNo>,
-    told: &mut Wording,
-) -> Result<(), AllocError> {
+fn tell_read(part: Part, read: &Result<(Obj, Option<u64>), ObjNo>, told: &mut Wording) {
     match read {
-        Ok((object, given)) => tell_object(alloc, what, object, given, told),
-        Err(fault) => {
-            told.debug(&fault);
-            Ok(())
-        }
+        Ok((object, given)) => tell_object(part, object, *given, told),
+        Err(fault) => told.debug(fault),
     }
 }
 
-fn tell_object(
-    alloc: Global,
-    what: Part,
-    object: Obj,
-    given: Option<u64>,
-    told: &mut Wording,
-) -> Result<(), AllocError> {
-    match what {
-        Part::Json => tell_json(&object, given, told),
-        Part::Labels => tell_labels(&object, told),
-        Part::Fields => tell_fields(&object, told),
-        Part::Metadata => tell_metadata(&object, told),
-        Part::Partial => return tell_partial(alloc, object, told),
+fn tell_object(part: Part, object: &Obj, given: Option<u64>, told: &mut Wording) {
+    match part {
+        Part::Json | Part::Replaced | Part::OfValue => tell_json(object, given, told),
+        Part::Labels => tell_labels(object, told),
+        Part::Fields => tell_fields(object, told),
+        Part::Metadata => tell_metadata(object, told),
+        Part::Partial => tell_pieces(&shown_pieces(Form::Metadata, object, b"7"), told),
     }
-    Ok(())
 }
 
 fn tell_json(object: &Obj, given: Option<u64>, told: &mut Wording) {
@@ -192,14 +196,4 @@ fn tell_metadata(object: &Obj, told: &mut Wording) {
         }
         _ => told.add("no bounds"),
     }
-}
-
-fn tell_partial(alloc: Global, object: Obj, told: &mut Wording) -> Result<(), AllocError> {
-    let row = Row {
-        obj: Arc::new(alloc, object)?,
-        rev: 7,
-    };
-    let text = meta_text(alloc, &row)?;
-    told.add(str::from_utf8(text.as_slice()).unwrap_or("no UTF-8"));
-    Ok(())
 }

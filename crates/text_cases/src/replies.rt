@@ -2,39 +2,37 @@
 
 use crate::samples::{NO_INPUT, resource};
 use case_rows::{Wording, split};
-use json_obj::{
-    EventType, More, Refusal, bookmark, expired_pieces, list_parts, status, value_pieces,
+use json_obj::{EventType, Refusal, expired_pieces, quoted, status, value_pieces};
+use kube_meta::{Memory, Resource, Text};
+use meta_view::{
+    Form, shown_bookmark, shown_list_back, shown_list_front, shown_list_more, wants_metadata,
 };
-use kube_meta::{Resource, Text};
-use meta_view::{meta_bookmark, meta_list_parts, wants_metadata};
-use std::alloc::{AllocError, Global};
+use std::alloc::Global;
 
 /// Rows: `bookmark RESOURCE REVISION`, `closing RESOURCE REVISION`, `list RESOURCE REVISION`, `page RESOURCE REVISION
 /// TOKEN LEFT`, each also with the resource `metadata`; `status CODE REASON MESSAGE`, and `too-large CODE REASON
 /// MESSAGE`; `line TYPE`, `value NUMBER`, `expired ASKED FLOOR`; `accept TYPES`, the form that is asked for. Items
 /// and objects are written `..`.
-pub fn answer(alloc: Global, input: &str, told: &mut Wording) -> Result<(), AllocError> {
+pub fn answer(alloc: Global, input: &str, told: &mut Wording) {
     let (what, text) = split(input);
     match what {
-        "bookmark" => marked(alloc, text, false, told)?,
-        "closing" => marked(alloc, text, true, told)?,
-        "list" | "page" => list(alloc, text, told)?,
-        "status" => refusal(alloc, text, false, told)?,
-        "too-large" => refusal(alloc, text, true, told)?,
+        "bookmark" | "closing" => marked(what, text, told),
+        "list" => list(text, told),
+        "page" => page(alloc, text, told),
+        "status" | "too-large" => tell_status(&status_of(alloc, what, text), told),
         "line" => line(text, told),
         "value" => tell_pieces(&value_pieces(text.as_bytes()), told),
         "expired" => expired(text, told),
         "accept" => told.add(form_of(text)),
         _ => told.add(NO_INPUT),
     }
-    Ok(())
 }
 
-/// The resource of a row; `metadata` is none, for texts with the metadata alone.
-fn shown(name: &str) -> Option<Option<Resource>> {
+/// The form and the resource of a row; `metadata` is any resource with the metadata alone.
+fn shown(name: &str) -> Option<(Form, Resource)> {
     match (name, resource(name)) {
-        ("metadata", _) => Some(None),
-        (_, Some(resource)) => Some(Some(resource)),
+        ("metadata", _) => Some((Form::Metadata, Resource::Pods)),
+        (_, Some(resource)) => Some((Form::Whole, resource)),
         _ => None,
     }
 }
@@ -44,73 +42,104 @@ fn tell_bytes(bytes: &[u8], told: &mut Wording) {
 }
 
 /// Pieces, one after the other.
-fn tell_pieces(pieces: &[&[u8]], told: &mut Wording) {
+pub fn tell_pieces(pieces: &[&[u8]], told: &mut Wording) {
     for piece in pieces {
         tell_bytes(piece, told);
     }
 }
 
-fn marked(alloc: Global, input: &str, closing: bool, told: &mut Wording) -> Result<(), AllocError> {
+fn marked(what: &str, input: &str, told: &mut Wording) {
     let (name, revision) = split(input);
-    let text = match (shown(name), revision.parse::<u64>()) {
-        (Some(Some(resource)), Ok(rev)) => bookmark(alloc, resource, rev, closing)?,
-        (Some(None), Ok(rev)) => meta_bookmark(alloc, rev, closing)?,
-        _ => {
-            told.add(NO_INPUT);
-            return Ok(());
+    match shown(name) {
+        Some((form, resource)) => {
+            let (digits, closing) = (revision.as_bytes(), what == "closing");
+            tell_pieces(&shown_bookmark(form, resource, digits, closing), told);
         }
-    };
-    tell_bytes(text.as_slice(), told);
-    Ok(())
-}
-
-/// That a page has more behind it, where its row says so: the token, and how many are left.
-fn more_of(alloc: Global, rest: &str) -> Result<Option<More>, AllocError> {
-    match rest.split_once(' ') {
-        Some((token, left)) => Ok(Some(More {
-            token: Text::new(alloc, token)?,
-            left: left.parse::<u64>().ok(),
-        })),
-        None => Ok(None),
+        None => told.add(NO_INPUT),
     }
 }
 
-fn list(alloc: Global, input: &str, told: &mut Wording) -> Result<(), AllocError> {
-    let (name, rest) = split(input);
-    let (revision, rest) = split(rest);
-    let more = more_of(alloc, rest)?;
-    let (front, back) = match (shown(name), revision.parse::<u64>()) {
-        (Some(Some(resource)), Ok(rev)) => list_parts(alloc, resource, rev, more.as_ref())?,
-        (Some(None), Ok(rev)) => meta_list_parts(alloc, rev, more.as_ref())?,
-        _ => {
-            told.add(NO_INPUT);
-            return Ok(());
+fn list(input: &str, told: &mut Wording) {
+    let (name, revision) = split(input);
+    match shown(name) {
+        Some((form, resource)) => {
+            tell_front(form, resource, told);
+            tell_pieces(&shown_list_back(form, resource, revision.as_bytes()), told);
         }
-    };
-    tell_pieces(&[front.as_slice(), b"..", back.as_slice()], told);
-    Ok(())
+        None => told.add(NO_INPUT),
+    }
 }
 
-fn refusal(
-    alloc: Global,
-    input: &str,
-    too_large: bool,
+fn page(alloc: Global, input: &str, told: &mut Wording) {
+    let (name, rest) = split(input);
+    let (revision, rest) = split(rest);
+    let (token, left) = split(rest);
+    match shown(name) {
+        Some((form, resource)) => {
+            tell_front(form, resource, told);
+            let digits = revision.as_bytes();
+            tell_more(
+                (form, resource),
+                digits,
+                &quoted(alloc, token),
+                told_left(left),
+                told,
+            );
+        }
+        None => told.add(NO_INPUT),
+    }
+}
+
+fn tell_more(
+    shown: (Form, Resource),
+    digits: &[u8],
+    token: &Result<String, Memory>,
+    left: Option<&[u8]>,
     told: &mut Wording,
-) -> Result<(), AllocError> {
+) {
+    match token {
+        Ok(token) => {
+            let token = token.as_bytes();
+            tell_pieces(
+                &shown_list_more(shown.0, shown.1, digits, token, left),
+                told,
+            );
+        }
+        Err(_) => told.add(NO_INPUT),
+    }
+}
+
+/// A list before its items, and `..` for these.
+fn tell_front(form: Form, resource: Resource, told: &mut Wording) {
+    tell_pieces(&shown_list_front(form, resource), told);
+    told.add("..");
+}
+
+/// How many items are left behind a page; `-` is none that is told.
+fn told_left(word: &str) -> Option<&[u8]> {
+    match word {
+        "-" => None,
+        digits => Some(digits.as_bytes()),
+    }
+}
+
+fn tell_status(text: &Result<Vec<u8>, Memory>, told: &mut Wording) {
+    match text {
+        Ok(text) => tell_bytes(text.as_slice(), told),
+        Err(_) => told.add(NO_INPUT),
+    }
+}
+
+fn status_of(alloc: Global, what: &str, input: &str) -> Result<Vec<u8>, Memory> {
     let (code, rest) = split(input);
     let (reason, message) = split(rest);
-    let Ok(code) = code.parse::<u16>() else {
-        told.add(NO_INPUT);
-        return Ok(());
-    };
     let refusal = Refusal {
-        code,
+        code: code.parse::<u16>().unwrap_or(0),
         reason: Text::new(alloc, reason)?,
         message: Text::new(alloc, message)?,
-        too_large,
+        too_large: what == "too-large",
     };
-    tell_bytes(status(alloc, &refusal)?.as_slice(), told);
-    Ok(())
+    status(alloc, &refusal)
 }
 
 fn expired(input: &str, told: &mut Wording) {

@@ -5,24 +5,26 @@ use case_rows::Wording;
 use http_read::Params;
 use kube_meta::Resource;
 use select_all::Selection;
-use std::alloc::{AllocError, Global};
+use std::alloc::Global;
 use watch_rules::{WatchAsk, WatchNo, plan};
 
 /// Rows: the query of a watch of all pods.
-pub fn answer(alloc: Global, query: &str, told: &mut Wording) -> Result<(), AllocError> {
-    let params = Params::read(alloc, query)?;
-    match Selection::read(alloc, Resource::Pods, None, "", "") {
-        Ok(selection) => tell_read(&WatchAsk::from_params(selection, &params), told),
-        Err(_) => told.add(NO_INPUT),
-    }
-    Ok(())
+pub fn answer(alloc: Global, query: &str, told: &mut Wording) {
+    tell_asked(&asked(alloc, query), told);
 }
 
-fn tell_read(read: &Result<WatchAsk, WatchNo>, told: &mut Wording) {
-    match read {
-        Ok(ask) => tell_ask(ask, told),
-        Err(fault) => told.debug(fault),
+fn tell_asked(asked: &Option<Result<WatchAsk, WatchNo>>, told: &mut Wording) {
+    match asked {
+        Some(Ok(ask)) => tell_ask(ask, told),
+        Some(Err(fault)) => told.debug(fault),
+        None => told.add(NO_INPUT),
     }
+}
+
+fn asked(alloc: Global, query: &str) -> Option<Result<WatchAsk, WatchNo>> {
+    let params = Params::read(alloc, query).ok()?;
+    let selection = Selection::read(alloc, Resource::Pods, None, "", "").ok()?;
+    Some(WatchAsk::from_params(selection, &params))
 }
 
 /// The start, and then what else was asked for.

@@ -2,8 +2,10 @@
 
 use case_rows::Wording;
 use command_line::{Asked, ServeOptions, WordsNo, read_words};
-use std::alloc::{AllocError, Global};
+use kube_meta::Memory;
+use std::alloc::Global;
 use std::fmt::Display;
+use text_cases::NO_INPUT;
 use up_api::Settings;
 
 /// Rows: the words of a command line behind the program's name, with a blank between two; none where the row is empty.
@@ -11,13 +13,23 @@ use up_api::Settings;
 /// `--batch`, `--history`, `--bookmark-ms` and `--timeout-s`; a server with `--port`, `--workers`, `--open` and
 /// `--connections`, then these, and `--peer` where it is given; a load with `--from` and `--requests`. A check has no
 /// options.
-pub fn answer(alloc: Global, input: &str, told: &mut Wording) -> Result<(), AllocError> {
-    match read_words(alloc, &split(alloc, input)?) {
+pub fn answer(alloc: Global, input: &str, told: &mut Wording) {
+    tell_read(asked(alloc, input), told);
+}
+
+fn asked(alloc: Global, line: &str) -> Result<Asked, WordsNo> {
+    match split(alloc, line) {
+        Ok(words) => read_words(alloc, words.as_slice()),
+        Err(_) => Err(WordsNo::Memory),
+    }
+}
+
+fn tell_read(read: Result<Asked, WordsNo>, told: &mut Wording) {
+    match read {
         Ok(asked) => tell_asked(&asked, told),
         Err(WordsNo::Bad) => told.add("bad"),
-        Err(WordsNo::Memory) => return Err(AllocError),
+        Err(WordsNo::Memory) => told.add(NO_INPUT),
     }
-    Ok(())
 }
 
 fn tell_asked(asked: &Asked, told: &mut Wording) {
@@ -38,7 +50,7 @@ fn tell_asked(asked: &Asked, told: &mut Wording) {
     }
 }
 
-fn split(alloc: Global, line: &str) -> Result<Vec<String>, AllocError> {
+fn split(alloc: Global, line: &str) -> Result<Vec<String>, Memory> {
     let mut list = Vec::new(alloc);
     if !line.is_empty() {
         for word in line.split(' ') {

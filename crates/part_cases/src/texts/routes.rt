@@ -2,38 +2,50 @@
 
 use case_rows::Wording;
 use edge_io::MemSource;
-use http_read::{Reader, Req};
-use kube_meta::{Key, Resource};
+use http_read::{Reader, Req, ReqNo};
+use kube_meta::{Key, Memory, Resource};
 use route_req::{RouteNo, Routed, route};
 use select_all::Selection;
-use std::alloc::{AllocError, Global};
+use std::alloc::Global;
 use text_cases::NO_INPUT;
 use up_store::WriteAsk;
 
 /// Rows: `METHOD TARGET`, or `METHOD TARGET | BODY`. Before the body, fields may stand behind ` & `.
-pub fn answer(alloc: Global, input: &str, told: &mut Wording) -> Result<(), AllocError> {
-    match routed(alloc, input)? {
-        Some(Ok(routed)) => tell_route(&routed, told),
-        Some(Err(why)) => told.debug(&why),
-        None => told.add(NO_INPUT),
-    }
-    Ok(())
+pub fn answer(alloc: Global, input: &str, told: &mut Wording) {
+    tell_routed(&routed(alloc, input), told);
 }
 
-/// The route of a row's request, or why it has none.
-pub fn routed(alloc: Global, input: &str) -> Result<Option<Result<Routed, RouteNo>>, AllocError> {
-    let text = request_text(alloc, input)?;
-    match request_of(alloc, text.as_bytes())? {
-        Some(req) => Ok(Some(route(alloc, &req))),
-        None => Ok(None),
+fn tell_routed(routed: &Option<Result<Routed, RouteNo>>, told: &mut Wording) {
+    match routed {
+        Some(Ok(routed)) => tell_route(routed, told),
+        Some(Err(why)) => told.debug(why),
+        None => told.add(NO_INPUT),
+    }
+}
+
+/// Why a row's request has no route, if it has none.
+pub fn fault(alloc: Global, input: &str) -> Option<RouteNo> {
+    routed(alloc, input)?.err()
+}
+
+/// The route of a row's request, or why it has none; none where the row has no request.
+fn routed(alloc: Global, input: &str) -> Option<Result<Routed, RouteNo>> {
+    let req = first_request(alloc, request_text(alloc, input).ok()?.as_bytes());
+    route_of(alloc, &req.ok()?)
+}
+
+fn route_of(alloc: Global, req: &Option<Req>) -> Option<Result<Routed, RouteNo>> {
+    match req {
+        Some(req) => Some(route(alloc, req)),
+        None => None,
     }
 }
 
 /// A row's request as bytes.
-fn request_text(alloc: Global, input: &str) -> Result<String, AllocError> {
+fn request_text(alloc: Global, input: &str) -> Result<String, Memory> {
+    let mut text = Wording::new(alloc);
     let (head, body) = input.split_once(" | ").unwrap_or((input, ""));
     let (line, fields) = head.split_once(" & ").unwrap_or((head, "Host: a"));
-    let mut text = Wording::new(alloc);
     text.add(line);
     text.add(" HTTP/1.1\r\nContent-Length: ");
     text.show(&body.len());
@@ -44,36 +56,28 @@ fn request_text(alloc: Global, input: &str) -> Result<String, AllocError> {
     text.whole()
 }
 
-fn request_of(alloc: Global, bytes: &[u8]) -> Result<Option<Req>, AllocError> {
+/// The first request of some bytes, or why it is refused.
+pub fn first_request(alloc: Global, bytes: &[u8]) -> Result<Option<Req>, ReqNo> {
     let mut source = MemSource::new(bytes.to_vec(alloc)?, 65_536, Vec::new(alloc));
-    let mut reader = Reader::new(alloc)?;
-    match reader.next_request(&mut source) {
-        Ok(req) => Ok(req),
-        Err(_) => Ok(None),
-    }
+    Reader::new(alloc)?.next_request(&mut source)
 }
 
 fn tell_route(routed: &Routed, told: &mut Wording) {
     match routed {
         Routed::Write(ask) => tell_write(ask, told),
         Routed::Get(ask) => {
-            told.add("get ");
-            told.add(ask.resource.plural());
-            told.add(" ");
-            told.add(ask.key.as_str());
+            tell_object("get ", ask.resource, &ask.key, told);
             told.add(" ");
             told.debug(&ask.meaning);
         }
         Routed::List(ask) => {
-            told.add("list ");
-            tell_selection(&ask.selection, told);
+            tell_selection("list ", &ask.selection, told);
             told.debug(&ask.meaning);
             told.add(" ");
             told.show(&ask.limit);
         }
         Routed::Watch(ask) => {
-            told.add("watch ");
-            tell_selection(&ask.selection, told);
+            tell_selection("watch ", &ask.selection, told);
             told.debug(&ask.start);
         }
         Routed::Operate(operation) => told.debug(operation),
@@ -86,8 +90,9 @@ fn tell_route(routed: &Routed, told: &mut Wording) {
     }
 }
 
-/// The resource and the namespace, with a blank behind each.
-fn tell_selection(selection: &Selection, told: &mut Wording) {
+/// What is asked for, the resource and the namespace, with a blank behind each.
+fn tell_selection(what: &str, selection: &Selection, told: &mut Wording) {
+    told.add(what);
     told.add(selection.resource.plural());
     told.add(" ");
     match &selection.ns {
@@ -99,9 +104,7 @@ fn tell_selection(selection: &Selection, told: &mut Wording) {
 
 fn tell_write(ask: &WriteAsk, told: &mut Wording) {
     match ask {
-        WriteAsk::Create { resource, obj } => {
-            tell_object("create ", *resource, &obj.key, told);
-        }
+        WriteAsk::Create { resource, obj } => tell_object("create ", *resource, &obj.key, told),
         WriteAsk::Replace {
             resource,
             obj,

@@ -54,6 +54,13 @@ impl<N: LogFacts> Model for Scene<N> {
     ghost invariant = { λ s. IsScene N.base s.hub s.told s.reflector };
 }
 
+/// A store that cuts and compacts as a script's first line says.
+fn scripted<N: LogFacts>(store: Store<N>, start: Start) -> ScriptedStore<N> {
+    let mut scripted = ScriptedStore::new(store, start.cuts);
+    scripted.also_compact(start.compactions);
+    scripted
+}
+
 impl<N: LogFacts> Scene<N> {
     /// A new store and a cache at its first revision.
     pub fn new(alloc: Global, made: Blank<Revision>, start: Start) -> Result<Scene<N>, Memory>
@@ -62,19 +69,12 @@ impl<N: LogFacts> Scene<N> {
         requires own { N.mirror ≡ false }
     {
         let settings = start.settings();
-        let Start {
-            cuts,
-            compactions,
-            ..
-        } = start;
-        let mut store = Store::new(alloc, made, settings.history)?;
-        let mut told = store.pass()?;
+        let mut store = scripted(Store::new(alloc, made, settings.history)?, start);
+        let mut told = store.store().pass()?;
         let history = store.history(Resource::Pods, &mut told)?;
         let hub = Hub::new(alloc, Resource::Pods, history, &settings, &mut told)?;
-        let mut scripted = ScriptedStore::new(store, cuts);
-        scripted.also_compact(compactions);
         Ok(Scene {
-            store: scripted,
+            store,
             told,
             hub,
             reflector: Reflector::with_batch(Resource::Pods, settings.batch),

@@ -4,30 +4,30 @@ use crate::hub::scene::{Scene, Stage, Watch};
 use crate::hub::texts::{tell_lines, tell_rows};
 use crate::store::calls::tell_operated;
 use crate::store::writes::{write_of, writes_of};
+use crate::words::tell_number;
+use cache_hub::Hub;
 use case_rows::{NO_STEP, Steps, Wording, number, split};
 use kube_meta::{Memory, Resource};
 use select_all::Selection;
 use std::alloc::Global;
 use up_api::LogFacts;
-use up_store::Transaction;
+use up_store::{Transaction, WriteAsk};
 
 impl<N: LogFacts> Steps for Stage<N> {
     fn answer(&mut self, alloc: Global, step: &str, told: &mut Wording) -> Result<(), Memory> {
         let (verb, rest) = split(step);
         match verb {
-            "create" | "replace" | "remove" => write(alloc, &mut self.scene, step, told)?,
-            "transact" => transact(alloc, &mut self.scene, rest, told)?,
+            "create" | "replace" | "remove" => return write(alloc, self, step, told),
+            "transact" => return transact(alloc, self, rest, told),
             "cut" => tell_operated(&self.scene.cut(), told),
             "compact" => tell_operated(&self.scene.compact(number(rest)), told),
-            "floor" => told.show(&self.scene.hub.floor()),
-            "end" => told.show(&self.scene.hub.end()),
-            "at" => state(&self.scene, number(rest), told),
-            "pump" => pump(&mut self.scene, number(rest), told)?,
+            "floor" | "end" | "at" => tell_hub(&self.scene.hub, verb, number(rest), told),
+            "pump" => return pump(self, number(rest), told),
             "tick" => {
                 self.scene.tick(number(rest));
                 told.add("ok");
             }
-            _ => watching(alloc, self, verb, rest, told)?,
+            _ => return watching(alloc, self, verb, rest, told),
         }
         Ok(())
     }
@@ -43,7 +43,7 @@ fn watching<N: LogFacts>(
 ) -> Result<(), Memory> {
     let (first, second) = split(rest);
     match verb {
-        "open" => open(alloc, stage, number(first), second, told)?,
+        "open" => return open(alloc, stage, number(first), second, told),
         "take" => take(stage, number(first), told),
         "catch" => catch(stage, number(first), number(second), told),
         "close" => close(stage, number(first), told),
@@ -54,29 +54,32 @@ fn watching<N: LogFacts>(
 
 fn write<N: LogFacts>(
     alloc: Global,
-    scene: &mut Scene<N>,
+    stage: &mut Stage<N>,
     text: &str,
     told: &mut Wording,
 ) -> Result<(), Memory> {
-    let Some(ask) = write_of(alloc, text)? else {
-        told.add("no write");
-        return Ok(());
-    };
-    match scene.write(&ask) {
-        Ok(written) => told.show(&written.rev),
-        Err(no) => told.debug(&no),
+    match write_of(alloc, text)? {
+        Some(ask) => tell_written(&mut stage.scene, &ask, told),
+        None => told.add("no write"),
     }
     Ok(())
 }
 
+fn tell_written<N: LogFacts>(scene: &mut Scene<N>, ask: &WriteAsk, told: &mut Wording) {
+    match scene.write(ask) {
+        Ok(written) => told.show(&written.rev),
+        Err(no) => told.debug(&no),
+    }
+}
+
 fn transact<N: LogFacts>(
     alloc: Global,
-    scene: &mut Scene<N>,
+    stage: &mut Stage<N>,
     text: &str,
     told: &mut Wording,
 ) -> Result<(), Memory> {
     match Transaction::new(writes_of(alloc, text)?) {
-        Ok(transaction) => tell_transacted(scene, &transaction, told),
+        Ok(transaction) => tell_transacted(&mut stage.scene, &transaction, told),
         Err(no) => told.debug(&no),
     }
     Ok(())
@@ -93,25 +96,31 @@ fn tell_transacted<N: LogFacts>(
     }
 }
 
-fn state<N: LogFacts>(scene: &Scene<N>, at: u64, told: &mut Wording) {
-    if at > scene.hub.end() {
+/// The steps that read the cache.
+fn tell_hub<N: LogFacts>(hub: &Hub<N>, verb: &str, at: u64, told: &mut Wording) {
+    match verb {
+        "floor" => told.show(&hub.floor()),
+        "end" => told.show(&hub.end()),
+        _ => tell_state(hub, at, told),
+    }
+}
+
+fn tell_state<N: LogFacts>(hub: &Hub<N>, at: u64, told: &mut Wording) {
+    if at > hub.end() {
         told.add("above the end");
         return;
     }
-    match scene.hub.at(at) {
+    match hub.at(at) {
         Ok(snapshot) => tell_rows(&snapshot, told),
         Err(no) => told.debug(&no),
     }
 }
 
-fn pump<N: LogFacts>(scene: &mut Scene<N>, until: u64, told: &mut Wording) -> Result<(), Memory> {
-    let pumped = scene.pump(until)?;
-    told.add("end ");
-    told.show(&pumped.end);
-    told.add(", cuts ");
-    told.show(&pumped.cuts);
-    told.add(", rebuilds ");
-    told.show(&pumped.rebuilds);
+fn pump<N: LogFacts>(stage: &mut Stage<N>, until: u64, told: &mut Wording) -> Result<(), Memory> {
+    let pumped = stage.scene.pump(until)?;
+    tell_number("end ", pumped.end, told);
+    tell_number(", cuts ", pumped.cuts, told);
+    tell_number(", rebuilds ", pumped.rebuilds, told);
     Ok(())
 }
 
@@ -153,8 +162,7 @@ fn take<N: LogFacts>(stage: &mut Stage<N>, number: u64, told: &mut Wording) {
         watch.position = batch.to;
     }
     told.show(&batch.from);
-    told.add(" to ");
-    told.show(&batch.to);
+    tell_number(" to ", batch.to, told);
     told.add(": ");
     tell_lines(&batch.lines, told);
 }
@@ -171,8 +179,7 @@ fn catch<N: LogFacts>(stage: &mut Stage<N>, number: u64, many: u64, told: &mut W
     {
         Ok(caught) => {
             watch.position = caught.upto;
-            told.add("up to ");
-            told.show(&caught.upto);
+            tell_number("up to ", caught.upto, told);
             told.add(": ");
             tell_lines(&caught.lines, told);
         }

@@ -1,5 +1,6 @@
 //! Answers in words.
 
+use crate::words::tell_number;
 use case_rows::{Wording, tell_row};
 use obj_tree::Snapshot;
 use watch_lane::Line;
@@ -15,8 +16,7 @@ pub fn tell_lines(lines: &[Line], told: &mut Wording) {
         told.debug(&line.kind);
         told.add(" ");
         told.add(row.obj.key.name());
-        told.add(" ");
-        told.show(&row.rev);
+        tell_number(" ", row.rev, told);
         told.add("]");
     }
 }

@@ -5,12 +5,13 @@ ghost use Rattle.std.specs.Prelude.{◌≡◌, true};
 use crate::store::opening::LAST;
 use crate::store::served::Served;
 use crate::store::writes::{unchanged, write_of, writes_of, written};
+use crate::words::tell_number;
 use case_rows::{NO_STEP, Steps, Wording, number, split, tell_row};
 use kube_meta::{Memory, Resource, Row};
 use rev_log::Revision;
 use std::alloc::Global;
 use up_api::{Feed, History, LogFacts, Pass};
-use up_store::{OpNo, ScriptedStore, Store, Transaction, TxWriteNo, Written};
+use up_store::{OpNo, ScriptedStore, Store, Transaction, TxWriteNo, WriteAsk, Written};
 
 /// A store, or a door to one, a pass of it, and a feed that was begun.
 #[derive(Drop)]
@@ -24,16 +25,13 @@ impl<N: LogFacts, U: Served<N>> Steps for Client<N, U> {
     fn answer(&mut self, alloc: Global, step: &str, told: &mut Wording) -> Result<(), Memory> {
         let (word, rest) = split(step);
         match word {
-            "create" | "replace" | "remove" => write(alloc, self, step, told)?,
-            "transact" => transact(alloc, self, rest, told)?,
+            "create" | "replace" | "remove" => return write(alloc, self, step, told),
+            "transact" => return transact(alloc, self, rest, told),
             "list" => list(self, number(rest), told),
             "begin" => begin(self, number(rest), told),
             "poll" => poll(self, number(rest) as usize, told),
-            "history" => history(self, told)?,
-            "cut" => tell_operated(&self.served.drop_feeds(&mut self.told), told),
-            "compact" => {
-                tell_operated(&self.served.compact(number(rest), &mut self.told), told);
-            }
+            "history" => return history(self, told),
+            "cut" | "compact" => operate(self, word, number(rest), told),
             "hear" => told.add("no mirror"),
             _ => told.add(NO_STEP),
         }
@@ -98,13 +96,8 @@ fn hear<N: LogFacts>(
         Ok(rev) => told.show(&rev),
         Err(no) => told.debug(&no),
     }
-    tell_floor(pass.floor(), told);
+    tell_number("; floor ", pass.floor(), told);
     Ok(())
-}
-
-fn tell_floor(floor: u64, told: &mut Wording) {
-    told.add("; floor ");
-    told.show(&floor);
 }
 
 fn write<N: LogFacts, U: Served<N>>(
@@ -113,16 +106,20 @@ fn write<N: LogFacts, U: Served<N>>(
     text: &str,
     told: &mut Wording,
 ) -> Result<(), Memory> {
-    let Some(ask) = write_of(alloc, text)? else {
-        told.add("no write");
-        return Ok(());
-    };
-    match client.served.write(&ask, &mut client.told) {
+    match write_of(alloc, text)? {
+        Some(ask) => make(client, &ask, told),
+        None => told.add("no write"),
+    }
+    Ok(())
+}
+
+/// Makes a write.
+fn make<N: LogFacts, U: Served<N>>(client: &mut Client<N, U>, ask: &WriteAsk, told: &mut Wording) {
+    match client.served.write(ask, &mut client.told) {
         Ok(written) => tell_written(&written, told),
         Err(no) => told.debug(&no),
     }
-    tell_floor(client.told.floor(), told);
-    Ok(())
+    tell_number("; floor ", client.told.floor(), told);
 }
 
 fn transact<N: LogFacts, U: Served<N>>(
@@ -134,7 +131,7 @@ fn transact<N: LogFacts, U: Served<N>>(
     match Transaction::new(writes_of(alloc, text)?) {
         Ok(ask) => {
             tell_transacted(&client.served.transact(&ask, &mut client.told), told);
-            tell_floor(client.told.floor(), told);
+            tell_number("; floor ", client.told.floor(), told);
         }
         Err(no) => told.debug(&no),
     }
@@ -156,8 +153,7 @@ fn tell_transacted(answered: &Result<Vec<Written>, TxWriteNo>, told: &mut Wordin
 
 fn tell_written(written: &Written, told: &mut Wording) {
     told.add(written.row.obj.key.name());
-    told.add(" ");
-    told.show(&written.rev);
+    tell_number(" ", written.rev, told);
 }
 
 fn list<N: LogFacts, U: Served<N>>(client: &mut Client<N, U>, at: u64, told: &mut Wording) {
@@ -171,10 +167,8 @@ fn begin<N: LogFacts, U: Served<N>>(client: &mut Client<N, U>, at: u64, told: &m
     match client.served.begin(Resource::Pods, at, &mut client.told) {
         Ok(feed) => {
             client.feed = Some(feed);
-            told.add("upto ");
-            told.show(&feed.upto);
-            told.add(", generation ");
-            told.show(&feed.gen_);
+            tell_number("upto ", feed.upto, told);
+            tell_number(", generation ", feed.gen_, told);
         }
         Err(no) => told.debug(&no),
     }
@@ -203,19 +197,31 @@ fn history<N: LogFacts, U: Served<N>>(
 ) -> Result<(), Memory> {
     let history = client.served.history(Resource::Pods, &mut client.told)?;
     tell_history(&history, told);
-    told.add("; ");
-    told.show(&client.served.reads());
+    tell_number("; ", client.served.reads(), told);
     told.add(" reads");
     Ok(())
 }
 
 fn tell_history(history: &History, told: &mut Wording) {
-    told.add("floor ");
-    told.show(&history.floor);
+    tell_number("floor ", history.floor, told);
     told.add(": ");
     tell_rows(&history.rows, told);
     told.add(", ");
     tell_revisions(history.upto, &history.revisions, told);
+}
+
+/// Cuts all feeds, or compacts the log.
+fn operate<N: LogFacts, U: Served<N>>(
+    client: &mut Client<N, U>,
+    word: &str,
+    at: u64,
+    told: &mut Wording,
+) {
+    let answered = match word {
+        "cut" => client.served.drop_feeds(&mut client.told),
+        _ => client.served.compact(at, &mut client.told),
+    };
+    tell_operated(&answered, told);
 }
 
 /// What is answered to an operation.
@@ -234,17 +240,14 @@ fn tell_rows(rows: &[Row], told: &mut Wording) {
 
 /// How far revisions go, and how many changes each of them has.
 fn tell_revisions(upto: u64, revisions: &[Revision], told: &mut Wording) {
-    told.add("upto ");
-    told.show(&upto);
+    tell_number("upto ", upto, told);
     told.add(": ");
     if revisions.is_empty() {
         told.add("none");
     }
     for revision in revisions {
-        told.add("[");
-        told.show(&revision.rev);
-        told.add(" of ");
-        told.show(&revision.changes.len());
+        tell_number("[", revision.rev, told);
+        tell_number(" of ", revision.changes.len() as u64, told);
         told.add("]");
     }
 }

@@ -1,6 +1,5 @@
 //! What serves the steps of a script: a store with a script of its own, or a door to a store.
 
-use kube_meta::Memory;
 use std::sync::Wait;
 use up_api::{LogFacts, Pass, Upstream};
 use up_store::{
@@ -27,9 +26,6 @@ pub trait Served<N: LogFacts>: Upstream<N> {
 
     /// How many times states and histories were read.
     fn reads(&mut self) -> u64;
-
-    /// A pass that knows the whole log.
-    fn pass(&mut self) -> Result<Pass<N>, Memory>;
 }
 
 impl<N: LogFacts> Served<N> for ScriptedStore<N> {
@@ -56,10 +52,6 @@ impl<N: LogFacts> Served<N> for ScriptedStore<N> {
     fn reads(&mut self) -> u64 {
         self.store().reads()
     }
-
-    fn pass(&mut self) -> Result<Pass<N>, Memory> {
-        self.store().pass()
-    }
 }
 
 impl<N: LogFacts, R: Wait + Copy> Served<N> for StoreDoor<N, R> {
@@ -85,9 +77,5 @@ impl<N: LogFacts, R: Wait + Copy> Served<N> for StoreDoor<N, R> {
 
     fn reads(&mut self) -> u64 {
         StoreDoor::reads(self)
-    }
-
-    fn pass(&mut self) -> Result<Pass<N>, Memory> {
-        StoreDoor::pass(self)
     }
 }

@@ -86,10 +86,14 @@ pub fn unchanged(alloc: Global, rev: u64) -> Revision
 
 /// An object that is bound to a node, which is its first listed field.
 fn bound(alloc: Global, name: &str, node: &str) -> Result<Obj, Memory> {
+    let mut obj = object(alloc, key(alloc, name)?)?;
+    obj.fields = listed(alloc, node)?;
+    Ok(obj)
+}
+
+fn listed(alloc: Global, node: &str) -> Result<Fields, Memory> {
     let mut fields = Vec::new(alloc);
     fields.push(Text::new(alloc, node)?)?;
     fields.push(Text::new(alloc, "")?)?;
-    let mut obj = object(alloc, key(alloc, name)?)?;
-    obj.fields = Fields::new(fields);
-    Ok(obj)
+    Ok(Fields::new(fields))
 }

@@ -1,5 +1,5 @@
 use Rattle.std.specs.Prelude.{[], false}
-use Rattle.session_cases.proofs.serving.serve.Given as goal
+use Rattle.session_cases.proofs.serving.serve_through.Given as goal
 
 -- the log that was just made
 abbrev pub ghosts-serve_local-N-LogName : goal.ghosts-serve_local-N-LogName
