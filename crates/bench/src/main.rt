@@ -6,11 +6,10 @@
 #![tactic(auto)]
 
 use std::alloc::Global;
-use std::rt::Runtime;
 use std::{env, io};
 
 /// What can be timed.
-const SUBJECTS: [&str; 7] = ["front", "http", "hub", "json", "select", "store", "session"];
+const SUBJECTS: [&str; 6] = ["front", "hub", "json", "select", "store", "session"];
 
 fn main(rt: HostRuntime) -> io::Result<()> {
     let mut is_timed = false;
@@ -27,7 +26,7 @@ fn main(rt: HostRuntime) -> io::Result<()> {
 }
 
 /// Times a subject, or has it check itself.
-fn run<R: Runtime>(rt: &R, alloc: Global, subject: &str, timed: bool) -> io::Result<()> {
+fn run(rt: &HostRuntime, alloc: Global, subject: &str, timed: bool) -> io::Result<()> {
     match subject {
         "hub" => bench_hub::run(rt, alloc, timed),
         "session" => bench_session::run(rt, alloc, timed),

@@ -4,43 +4,43 @@
 ghost use Rattle.std.specs.Prelude.{◌≡◌, ◌≤◌, [], false};
 
 mod beside;
-mod fan_out;
 mod plain;
 mod scene;
 mod things;
+mod times;
 
-use crate::hub::beside::{Bench, report, report_lists};
-use crate::hub::fan_out::report_kinds;
+use crate::hub::beside::Bench;
 use crate::hub::scene::Scene;
+use crate::hub::times::{FEW, KINDS, NODES, report_changes, report_lists};
 use rev_front::{Blank, blank};
 use rev_log::Revision;
 use std::alloc::Global;
 use std::io;
 use std::marker::Brand;
-use std::rt::Runtime;
 use up_api::LogFacts;
 
-/// What is printed of a cache: counts, times of lists, times of lanes of several kinds, or times of all steps.
+/// What is printed of a cache: counts, times of lists, times with lanes of several kinds, or times with lanes of nodes
+/// and of lists.
 #[derive(Clone, Copy)]
 enum Task {
     Counts,
     Lists,
     Kinds,
-    Steps,
+    Nodes,
 }
 
 impl Task {
     fn is_timed(self) -> bool {
         match self {
             Task::Counts => false,
-            Task::Lists | Task::Kinds | Task::Steps => true,
+            Task::Lists | Task::Kinds | Task::Nodes => true,
         }
     }
 
     fn objects(self) -> usize {
         match self {
             Task::Counts | Task::Lists | Task::Kinds => 1_000,
-            Task::Steps => 100_000,
+            Task::Nodes => 100_000,
         }
     }
 
@@ -51,26 +51,25 @@ impl Task {
     {
         match self {
             Task::Kinds => 16,
-            Task::Counts | Task::Lists | Task::Steps => 256,
+            Task::Counts | Task::Lists | Task::Nodes => 256,
         }
     }
 }
 
 /// Runs a small cache and a plain one beside each other, and counts what they have and how often their objects are
 /// held; or times them.
-pub fn run<R: Runtime>(rt: &R, alloc: Global, timed: bool) -> io::Result<()> {
-    for task in [Task::Counts, Task::Lists, Task::Kinds, Task::Steps] {
+pub fn run(rt: &HostRuntime, alloc: Global, timed: bool) -> io::Result<()> {
+    for task in [Task::Counts, Task::Lists, Task::Kinds, Task::Nodes] {
         if task.is_timed() == timed {
-            let made = blank(alloc, 1)?;
-            run_on::<Brand, R>(rt, alloc, made, task)?;
+            run_over::<Brand>(rt, alloc, blank(alloc, 1)?, task)?;
         }
     }
     Ok(())
 }
 
 /// Runs a cache over a new log.
-fn run_on<N: LogFacts, R: Runtime>(
-    rt: &R,
+fn run_over<N: LogFacts>(
+    rt: &HostRuntime,
     alloc: Global,
     made: Blank<Revision>,
     task: Task,
@@ -80,18 +79,24 @@ fn run_on<N: LogFacts, R: Runtime>(
     requires own { N.mirror ≡ false }
 {
     let scene: Scene<N> = Scene::new(alloc, made, task.objects(), task.room())?;
-    let mut bench = Bench::new(alloc, scene)?;
+    run_on(rt, &mut Bench::new(alloc, scene)?, task)
+}
+
+fn run_on<N: LogFacts>(rt: &HostRuntime, bench: &mut Bench<N>, task: Task) -> io::Result<()> {
     match task {
-        Task::Counts => check(rt, &mut bench),
-        Task::Lists => report_lists(rt, &mut bench),
-        Task::Kinds => report_kinds(rt, &mut bench),
-        Task::Steps => report(rt, &mut bench),
+        Task::Counts => check(rt, bench),
+        Task::Lists => report_lists(rt, bench),
+        Task::Kinds => report_changes(rt, bench, &KINDS, 20, 10),
+        Task::Nodes => {
+            report_changes(rt, bench, &NODES, 3, 10_000)?;
+            report_lists(rt, bench)
+        }
     }
 }
 
 /// 200 changes of a small cache with 50 lanes.
-fn check<N: LogFacts, R: Runtime>(rt: &R, bench: &mut Bench<N>) -> io::Result<()> {
-    bench.open_to(50)?;
+fn check<N: LogFacts>(rt: &HostRuntime, bench: &mut Bench<N>) -> io::Result<()> {
+    bench.open(&FEW)?;
     let _times = bench.changes(rt, 200)?;
     let lines = bench.drain();
     let counts = bench.counts(100)?;
@@ -100,7 +105,7 @@ fn check<N: LogFacts, R: Runtime>(rt: &R, bench: &mut Bench<N>) -> io::Result<()
          lines came since",
         counts.rows, counts.old_rows, counts.caught
     )?;
-    if counts.plain_agrees {
+    if counts.plain_rows == counts.rows {
         println!(rt; "hub: a plain cache has as many")?;
     } else {
         println!(rt; "hub: a plain cache has others")?;

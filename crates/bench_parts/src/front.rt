@@ -2,12 +2,11 @@
 
 ghost use Rattle.std.specs.Prelude.{◌≡◌};
 
-use crate::figures::{Laps, NONE, print_pair};
+use crate::figures::{Race, time_race};
 use rev_front::{Blank, Entry, Front, LogName, Pen, blank, start};
-use std::alloc::Global;
+use std::alloc::{AllocError, Global};
 use std::io;
 use std::marker::Brand;
-use std::rt::Runtime;
 use std::sync::atomic::AtomicU64;
 use std::sync::atomic::Ordering::SeqCst;
 
@@ -18,49 +17,81 @@ const COMMITS: u32 = 10_000_000;
 const RUNS: usize = 9;
 
 /// Checks a small log, or times a large one.
-pub fn run<R: Runtime>(rt: &R, alloc: Global, timed: bool) -> io::Result<()> {
-    run_on::<Brand, R>(rt, blank(alloc, 1)?, timed)
+pub fn run(rt: &HostRuntime, alloc: Global, timed: bool) -> io::Result<()> {
+    run_on::<Brand>(rt, blank(alloc, 1)?, timed)
 }
 
-fn run_on<N: LogName, R: Runtime>(rt: &R, made: Blank<Tick>, timed: bool) -> io::Result<()>
+fn run_on<N: LogName>(rt: &HostRuntime, made: Blank<Tick>, timed: bool) -> io::Result<()>
     requires { made ≡ N.log }
 {
-    let pen: Pen<Tick, N> = start(made);
-    if timed { time(rt, pen) } else { check(rt, pen) }
+    let mut log: Logged<N> = opened(made)?;
+    if timed {
+        time(rt, &mut log)
+    } else {
+        check(rt, &mut log)
+    }
+}
+
+fn opened<N: LogName>(made: Blank<Tick>) -> Result<Logged<N>, AllocError>
+    requires { made ≡ N.log }
+{
+    let mut pen: Pen<Tick, N> = start(made);
+    let pass = pen.front()?;
+    Ok(Logged {
+        pen,
+        pass,
+        word: AtomicU64::new(1),
+        turn: Turn::Look,
+    })
 }
 
 /// A thousand commits are shown by the next look, and a thousand looks find them all.
-fn check<N: LogName, R: Runtime>(rt: &R, mut pen: Pen<Tick, N>) -> io::Result<()> {
-    let mut pass = pen.front()?;
-    let told = commits(&mut pen, 1000);
-    let found = looks(&mut pass, 1000);
-    if pen.revision() == 1001 && told == 501_500 && found == 1_001_000 {
+fn check<N: LogName>(rt: &HostRuntime, log: &mut Logged<N>) -> io::Result<()> {
+    let told = commits(&mut log.pen, 1000);
+    let found = looks(&mut log.pass, 1000);
+    if log.pen.revision() == 1001 && told == 501_500 && found == 1_001_000 {
         println!(rt; "front: looks and commits agree with the log")
     } else {
         println!(rt; "front: a look missed a commit")
     }
 }
 
-/// Times both pairs, run by run in turns.
-fn time<N: LogName, R: Runtime>(rt: &R, mut pen: Pen<Tick, N>) -> io::Result<()> {
-    let mut pass = pen.front()?;
-    let word = AtomicU64::new(1);
-    let mut sum = 0u64;
-    let (mut look, mut commit) = (NONE, NONE);
-    let mut laps = Laps::begin(rt);
-    for _ in 0..RUNS {
-        sum = sum.wrapping_add(looks(&mut pass, LOOKS));
-        look.step = look.step.min(laps.lap(rt));
-        sum = sum.wrapping_add(loads(&word, LOOKS));
-        look.plain = look.plain.min(laps.lap(rt));
-        sum = sum.wrapping_add(commits(&mut pen, COMMITS));
-        commit.step = commit.step.min(laps.lap(rt));
-        sum = sum.wrapping_add(adds(&word, COMMITS));
-        commit.plain = commit.plain.min(laps.lap(rt));
+fn time<N: LogName>(rt: &HostRuntime, log: &mut Logged<N>) -> io::Result<()> {
+    time_race(rt, "look", log, RUNS, u64::from(LOOKS))?;
+    log.turn = Turn::Commit;
+    time_race(rt, "commit", log, RUNS, u64::from(COMMITS))
+}
+
+/// What is timed.
+#[derive(Clone, Copy)]
+enum Turn {
+    Look,
+    Commit,
+}
+
+/// A log, a pass of it, and a plain word beside it.
+#[derive(Drop)]
+struct Logged<N: LogName> {
+    pen: Pen<Tick, N>,
+    pass: Front<Tick, N>,
+    word: AtomicU64,
+    turn: Turn,
+}
+
+impl<N: LogName> Race for Logged<N> {
+    fn step(&mut self) -> u64 {
+        match self.turn {
+            Turn::Look => looks(&mut self.pass, LOOKS),
+            Turn::Commit => commits(&mut self.pen, COMMITS),
+        }
     }
-    print_pair(rt, "look", look, u64::from(LOOKS))?;
-    print_pair(rt, "commit", commit, u64::from(COMMITS))?;
-    println!(rt; "sum {sum}")
+
+    fn plain(&mut self) -> u64 {
+        match self.turn {
+            Turn::Look => loads(&self.word, LOOKS),
+            Turn::Commit => adds(&self.word, COMMITS),
+        }
+    }
 }
 
 // An entry that fits each revision.

@@ -5,21 +5,18 @@
 
 mod figures;
 mod front;
-mod http;
 mod json;
 mod select;
 mod store;
 
-pub use figures::{Laps, NONE, Pair, ZERO, print_pair};
+pub use figures::{Laps, NONE, Pair, Race, ZERO, print_pair, time_race};
 use std::alloc::Global;
 use std::io;
-use std::rt::Runtime;
 
 /// Times a subject, or has it check itself.
-pub fn run<R: Runtime>(rt: &R, alloc: Global, subject: &str, timed: bool) -> io::Result<()> {
+pub fn run(rt: &HostRuntime, alloc: Global, subject: &str, timed: bool) -> io::Result<()> {
     match subject {
         "front" => front::run(rt, alloc, timed),
-        "http" => http::run(rt, alloc, timed),
         "json" => json::run(rt, alloc, timed),
         "select" => select::run(rt, alloc, timed),
         "store" => store::run(rt, alloc, timed),

@@ -17,6 +17,16 @@ pub enum Kind {
     Watch,
 }
 
+/// All kinds, in an order in which each finds what it asks for.
+pub const KINDS: [Kind; 6] = [
+    Kind::Create,
+    Kind::Get,
+    Kind::List,
+    Kind::Page,
+    Kind::Namespace,
+    Kind::Watch,
+];
+
 /// How much is asked for.
 #[derive(Clone, Copy)]
 pub struct Size {
@@ -33,6 +43,18 @@ impl Kind {
             Kind::Create | Kind::Get => size.objects,
             Kind::List | Kind::Page | Kind::Namespace => size.lists,
             Kind::Watch => 1,
+        }
+    }
+
+    /// How one is called where there are 10,000 objects.
+    pub fn words(self) -> &'static str {
+        match self {
+            Kind::Create => "create",
+            Kind::Get => "get",
+            Kind::List => "list of 1000 of 10000 by label",
+            Kind::Page => "page of 50 of 10000",
+            Kind::Namespace => "list of a namespace of 100 of 10000",
+            Kind::Watch => "watch of 10000 events",
         }
     }
 }

@@ -14,6 +14,7 @@
 
 mod kinds;
 mod parts;
+mod passes;
 mod session;
 mod texts;
 mod timing;
@@ -21,36 +22,30 @@ mod ways;
 
 use kinds::Size;
 use parts::Part;
+use passes::NO_PASSES;
 use std::alloc::Global;
 use std::io;
-use std::rt::Runtime;
-use ways::{Passes, Way, over_new_client};
+use ways::{Way, over_new_client};
 
 /// Times sessions, or has them check themselves.
-pub fn run<R: Runtime>(rt: &R, alloc: Global, timed: bool) -> io::Result<()> {
+pub fn run(rt: &HostRuntime, alloc: Global, timed: bool) -> io::Result<()> {
     if timed {
-        timing::report(rt, alloc)
-    } else {
-        check(rt, alloc)
+        return timing::report(rt, alloc);
     }
+    check(rt, alloc, Way::Session, "sessions")?;
+    check(rt, alloc, Way::Parts { upto: Part::Ask }, "their parts")
 }
 
-// Prints what comes of a few objects, by sessions and by their parts.
-fn check<R: Runtime>(rt: &R, alloc: Global) -> io::Result<()> {
+// Prints how many objects and events come out of requests for a few objects.
+fn check(rt: &HostRuntime, alloc: Global, way: Way, words: &str) -> io::Result<()> {
     let size = Size {
         objects: 100,
         lists: 1,
     };
-    let served = over_new_client(rt, alloc, Way::Session, size)?;
-    print_counts(rt, "sessions", &served)?;
-    let asked = over_new_client(rt, alloc, Way::Parts { upto: Part::Ask }, size)?;
-    print_counts(rt, "their parts", &asked)
-}
-
-// Prints how many objects and events came out.
-fn print_counts<R: Runtime>(rt: &R, way: &str, passes: &Passes) -> io::Result<()> {
+    let mut passes = NO_PASSES;
+    over_new_client(rt, alloc, way, size, &mut passes)?;
     println!(rt;
-        "bench_session: by {way} {} objects created, {} got, {} listed, {} on a page, {} in a namespace, and {} events watched",
+        "bench_session: by {words} {} objects created, {} got, {} listed, {} on a page, {} in a namespace, and {} events watched",
         passes.create.came,
         passes.get.came,
         passes.list.came,

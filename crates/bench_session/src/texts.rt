@@ -14,60 +14,51 @@ const WATCH: &str = "GET /api/v1/pods?watch=1&resourceVersion=1&timeoutSeconds=2
 
 /// A session of this kind.
 pub fn requests(alloc: Global, kind: Kind, size: Size) -> Result<Vec<u8>, AllocError> {
-    let mut text = Vec::new(alloc);
+    let mut text = String::new(alloc);
     for number in 0..kind.requests(size) {
         put_request(alloc, &mut text, kind, number)?;
     }
-    Ok(text)
+    Ok(text.into_bytes())
 }
 
+// An object is in one of a hundred namespaces. All names have the same length.
 fn put_request(
     alloc: Global,
-    text: &mut Vec<u8>,
+    text: &mut String,
     kind: Kind,
     number: u64,
 ) -> Result<(), AllocError> {
+    let space = number % 100;
+    let name = 1_000_000u64.saturating_add(number);
     match kind {
-        Kind::Create => text.extend_from_slice(create(alloc, number)?.as_bytes()),
-        Kind::Get => text.extend_from_slice(get(alloc, number)?.as_bytes()),
-        Kind::List => text.extend_from_slice(LIST.as_bytes()),
-        Kind::Page => text.extend_from_slice(PAGE.as_bytes()),
-        Kind::Namespace => text.extend_from_slice(NAMESPACE.as_bytes()),
-        Kind::Watch => text.extend_from_slice(WATCH.as_bytes()),
+        Kind::Create => put_create(text, space, object(alloc, number % 10, name)?.as_str()),
+        Kind::Get => {
+            write!(
+                text,
+                "GET /api/v1/namespaces/shop-{space}/pods/web-{name} HTTP/1.1\r\n\r\n"
+            )
+        }
+        Kind::List => text.push_str(LIST),
+        Kind::Page => text.push_str(PAGE),
+        Kind::Namespace => text.push_str(NAMESPACE),
+        Kind::Watch => text.push_str(WATCH),
     }
 }
 
-// The name of an object. All have the same length.
-fn name(alloc: Global, number: u64) -> Result<String, AllocError> {
-    format!(in alloc; "web-{}", 1_000_000u64.saturating_add(number))
-}
-
-// The namespace of an object, one of a hundred.
-fn namespace(alloc: Global, number: u64) -> Result<String, AllocError> {
-    format!(in alloc; "shop-{}", number % 100)
-}
-
-// A create of an object of about 250 bytes, with one of ten labels.
-fn create(alloc: Global, number: u64) -> Result<String, AllocError> {
-    let object = format!(in alloc;
-        "{{\"metadata\":{{\"labels\":{{\"app\":\"web\",\"g\":\"{}\",\"tier\":\"front\"}},\"name\":\"{}\"}},\
-         \"spec\":{{\"containers\":[{{\"image\":\"registry.example/web:1.27.3\",\"name\":\"web\",\"resources\":\
-         {{\"limits\":{{\"cpu\":\"500m\",\"memory\":\"256Mi\"}}}}}}],\"nodeName\":\"node-1\"}},\
-         \"status\":{{\"phase\":\"Running\"}}}}",
-        number % 10,
-        name(alloc, number)?
-    )?;
-    format!(in alloc;
-        "POST /api/v1/namespaces/{}/pods HTTP/1.1\r\nContent-Length: {}\r\n\r\n{object}",
-        namespace(alloc, number)?,
+fn put_create(text: &mut String, space: u64, object: &str) -> Result<(), AllocError> {
+    write!(
+        text,
+        "POST /api/v1/namespaces/shop-{space}/pods HTTP/1.1\r\nContent-Length: {}\r\n\r\n{object}",
         object.len()
     )
 }
 
-fn get(alloc: Global, number: u64) -> Result<String, AllocError> {
+// An object of about 250 bytes, with one of ten labels.
+fn object(alloc: Global, label: u64, name: u64) -> Result<String, AllocError> {
     format!(in alloc;
-        "GET /api/v1/namespaces/{}/pods/{} HTTP/1.1\r\n\r\n",
-        namespace(alloc, number)?,
-        name(alloc, number)?
+        "{{\"metadata\":{{\"labels\":{{\"app\":\"web\",\"g\":\"{label}\",\"tier\":\"front\"}},\"name\":\"web-{name}\"}},\
+         \"spec\":{{\"containers\":[{{\"image\":\"registry.example/web:1.27.3\",\"name\":\"web\",\"resources\":\
+         {{\"limits\":{{\"cpu\":\"500m\",\"memory\":\"256Mi\"}}}}}}],\"nodeName\":\"node-1\"}},\
+         \"status\":{{\"phase\":\"Running\"}}}}"
     )
 }

@@ -1,13 +1,14 @@
 //! What is printed with the word `time`.
 
-use crate::kinds::{Kind, Size};
+use crate::kinds::{KINDS, Kind, Size};
 use crate::parts::Part;
-use crate::ways::{Pass, Passes, Way, over_new_client, since};
+use crate::passes::{NO_PASSES, Passes};
+use crate::ways::{Way, over_new_client};
+use bench_parts::Laps;
 use edge_io::{MemSink, Sink};
+use kube_meta::Memory;
 use std::alloc::Global;
 use std::io;
-use std::rt::Runtime;
-use std::time::Instant;
 
 const SIZE: Size = Size {
     objects: 10_000,
@@ -16,28 +17,7 @@ const SIZE: Size = Size {
 
 const RUNS: u32 = 5;
 
-// The quicker one.
-fn quicker(first: Pass, second: Pass) -> Pass {
-    if second.took < first.took {
-        second
-    } else {
-        first
-    }
-}
-
-// The best passes of each kind.
-fn best(first: Passes, second: Passes) -> Passes {
-    Passes {
-        create: quicker(first.create, second.create),
-        get: quicker(first.get, second.get),
-        list: quicker(first.list, second.list),
-        page: quicker(first.page, second.page),
-        namespace: quicker(first.namespace, second.namespace),
-        watch: quicker(first.watch, second.watch),
-    }
-}
-
-/// The passes of each way.
+/// The best passes of each way.
 #[derive(Clone, Copy)]
 struct Round {
     session: Passes,
@@ -46,63 +26,53 @@ struct Round {
     asked: Passes,
 }
 
-// One run of each way.
-fn run_ways<R: Runtime>(rt: &R, alloc: Global) -> io::Result<Round> {
-    Ok(Round {
-        session: over_new_client(rt, alloc, Way::Session, SIZE)?,
-        read: over_new_client(rt, alloc, Way::Parts { upto: Part::Read }, SIZE)?,
-        routed: over_new_client(rt, alloc, Way::Parts { upto: Part::Route }, SIZE)?,
-        asked: over_new_client(rt, alloc, Way::Parts { upto: Part::Ask }, SIZE)?,
-    })
+impl Round {
+    /// One run of each way.
+    fn run(&mut self, rt: &HostRuntime, alloc: Global) -> Result<(), Memory> {
+        over_new_client(rt, alloc, Way::Session, SIZE, &mut self.session)?;
+        over_parts(rt, alloc, Part::Read, &mut self.read)?;
+        over_parts(rt, alloc, Part::Route, &mut self.routed)?;
+        over_parts(rt, alloc, Part::Ask, &mut self.asked)
+    }
+}
+
+fn over_parts(
+    rt: &HostRuntime,
+    alloc: Global,
+    upto: Part,
+    best: &mut Passes,
+) -> Result<(), Memory> {
+    over_new_client(rt, alloc, Way::Parts { upto }, SIZE, best)
 }
 
 /// Times all ways, run by run in turns, and prints the best of each kind.
-pub fn report<R: Runtime>(rt: &R, alloc: Global) -> io::Result<()> {
-    let mut all = run_ways(rt, alloc)?;
-    for _ in 1..RUNS {
-        let next = run_ways(rt, alloc)?;
-        all = Round {
-            session: best(all.session, next.session),
-            read: best(all.read, next.read),
-            routed: best(all.routed, next.routed),
-            asked: best(all.asked, next.asked),
-        };
+pub fn report(rt: &HostRuntime, alloc: Global) -> io::Result<()> {
+    let mut best = Round {
+        session: NO_PASSES,
+        read: NO_PASSES,
+        routed: NO_PASSES,
+        asked: NO_PASSES,
+    };
+    for _ in 0..RUNS {
+        best.run(rt, alloc)?;
     }
-    print_round(rt, alloc, &all)
-}
-
-// Prints what is known of each kind.
-fn print_round<R: Runtime>(rt: &R, alloc: Global, all: &Round) -> io::Result<()> {
-    print_kind(rt, alloc, Kind::Create, "create", all)?;
-    print_kind(rt, alloc, Kind::Get, "get", all)?;
-    print_kind(rt, alloc, Kind::List, "list of 1000 of 10000 by label", all)?;
-    print_kind(rt, alloc, Kind::Page, "page of 50 of 10000", all)?;
-    print_kind(
-        rt,
-        alloc,
-        Kind::Namespace,
-        "list of a namespace of 100 of 10000",
-        all,
-    )?;
-    print_kind(rt, alloc, Kind::Watch, "watch of 10000 events", all)
+    for kind in KINDS {
+        print_kind(rt, alloc, kind, &best)?;
+    }
+    Ok(())
 }
 
 // Prints how many requests of a kind are answered in a second, the nanoseconds of one and of its parts, and the ratio
 // of the two in hundredths.
-fn print_kind<R: Runtime>(
-    rt: &R,
-    alloc: Global,
-    kind: Kind,
-    name: &str,
-    all: &Round,
-) -> io::Result<()> {
+fn print_kind(rt: &HostRuntime, alloc: Global, kind: Kind, best: &Round) -> io::Result<()> {
     let requests = kind.requests(SIZE).max(1);
-    let session = all.session.of(kind);
-    let copied = copying(rt, alloc, session.written, requests)?;
-    let parts = all.asked.of(kind).took.saturating_add(copied);
+    let session = best.session.of(kind);
+    let copied = copying(rt, alloc, &vec![in alloc; b'x'; session.written]?, requests);
+    let parts = best.asked.of(kind).took.saturating_add(copied);
     let ratio = session.took.saturating_mul(100) / parts.max(1);
     println!(rt;
-        "{name} {} a second, {} ns; parts {} ns, ratio {}.{:02}",
+        "{} {} a second, {} ns; parts {} ns, ratio {}.{:02}",
+        kind.words(),
         requests.saturating_mul(1_000_000_000) / session.took.max(1),
         session.took / requests,
         parts / requests,
@@ -111,27 +81,25 @@ fn print_kind<R: Runtime>(
     )?;
     println!(rt;
         "    read alone {} ns, and routed {} ns, and asked {} ns; {} bytes copied {} ns; {} objects or events",
-        all.read.of(kind).took / requests,
-        all.routed.of(kind).took / requests,
-        all.asked.of(kind).took / requests,
+        best.read.of(kind).took / requests,
+        best.routed.of(kind).took / requests,
+        best.asked.of(kind).took / requests,
         session.written,
         copied / requests,
         session.came
     )
 }
 
-// The nanoseconds in which so many bytes are copied to a sink in so many writes, as the best of some runs.
-fn copying<R: Runtime>(rt: &R, alloc: Global, bytes: usize, writes: u64) -> io::Result<u64> {
-    let text = vec![in alloc; b'x'; bytes]?;
-    let length = usize::try_from(writes).map_or(1, |many| (bytes / many.max(1)).max(1));
+// The nanoseconds in which these bytes are copied to a sink in so many writes, as the best of some runs.
+fn copying(rt: &HostRuntime, alloc: Global, text: &[u8], writes: u64) -> u64 {
+    let length = (text.len() as u64 / writes.max(1)).max(1) as usize;
     let mut took = u64::MAX;
     for _ in 0..RUNS {
-        let from = Instant::now(rt)?;
-        let sink = copy(alloc, &text, length);
-        took = since(rt, from)?.min(took);
-        drop(sink);
+        let mut laps = Laps::begin(rt);
+        let _sink = copy(alloc, text, length);
+        took = laps.lap(rt).min(took);
     }
-    Ok(took)
+    took
 }
 
 // Copies a text to a new sink, in pieces of this length.

@@ -1,42 +1,31 @@
 //! What a plain cache is made of: a map of objects, a queue of the last changes, and a queue for each watcher.
 
+use crate::hub::things::{Kind, key, namespace, node};
 use encode_once::Shown;
 use kube_meta::{Key, Memory, Row, Text};
+use obj_tree::Snapshot;
 use rev_log::Change;
 use std::alloc::Global;
 use std::collections::{BTreeMap, VecDeque};
 use std::sync::Arc;
 use up_api::Polled;
 
-/// The object before a change and the one now.
-#[derive(Drop)]
-struct Kept {
-    before: Option<Arc<Shown>>,
-    now: Arc<Shown>,
+/// The lines of one watcher, or the last changes.
+type Queue = VecDeque<Arc<Shown>>;
+
+fn tell(queue: &mut Queue, now: &Arc<Shown>) -> Result<(), Memory> {
+    queue.push_back(Arc::try_clone(now)?)?;
+    Ok(())
 }
 
-/// The queue of one watcher.
-#[derive(Drop)]
-struct Queue {
-    lines: VecDeque<Arc<Shown>>,
-}
-
-impl Queue {
-    fn tell(&mut self, now: &Arc<Shown>) -> Result<(), Memory> {
-        self.lines.push_back(Arc::try_clone(now)?)?;
-        Ok(())
-    }
-}
-
-/// A plain cache. It keeps its last `many` changes, and has queues of nodes, of namespaces, of single objects, and of
+/// A plain cache. It keeps its last `many` changes, and has queues of nodes and namespaces, of single objects, and of
 /// all objects.
 #[derive(Drop)]
 pub struct Plain {
     alloc: Global,
     map: BTreeMap<Key, Arc<Shown>>,
-    held: VecDeque<Kept>,
-    queues: BTreeMap<Text, Queue>,
-    spaces: BTreeMap<Text, Queue>,
+    held: Queue,
+    places: BTreeMap<Text, Queue>,
     single: BTreeMap<Key, Queue>,
     all: Vec<Queue>,
     many: usize,
@@ -49,12 +38,20 @@ impl Plain {
             alloc,
             map: BTreeMap::new(alloc),
             held: VecDeque::new(alloc),
-            queues: BTreeMap::new(alloc),
-            spaces: BTreeMap::new(alloc),
+            places: BTreeMap::new(alloc),
             single: BTreeMap::new(alloc),
             all: Vec::new(alloc),
             many,
         }
+    }
+
+    /// A cache of these objects.
+    pub fn over(alloc: Global, many: usize, snapshot: &Snapshot) -> Result<Plain, Memory> {
+        let mut plain = Plain::new(alloc, many);
+        for shown in snapshot.range(None) {
+            plain.put(shown)?;
+        }
+        Ok(plain)
     }
 
     /// How many objects there are.
@@ -62,44 +59,34 @@ impl Plain {
         self.map.len()
     }
 
-    /// Puts an object in.
-    pub fn fill(&mut self, shown: &Arc<Shown>) -> Result<(), Memory> {
+    fn put(&mut self, shown: &Arc<Shown>) -> Result<(), Memory> {
         let key = shown.row().obj.key.clone()?;
         let _ = self.map.insert(key, Arc::try_clone(shown)?)?;
         Ok(())
     }
 
-    fn queue(&self) -> Queue {
-        Queue {
-            lines: VecDeque::new(self.alloc),
+    /// A queue for the watcher that a lane of this kind and number has.
+    pub fn open(&mut self, kind: Kind, number: usize) -> Result<(), Memory> {
+        match kind {
+            Kind::Node => self.open_place(node(self.alloc, number)?),
+            Kind::Namespace => self.open_place(namespace(self.alloc, number)?),
+            Kind::Name => self.open_single(key(self.alloc, number)?),
+            Kind::All => self.open_all(),
         }
     }
 
-    /// A queue for the watcher of a node.
-    pub fn open(&mut self, node: Text) -> Result<(), Memory> {
-        let queue = self.queue();
-        let _ = self.queues.insert(node, queue)?;
+    fn open_place(&mut self, place: Text) -> Result<(), Memory> {
+        let _ = self.places.insert(place, VecDeque::new(self.alloc))?;
         Ok(())
     }
 
-    /// A queue for the watcher of a namespace.
-    pub fn open_space(&mut self, ns: Text) -> Result<(), Memory> {
-        let queue = self.queue();
-        let _ = self.spaces.insert(ns, queue)?;
+    fn open_single(&mut self, key: Key) -> Result<(), Memory> {
+        let _ = self.single.insert(key, VecDeque::new(self.alloc))?;
         Ok(())
     }
 
-    /// A queue for the watcher of one object.
-    pub fn open_single(&mut self, key: Key) -> Result<(), Memory> {
-        let queue = self.queue();
-        let _ = self.single.insert(key, queue)?;
-        Ok(())
-    }
-
-    /// A queue for a watcher of all.
-    pub fn open_all(&mut self) -> Result<(), Memory> {
-        let queue = self.queue();
-        self.all.push(queue)?;
+    fn open_all(&mut self) -> Result<(), Memory> {
+        self.all.push(VecDeque::new(self.alloc))?;
         Ok(())
     }
 
@@ -119,56 +106,39 @@ impl Plain {
             return Ok(());
         };
         let obj = obj.clone()?;
-        let now = Shown::new(self.alloc, Row { obj, rev })?;
-        let before = self.map.insert(change.key.clone()?, Arc::try_clone(&now)?)?;
+        self.show(Shown::new(self.alloc, Row { obj, rev })?)
+    }
+
+    fn show(&mut self, now: Arc<Shown>) -> Result<(), Memory> {
+        self.put(&now)?;
         self.tell(&now)?;
-        self.keep(Kept { before, now })
-    }
-
-    fn tell(&mut self, now: &Arc<Shown>) -> Result<(), Memory> {
-        self.tell_node(now)?;
-        let key = &now.row().obj.key;
-        let ns = Text::new(self.alloc, key.ns())?;
-        if let Some(queue) = self.spaces.get_mut(&ns) {
-            queue.tell(now)?;
-        }
-        if let Some(queue) = self.single.get_mut(key) {
-            queue.tell(now)?;
-        }
-        for queue in &mut self.all {
-            queue.tell(now)?;
-        }
-        Ok(())
-    }
-
-    fn tell_node(&mut self, now: &Arc<Shown>) -> Result<(), Memory> {
-        let Some(node) = now.row().obj.fields.get(0) else {
-            return Ok(());
-        };
-        match self.queues.get_mut(node) {
-            Some(queue) => queue.tell(now),
-            None => Ok(()),
-        }
-    }
-
-    fn keep(&mut self, kept: Kept) -> Result<(), Memory> {
         if self.held.len() >= self.many {
             let _first = self.held.pop_front();
         }
-        self.held.push_back(kept)?;
+        self.held.push_back(now)?;
         Ok(())
     }
 
-    /// Undoes the last changes in the map, the last one first. Their queue stays.
-    #[inline(never)]
-    pub fn undo(&mut self, many: usize) -> Result<(), Memory> {
-        for back in 0..many {
-            let place = self.held.len().saturating_sub(back.saturating_add(1));
-            if let Some(kept) = self.held.get(place) {
-                undo_one(&mut self.map, kept)?;
-            }
+    fn tell(&mut self, now: &Arc<Shown>) -> Result<(), Memory> {
+        let obj = &now.row().obj;
+        if let Some(node) = obj.fields.get(0) {
+            self.tell_place(node, now)?;
+        }
+        self.tell_place(&Text::new(self.alloc, obj.key.ns())?, now)?;
+        if let Some(queue) = self.single.get_mut(&obj.key) {
+            tell(queue, now)?;
+        }
+        for queue in &mut self.all {
+            tell(queue, now)?;
         }
         Ok(())
+    }
+
+    fn tell_place(&mut self, place: &Text, now: &Arc<Shown>) -> Result<(), Memory> {
+        match self.places.get_mut(place) {
+            Some(queue) => tell(queue, now),
+            None => Ok(()),
+        }
     }
 
     /// All objects in the order of their keys, each shared.
@@ -180,26 +150,4 @@ impl Plain {
         }
         Ok(list)
     }
-
-    /// What the last changes wrote.
-    #[inline(never)]
-    pub fn lines(&self, many: usize) -> Result<Vec<Arc<Shown>>, Memory> {
-        let mut lines = Vec::new(self.alloc);
-        let from = self.held.len().saturating_sub(many);
-        for place in from..self.held.len() {
-            if let Some(kept) = self.held.get(place) {
-                lines.push(Arc::try_clone(&kept.now)?)?;
-            }
-        }
-        Ok(lines)
-    }
-}
-
-fn undo_one(map: &mut BTreeMap<Key, Arc<Shown>>, kept: &Kept) -> Result<(), Memory> {
-    let Some(before) = &kept.before else {
-        return Ok(());
-    };
-    let key = before.row().obj.key.clone()?;
-    let _ = map.insert(key, Arc::try_clone(before)?)?;
-    Ok(())
 }

@@ -2,6 +2,7 @@
 
 ghost use Rattle.std.specs.Prelude.{◌≡◌, ◌≤◌, [], false};
 ghost use Rattle.kube_meta.specs.declared.resources.Resource.TheVariants.{Pods};
+ghost use Rattle.up_api.specs.Settings.{AreInRange};
 
 use crate::hub::things::creation;
 use bench_parts::Laps;
@@ -12,7 +13,6 @@ use rev_log::Revision;
 use select_all::Selection;
 use std::alloc::Global;
 use std::marker::Model;
-use std::rt::Clock;
 use up_api::{Feed, LogFacts, Pass, Polled, Settings, Upstream};
 use up_store::{Store, WriteAsk};
 use watch_lane::LaneOut;
@@ -41,6 +41,27 @@ impl<N: LogFacts> Model for Scene<N> {
     ghost invariant = { λ s. (s.hub.cache.resource ≡ Pods) × StandsAt (λ log. StandsFor log s.hub) N.base s.told s.hub.cache.end };
 }
 
+fn settings(room: usize) -> Settings
+    requires some { 1 ≤ room }
+    requires bounded { room ≤ 1024 }
+    ensures { AreInRange result }
+{
+    Settings {
+        window: WINDOW,
+        window_max: WINDOW,
+        lane: room,
+        ..Settings::usual()
+    }
+}
+
+fn create<N: LogFacts>(alloc: Global, store: &mut Store<N>, objects: usize) -> Result<(), Memory> {
+    let mut told = store.pass()?;
+    for number in 0..objects {
+        let _ = store.write(&creation(alloc, number)?, &mut told);
+    }
+    Ok(())
+}
+
 impl<N: LogFacts> Scene<N> {
     /// A new store with so many pods, and a cache of them, whose lanes have room for so many batches.
     pub fn new(
@@ -55,17 +76,11 @@ impl<N: LogFacts> Scene<N> {
         requires base { N.base ≡ [] }
         requires own { N.mirror ≡ false }
     {
-        let mut settings = Settings::usual();
-        settings.window = WINDOW;
-        settings.window_max = WINDOW;
-        settings.lane = room;
-        let mut store = Store::new(alloc, made, 1_000_000)?;
+        let mut store: Store<N> = Store::new(alloc, made, 1_000_000)?;
+        create(alloc, &mut store, objects)?;
         let mut told = store.pass()?;
-        for number in 0..objects {
-            let _ = store.write(&creation(alloc, number)?, &mut told);
-        }
         let history = store.history(Resource::Pods, &mut told)?;
-        let hub = Hub::new(alloc, Resource::Pods, history, &settings, &mut told)?;
+        let hub = Hub::new(alloc, Resource::Pods, history, &settings(room), &mut told)?;
         Ok(Scene { store, told, hub })
     }
 
@@ -87,7 +102,7 @@ impl<N: LogFacts> Scene<N> {
     }
 
     /// The cache takes in the next change, which is answered with the nanoseconds that it took.
-    pub fn take_next<R: Clock>(&mut self, rt: &R) -> Result<Option<(Polled, u64)>, Memory> {
+    pub fn take_next(&mut self, rt: &HostRuntime) -> Result<Option<(Polled, u64)>, Memory> {
         let mut feed = Feed {
             resource: Resource::Pods,
             upto: self.hub.end(),
@@ -110,8 +125,16 @@ impl<N: LogFacts> Scene<N> {
         Ok(lane)
     }
 
+    /// How many objects the cache had so many revisions before its end.
+    pub fn old_rows(&self, behind: u64) -> usize {
+        let at = self.hub.end().saturating_sub(behind);
+        match self.hub.at(at) {
+            Ok(snapshot) => snapshot.len(),
+            Err(_) => 0,
+        }
+    }
+
     /// How many lines a watch is told that is behind the cache's end by so many revisions.
-    #[inline(never)]
     pub fn caught(&mut self, selection: &Selection, behind: u64) -> usize
         requires { selection.now.resource ≡ Pods }
     {

@@ -2,7 +2,7 @@
 
 use case_rows::object;
 use encode_once::Shown;
-use kube_meta::{Key, KeyNo, Memory, Row, Text};
+use kube_meta::{Key, Memory, Row, Text};
 use std::alloc::Global;
 use std::collections::BTreeMap;
 use std::sync::Arc;
@@ -10,17 +10,15 @@ use std::sync::Arc;
 /// The plain map beside a tree.
 pub type Map = BTreeMap<Key, Arc<Shown>>;
 
-fn key(alloc: Global, number: usize) -> Result<Key, KeyNo> {
+// The names are good ones, so all that can be missing is memory.
+fn key(alloc: Global, number: usize) -> Result<Key, Memory> {
     let space = format!(in alloc; "team-{}", 1_000 + number / 1_000)?;
     let name = format!(in alloc; "web-6d4b75cb6d-{}", 1_000_000usize.wrapping_add(number))?;
-    Key::new(Text::from_string(space), Text::from_string(name))
+    Key::new(Text::from_string(space), Text::from_string(name)).or(Err(Memory))
 }
 
 fn shown(alloc: Global, number: usize) -> Result<Arc<Shown>, Memory> {
-    let Ok(key) = key(alloc, number) else {
-        return Err(Memory);
-    };
-    let obj = Arc::new(alloc, object(alloc, key)?)?;
+    let obj = Arc::new(alloc, object(alloc, key(alloc, number)?)?)?;
     Shown::new(alloc, Row { obj, rev: 1 })
 }
 
@@ -49,15 +47,6 @@ pub fn mixed(alloc: Global, rows: &[Arc<Shown>]) -> Result<Vec<Arc<Shown>>, Memo
     Ok(mixed)
 }
 
-/// Objects with their keys.
-pub fn entries(alloc: Global, rows: &[Arc<Shown>]) -> Result<Vec<(Key, Arc<Shown>)>, Memory> {
-    let mut entries = Vec::with_capacity(alloc, rows.len())?;
-    for shown in rows {
-        entries.push((shown.row().obj.key.clone()?, Arc::try_clone(shown)?))?;
-    }
-    Ok(entries)
-}
-
 /// Their keys.
 pub fn keys(alloc: Global, rows: &[Arc<Shown>]) -> Result<Vec<Key>, Memory> {
     let mut keys = Vec::with_capacity(alloc, rows.len())?;
@@ -65,4 +54,20 @@ pub fn keys(alloc: Global, rows: &[Arc<Shown>]) -> Result<Vec<Key>, Memory> {
         keys.push(shown.row().obj.key.clone()?)?;
     }
     Ok(keys)
+}
+
+/// Adds each object once more, for a tree.
+pub fn share(rows: &[Arc<Shown>], into: &mut Vec<Arc<Shown>>) -> Result<(), Memory> {
+    for shown in rows {
+        into.push(Arc::try_clone(shown)?)?;
+    }
+    Ok(())
+}
+
+/// Adds each object with its key, for a map.
+pub fn share_keyed(rows: &[Arc<Shown>], into: &mut Vec<(Key, Arc<Shown>)>) -> Result<(), Memory> {
+    for shown in rows {
+        into.push((shown.row().obj.key.clone()?, Arc::try_clone(shown)?))?;
+    }
+    Ok(())
 }

@@ -5,13 +5,13 @@ use kube_meta::{Key, Memory};
 use obj_tree::Tree;
 use std::sync::Arc;
 
-/// Puts objects into a tree.
+/// Puts objects into a tree, the last one first.
 #[inline(never)]
-pub fn puts(tree: &mut Tree, rows: Vec<Arc<Shown>>) -> u32 {
-    let mut done = 0u32;
-    for shown in rows {
-        if tree.put(shown).is_ok() {
-            done = done.wrapping_add(1);
+pub fn puts(tree: &mut Tree, rows: &mut Vec<Arc<Shown>>) -> u64 {
+    let mut done = 0u64;
+    for _ in 0..rows.len() {
+        if let Some(shown) = rows.pop() {
+            done = done.wrapping_add(u64::from(tree.put(shown).is_ok()));
         }
     }
     done
@@ -19,11 +19,11 @@ pub fn puts(tree: &mut Tree, rows: Vec<Arc<Shown>>) -> u32 {
 
 /// Puts objects into a tree, each behind a snapshot that is let go of after the put.
 #[inline(never)]
-pub fn puts_behind(tree: &mut Tree, rows: Vec<Arc<Shown>>) -> u32 {
-    let mut done = 0u32;
-    for shown in rows {
-        if put_behind(tree, shown).is_ok() {
-            done = done.wrapping_add(1);
+pub fn puts_behind(tree: &mut Tree, rows: &mut Vec<Arc<Shown>>) -> u64 {
+    let mut done = 0u64;
+    for _ in 0..rows.len() {
+        if let Some(shown) = rows.pop() {
+            done = done.wrapping_add(u64::from(put_behind(tree, shown).is_ok()));
         }
     }
     done
@@ -37,11 +37,11 @@ fn put_behind(tree: &mut Tree, shown: Arc<Shown>) -> Result<(), Memory> {
 
 /// Puts them into a map.
 #[inline(never)]
-pub fn map_puts(map: &mut Map, entries: Vec<(Key, Arc<Shown>)>) -> u32 {
-    let mut done = 0u32;
-    for (key, shown) in entries {
-        if map.insert(key, shown).is_ok() {
-            done = done.wrapping_add(1);
+pub fn map_puts(map: &mut Map, entries: &mut Vec<(Key, Arc<Shown>)>) -> u64 {
+    let mut done = 0u64;
+    for _ in 0..entries.len() {
+        if let Some((key, shown)) = entries.pop() {
+            done = done.wrapping_add(u64::from(map.insert(key, shown).is_ok()));
         }
     }
     done
@@ -49,32 +49,28 @@ pub fn map_puts(map: &mut Map, entries: Vec<(Key, Arc<Shown>)>) -> u32 {
 
 /// Looks objects up in a tree.
 #[inline(never)]
-pub fn gets(tree: &Tree, keys: &[Key]) -> u32 {
-    let mut done = 0u32;
+pub fn gets(tree: &Tree, keys: &[Key]) -> u64 {
+    let mut done = 0u64;
     for key in keys {
-        if tree.get(key).is_some() {
-            done = done.wrapping_add(1);
-        }
+        done = done.wrapping_add(u64::from(tree.get(key).is_some()));
     }
     done
 }
 
 /// Looks them up in a map.
 #[inline(never)]
-pub fn map_gets(map: &Map, keys: &[Key]) -> u32 {
-    let mut done = 0u32;
+pub fn map_gets(map: &Map, keys: &[Key]) -> u64 {
+    let mut done = 0u64;
     for key in keys {
-        if map.get(key).is_some() {
-            done = done.wrapping_add(1);
-        }
+        done = done.wrapping_add(u64::from(map.get(key).is_some()));
     }
     done
 }
 
 /// Removes objects from a tree.
 #[inline(never)]
-pub fn removals(tree: &mut Tree, keys: &[Key]) -> u32 {
-    let mut done = 0u32;
+pub fn removals(tree: &mut Tree, keys: &[Key]) -> u64 {
+    let mut done = 0u64;
     for key in keys {
         if let Ok(Some(_)) = tree.remove(key) {
             done = done.wrapping_add(1);
@@ -85,36 +81,33 @@ pub fn removals(tree: &mut Tree, keys: &[Key]) -> u32 {
 
 /// Removes them from a map.
 #[inline(never)]
-pub fn map_removals(map: &mut Map, keys: &[Key]) -> u32 {
-    let mut done = 0u32;
+pub fn map_removals(map: &mut Map, keys: &[Key]) -> u64 {
+    let mut done = 0u64;
     for key in keys {
-        if map.remove(key).is_some() {
-            done = done.wrapping_add(1);
-        }
+        done = done.wrapping_add(u64::from(map.remove(key).is_some()));
     }
     done
 }
 
 /// Takes snapshots of a tree and lets go of them.
 #[inline(never)]
-pub fn snapshots(tree: &Tree, rounds: u32) -> u32 {
-    let mut done = 0u32;
+pub fn snapshots(tree: &Tree, rounds: usize) -> u64 {
+    let mut done = 0u64;
     for _ in 0..rounds {
-        if tree.snapshot().is_ok() {
-            done = done.wrapping_add(1);
-        }
+        done = done.wrapping_add(u64::from(tree.snapshot().is_ok()));
     }
     done
 }
 
 /// Takes one more count of a shared object and lets go of it.
 #[inline(never)]
-pub fn counts(shown: &Arc<Shown>, rounds: u32) -> u32 {
-    let mut done = 0u32;
+pub fn counts(shown: Option<&Arc<Shown>>, rounds: usize) -> u64 {
+    let Some(shown) = shown else {
+        return 0;
+    };
+    let mut done = 0u64;
     for _ in 0..rounds {
-        if Arc::try_clone(shown).is_ok() {
-            done = done.wrapping_add(1);
-        }
+        done = done.wrapping_add(u64::from(Arc::try_clone(shown).is_ok()));
     }
     done
 }
