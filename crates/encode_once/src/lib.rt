@@ -1,5 +1,5 @@
 //! A row with what is made of it once and lent to everybody: its JSON, of which the object's two texts are
-//! shared and only the digits of the revision are written, the prefix of its key, and the word of its object.
+//! shared and only the digits of the revision are written, the prefix of its key, and the words of its object.
 #![tactic(auto)]
 
 mod prefix;
@@ -8,11 +8,11 @@ mod sought;
 ghost use Rattle.std.specs.Prelude.{◌≡◌, ◌++◌, IfOk, decimal};
 ghost use Rattle.kube_meta.specs.Objects.{object_json};
 ghost use Rattle.kube_meta.specs.Rows.{key_of};
-ghost use Rattle.kube_meta.specs.Words.{has_bits, word_of};
+ghost use Rattle.kube_meta.specs.Words.{fields_word, labels_word};
 ghost use Rattle.encode_once.specs.Prefixes.{first_bytes};
 
 use itoa::write_digits;
-use kube_meta::{Memory, Row, has_bits, word_of};
+use kube_meta::{Memory, Row, fields_word, labels_word};
 pub use prefix::{KeyPrefix, prefixes_are_in_order};
 pub use sought::Sought;
 use std::alloc::Global;
@@ -21,12 +21,15 @@ use std::sync::Arc;
 
 /// A row with the text of its revision, so that its JSON can be sent part by part without being
 /// copied, with the prefix of its key, so that rows can be searched without a look at their objects, and with
-/// the word of its object, so that most rows are passed over without one. Seen in contracts as the row.
+/// the words of its object, so that most rows are passed over without one. Seen in contracts as the row.
 #[derive(Debug, Drop)]
 pub struct Shown {
     row: Row,
+    // The words of the object's labels and of its listed fields. They lie beside the count of those that share the
+    // row, which a copy of a page reads anyhow.
+    labels: u64,
+    fields: u64,
     prefix: KeyPrefix,
-    word: u64,
     // The digits of the revision stand at the end of 20 bytes, from `start` on.
     digits: [u8; 20],
     start: u8,
@@ -35,14 +38,14 @@ pub struct Shown {
 impl Model for Shown {
     ghost use Rattle.std.specs.Prelude.{◌≡◌, ◌≤◌, decimal, drop};
     ghost use Rattle.kube_meta.specs.Rows.{RowData, key_of};
-    ghost use Rattle.kube_meta.specs.Words.{word_of};
+    ghost use Rattle.kube_meta.specs.Words.{fields_word, labels_word};
     ghost use Rattle.encode_once.specs.Prefixes.{first_bytes};
 
     ghost Value = { RowData };
 
     ghost view = { λ s. s.row };
 
-    ghost invariant = { λ s. (s.start ≤ 20) × (drop s.start s.digits ≡ decimal s.row.rev) × (s.prefix.bytes ≡ first_bytes 48 (key_of s.row)) × (s.word ≡ word_of s.row.obj) };
+    ghost invariant = { λ s. (s.start ≤ 20) × (drop s.start s.digits ≡ decimal s.row.rev) × (s.prefix.bytes ≡ first_bytes 48 (key_of s.row)) × (s.labels ≡ labels_word s.row.obj.labels) × (s.fields ≡ fields_word s.row.obj.fields) };
 }
 
 impl Shown {
@@ -53,11 +56,13 @@ impl Shown {
         let mut digits = [0; 20];
         let start = write_digits(row.rev, &mut digits, 20) as u8;
         let prefix = KeyPrefix::of(&row.obj.key);
-        let word = word_of(&row.obj);
+        let labels = labels_word(&row.obj.labels);
+        let fields = fields_word(&row.obj.fields);
         let shown = Shown {
             row,
+            labels,
+            fields,
             prefix,
-            word,
             digits,
             start,
         };
@@ -78,11 +83,18 @@ impl Shown {
         &self.prefix
     }
 
-    /// Whether the word of the object has each bit of a mask. The object itself isn't looked at.
-    pub fn has(&self, mask: u64) -> bool
-        ensures { result ≡ has_bits (word_of self.now.obj) mask }
+    /// The word of the object's labels. The object itself isn't looked at.
+    pub fn labels(&self) -> u64
+        ensures { result ≡ labels_word self.now.obj.labels }
     {
-        has_bits(self.word, mask)
+        self.labels
+    }
+
+    /// The word of the object's listed fields. The object itself isn't looked at.
+    pub fn fields(&self) -> u64
+        ensures { result ≡ fields_word self.now.obj.fields }
+    {
+        self.fields
     }
 
     /// The object's JSON up to its revision.

@@ -1,15 +1,16 @@
 -- What words have: the bits of each label and of each listed field.
 use Rattle.std.proofs.Common.{◌≡◌, ℕ, zero, suc, ◌<◌, Bool, true, false, cond, List, [], ◌∷◌, length, get_or, Some, refl, sym, ap, ◌∙◌, subst, inl, inr, max, arith, bytes_eq, bit_or}
-use Rattle.std.specs.Prelude.{fold}
+use Rattle.std.specs.Prelude.{◌&&◌, fold}
 use Rattle.std.specs.Int.{bit_at}
-use Rattle.std.proofs.lemmas.Bool.{eqb-true, eq-eqb, cases_lt, cases_eq}
+use Rattle.std.proofs.lemmas.Bool.{eqb-true, eq-eqb, cases_lt, cases_eq, cases_Bool, and_from, true≢false}
 use Rattle.std.proofs.lemmas.List.{get_or_past}
 use Rattle.std.proofs.lemmas.Nat.{or_comm}
 use Rattle.std.proofs.lemmas.Nat.Bits.{bit_at_or, bit_at-zero, same_from_bits}
 use Rattle.std.proofs.lemmas.Slice.Eq.{bytes_eq-Decides}
 use Rattle.kube_meta.specs.declared.objects.Obj.{Obj}
+use Rattle.kube_meta.specs.declared.words.Mask.{Mask}
 use Rattle.kube_meta.specs.Labels.{Pairs, value_at}
-use Rattle.kube_meta.specs.Words.{label_bits, field_bits, labels_word, first_fields_word, fields_word, word_of, has_bits}
+use Rattle.kube_meta.specs.Words.{label_bits, field_bits, labels_word, first_fields_word, fields_word, has_bits, fits}
 
 -- ---- bits that are joined
 
@@ -50,8 +51,20 @@ has_right more word mask has = to_has (bit_or more word) mask (or_assoc more wor
 pub has_left : (word more mask : ℕ) → has_bits word mask ≡ true → has_bits (bit_or word more) mask ≡ true
 has_left word more mask has = subst (λ (w : ℕ). has_bits w mask ≡ true) (or_comm more word) (has_right more word mask has)
 
-has_self : (word : ℕ) → has_bits word word ≡ true
+pub has_self : (word : ℕ) → has_bits word word ≡ true
 has_self word = to_has word word (or_self word)
+
+-- what has all bits of a word has those that the word has
+has_within : (joint word mask : ℕ) → has_bits joint word ≡ true → has_bits word mask ≡ true → has_bits joint mask ≡ true
+has_within joint word mask joins has =
+    to_has joint mask (ap (λ (w : ℕ). bit_or w mask) (sym (from_has joint word joins)) ∙ or_assoc joint word mask ∙ ap (bit_or joint) (from_has word mask has) ∙ from_has joint word joins)
+
+-- so where it lacks a bit, the word does
+pub lacks_within : (joint word mask : ℕ) → has_bits joint word ≡ true → has_bits joint mask ≡ false → has_bits word mask ≡ false
+lacks_within joint word mask joins lacks = elim (cases_Bool (has_bits word mask)) [
+  | inl has ↦ absurd (true≢false (sym (has_within joint word mask joins has) ∙ lacks))
+  | inr not ↦ not
+]
 
 -- ---- labels
 
@@ -108,10 +121,20 @@ field_had fields place = elim (cases_lt place (length fields)) [
 
 -- ---- objects
 
-pub word_has_labels : (obj : Obj) (mask : ℕ) → has_bits (labels_word obj.labels) mask ≡ true → has_bits (word_of obj) mask ≡ true
-unfolding word_of
-word_has_labels obj mask has = has_left (labels_word obj.labels) (fields_word obj.fields) mask has
+pub fits_by : (mask : Mask) (obj : Obj) → has_bits (labels_word obj.labels) mask.labels ≡ true → has_bits (fields_word obj.fields) mask.fields ≡ true → fits mask obj ≡ true
+unfolding fits
+fits_by mask obj labels fields = and_from (has_bits (labels_word obj.labels) mask.labels) (has_bits (fields_word obj.fields) mask.fields) labels fields
 
-pub word_has_fields : (obj : Obj) (mask : ℕ) → has_bits (fields_word obj.fields) mask ≡ true → has_bits (word_of obj) mask ≡ true
-unfolding word_of
-word_has_fields obj mask has = has_right (labels_word obj.labels) (fields_word obj.fields) mask has
+-- where one of both lacks a bit, the object doesn't fit
+pub labels_lack : (mask : Mask) (obj : Obj) → has_bits (labels_word obj.labels) mask.labels ≡ false → fits mask obj ≡ false
+unfolding fits
+labels_lack mask obj lacks = ap (λ (b : Bool). b && has_bits (fields_word obj.fields) mask.fields) lacks
+
+and_false : (b : Bool) → (b && false) ≡ false
+and_false true = refl
+and_false false = refl
+
+pub fields_lack : (mask : Mask) (obj : Obj) → has_bits (fields_word obj.fields) mask.fields ≡ false → fits mask obj ≡ false
+unfolding fits
+fields_lack mask obj lacks =
+    ap (λ (b : Bool). has_bits (labels_word obj.labels) mask.labels && b) lacks ∙ and_false (has_bits (labels_word obj.labels) mask.labels)

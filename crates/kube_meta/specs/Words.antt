@@ -1,12 +1,18 @@
--- Words of 64 bits, in which each label and each listed field sets two. What lacks a bit that a mask has isn't selected.
-use Rattle.std.specs.Prelude.{◌==◌, ℕ, zero, suc, ◌/◌, ◌%◌, ◌^◌, Bool, List, [], length, slice_index_or, bit_or, fold, if◌then◌else◌}
+-- Words of 64 bits: one of an object's labels, in which each sets two bits, and one of its listed fields, in which each
+-- sets four. What lacks a bit that a mask has isn't selected.
+use Rattle.std.specs.Prelude.{◌==◌, ◌&&◌, ℕ, zero, suc, ◌/◌, ◌%◌, ◌^◌, Bool, List, [], length, slice_index_or, bit_or, fold, if◌then◌else◌}
 use Rattle.kube_meta.specs.declared.objects.Obj.{Obj}
-use Rattle.kube_meta.specs.Hashes.{hash_of}
+use Rattle.kube_meta.specs.declared.words.Mask.{Mask}
+use Rattle.kube_meta.specs.Hashes.{hash_of, stirred}
 use Rattle.kube_meta.specs.Labels.{Pairs}
 
 -- two bits of 64, told by the upper twelve of a hash
 abbrev pub bits_of : ℕ → ℕ
 bits_of hash = bit_or (2 ^ (hash / 2 ^ 58)) (2 ^ (hash / 2 ^ 52 % 64))
+
+-- four bits of 64, told by a hash and by that stirred once more, with its own upper half
+abbrev pub four_bits_of : ℕ → ℕ
+four_bits_of hash = bit_or (bits_of hash) (bits_of (stirred hash (hash / 2 ^ 32)))
 
 -- the bits of a label with its value
 unfoldable pub label_bits : List ℕ → List ℕ → ℕ
@@ -14,7 +20,7 @@ label_bits name value = bits_of (hash_of (hash_of 0 name) value)
 
 -- the bits of the listed field at a place with its value; none where that is empty, as that of a field that isn't there
 unfoldable pub field_bits : ℕ → List ℕ → ℕ
-field_bits place value = if length value == 0 then 0 else bits_of (hash_of place value)
+field_bits place value = if length value == 0 then 0 else four_bits_of (hash_of place value)
 
 -- the bits of all labels
 abbrev pub labels_word : Pairs → ℕ
@@ -29,10 +35,10 @@ first_fields_word fields (suc n) = bit_or (first_fields_word fields n) (field_bi
 abbrev pub fields_word : List (List ℕ) → ℕ
 fields_word fields = first_fields_word fields (length fields)
 
--- the bits of an object's labels and listed fields
-unfoldable pub word_of : Obj → ℕ
-word_of obj = bit_or (labels_word obj.labels) (fields_word obj.fields)
-
 -- the word has each bit of the mask
 abbrev pub has_bits : ℕ → ℕ → Bool
 has_bits word mask = bit_or word mask == word
+
+-- the words of an object have the bits of a mask
+unfoldable pub fits : Mask → Obj → Bool
+fits mask obj = has_bits (labels_word obj.labels) mask.labels && has_bits (fields_word obj.fields) mask.fields

@@ -31,7 +31,8 @@ fn front_hash(seed: u64, bytes: &[u8]) -> u64
     hash
 }
 
-fn stirred(hash: u64, number: u64) -> u64
+// What a hash becomes by one more number.
+pub(crate) fn stirred(hash: u64, number: u64) -> u64
     ensures { result ≡ stirred hash number }
 {
     (hash ^ number).wrapping_mul(FACTOR)

@@ -26,4 +26,4 @@ pub use resources::{
 pub use revisions::{MAX_REVISION, Rev, RevNo, revisions_are_read_back};
 pub use std::alloc::AllocError as Memory;
 pub use texts::Text;
-pub use words::{field_bits, has_bits, label_bits, word_of};
+pub use words::{Mask, field_bits, fields_word, has_bits, label_bits, labels_word};

@@ -6,5 +6,6 @@ pub mod MapEdits
 pub mod FillLemmas
 pub mod PrefixLemmas
 pub mod SpanLemmas
+pub mod WordLemmas
 pub mod EdgeLemmas
 pub mod NodeLemmas

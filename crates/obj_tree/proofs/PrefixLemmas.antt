@@ -1,5 +1,5 @@
 -- What the prefixes of pages' first rows tell.
-use Rattle.std.proofs.Common.{◌≡◌, ℕ, zero, suc, ◌<◌, ◌≤◌, true, false, List, [], ◌∷◌, ◌++◌, length, map, get_or, refl, sym, ap, ◌∙◌, subst, arith, Less, Equal, Greater, Ordering}
+use Rattle.std.proofs.Common.{◌≡◌, ℕ, zero, suc, ◌<◌, ◌≤◌, true, false, List, [], ◌∷◌, ◌++◌, length, map, take, get_or, refl, sym, ap, ◌∙◌, subst, arith, Less, Equal, Greater, Ordering}
 use Rattle.std.specs.Prelude.{not, ◌==◌}
 use Rattle.std.specs.Cmp.Lexicographic.{slice_cmp}
 use Rattle.std.specs.Ordering.{nat_cmp, is_lt, is_gt, ordering_reverse}
@@ -86,3 +86,8 @@ pub prefix_gone : (prefix : KeyPrefix) (rows : List RowData) (at : ℕ) → 0 < 
 prefix_gone prefix [] at some within is = absurd (omega arith)
 prefix_gone prefix (x ∷ rows) zero some within is = absurd (omega arith)
 prefix_gone prefix (x ∷ rows) (suc at) some within is = is
+
+pub prefix_front : (prefix : KeyPrefix) (rows : List RowData) (n : ℕ) → 0 < n → IsPrefix prefix rows → IsPrefix prefix (take n rows)
+prefix_front prefix rows zero some is = absurd (omega arith)
+prefix_front prefix [] (suc n) some is = tt
+prefix_front prefix (row ∷ rows) (suc n) some is = is

@@ -4,3 +4,4 @@ pub mod Places
 pub mod Prefixes
 pub mod Laws
 pub mod Edges
+pub mod Words

@@ -82,14 +82,15 @@ fn paged(alloc: Global, parts: Vec<Vec<Arc<Shown>>>) -> Result<Vec<Arc<Page>>, M
     Ok(pages)
 }
 
-// The parts with the prefixes of their first rows. Nothing else is done here, so that many looks are under way at
-// a time.
+// The parts with the prefixes of their first rows and the words of all. Nothing else is done here, so that many
+// looks are under way at a time.
 fn prefixed(alloc: Global, parts: Vec<Vec<Arc<Shown>>>) -> Result<Vec<Page>, Memory>
     ensures { IfOk result (λ pages. pages.items ≡ map (λ part. values_of part.items) parts.items) }
 {
     let mut pages = Vec::with_capacity(alloc, parts.len())?;
     for part in parts {
-        pages.push(Page::of(part))?;
+        let page = Page::of(alloc, part)?;
+        pages.push(page)?;
     }
     Ok(pages)
 }

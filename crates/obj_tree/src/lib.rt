@@ -3,6 +3,7 @@
 //! are shared.
 #![tactic(auto)]
 
+mod column;
 mod edges;
 mod filled;
 mod laws;

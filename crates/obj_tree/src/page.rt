@@ -4,11 +4,13 @@ ghost use Rattle.std.specs.Prelude.{◌≡◌, ◌++◌, ◌∷◌, [], ◌≤�
 ghost use Rattle.kube_meta.specs.Rows.{key_of as row_key};
 ghost use Rattle.obj_tree.specs.Prefixes.{IsPrefix};
 ghost use Rattle.obj_tree.specs.Pages.{values_of, begins_by, row_put, row_gone};
+ghost use Rattle.obj_tree.specs.Words.{labels_of, fields_of, AreUnfit};
 
+use crate::column::{Column, fields_of, labels_of, put_words};
 use crate::edges::{Edge, is_before, row_at};
 use crate::part::Part;
 use encode_once::{KeyPrefix, Shown, Sought};
-use kube_meta::{Key, Memory};
+use kube_meta::{Key, Mask, Memory};
 use std::alloc::Global;
 use std::cmp::Ordering;
 use std::marker::Model;
@@ -20,19 +22,23 @@ pub(crate) struct Page {
     // The first row's prefix, by which most pages are told apart without a look at their rows.
     prefix: KeyPrefix,
     rows: Vec<Arc<Shown>>,
+    // The words of each row, by which most rows that a selection doesn't have are passed over without a look at them.
+    fields: Column,
+    labels: Column,
 }
 
 impl Model for Page {
-    ghost use Rattle.std.specs.Prelude.{List};
+    ghost use Rattle.std.specs.Prelude.{◌≡◌, List};
     ghost use Rattle.kube_meta.specs.Rows.{RowData};
     ghost use Rattle.obj_tree.specs.Prefixes.{IsPrefix};
     ghost use Rattle.obj_tree.specs.Pages.{values_of};
+    ghost use Rattle.obj_tree.specs.Words.{labels_of, fields_of};
 
     ghost Value = { List RowData };
 
     ghost view = { λ p. values_of p.rows.items };
 
-    ghost invariant = { λ p. IsPrefix p.prefix (values_of p.rows.items) };
+    ghost invariant = { λ p. IsPrefix p.prefix (values_of p.rows.items) × (p.fields ≡ fields_of p.rows.items) × (p.labels ≡ labels_of p.rows.items) };
 }
 
 impl Page {
@@ -56,7 +62,19 @@ impl Page {
     {
         let mut rows = Vec::new(alloc);
         rows.push(shown)?;
-        Ok(Page::of(rows))
+        let page = Page::of(alloc, rows)?;
+        Ok(page)
+    }
+
+    // How many rows from a place on are known by their words not to fit a mask. The rows aren't looked at.
+    pub(crate) fn unfit(&self, from: usize, mask: Mask) -> usize
+        requires { from ≤ length self.now }
+        ensures unfit { AreUnfit mask (drop from self.now) result }
+        ensures fits { from + result ≤ usize.MAX }
+    {
+        let middle = self.fields.first_with(from, mask.fields);
+        let at = self.labels.first_with(middle, mask.labels);
+        at - from
     }
 
     // Puts a row at a place, before those that stand there.
@@ -65,7 +83,10 @@ impl Page {
         ensures ok { OnOk result (self.new ≡ row_put self.old place place shown.value) }
         ensures err { OnErr result (self.new ≡ self.old) }
     {
-        self.rows.insert(place, shown)?;
+        // Room comes first, so that the row can't be refused once its words are put.
+        self.rows.reserve(1)?;
+        put_words(&mut self.fields, &mut self.labels, place, &shown)?;
+        let _ = self.rows.insert(place, shown);
         if place == 0 {
             self.prefix = prefix_of(&self.rows);
         }
@@ -77,6 +98,8 @@ impl Page {
         requires { place < length self.old }
         ensures { self.new ≡ row_put self.old place (place + 1) shown.value }
     {
+        self.fields.replace(place, shown.fields());
+        self.labels.replace(place, shown.labels());
         self.rows[place] = shown;
         if place == 0 {
             self.prefix = prefix_of(&self.rows);
@@ -88,6 +111,8 @@ impl Page {
         requires { place < length self.old }
         ensures { self.new ≡ row_gone self.old place }
     {
+        self.fields.remove(place);
+        self.labels.remove(place);
         self.rows.remove(place);
         if place == 0 {
             self.prefix = prefix_of(&self.rows);
@@ -95,12 +120,36 @@ impl Page {
     }
 
     // A page of these rows.
-    pub(crate) fn of(rows: Vec<Arc<Shown>>) -> Page
+    pub(crate) fn of(alloc: Global, rows: Vec<Arc<Shown>>) -> Result<Page, Memory>
+        ensures { IfOk result (λ page. page ≡ values_of rows.items) }
+    {
+        let fields = fields_of(alloc, &rows)?;
+        let labels = labels_of(alloc, &rows)?;
+        Ok(Page::made(rows, fields, labels))
+    }
+
+    // A page of no rows.
+    pub(crate) fn none(alloc: Global) -> Page
+        ensures { result ≡ [] }
+    {
+        let rows = Vec::new(alloc);
+        let fields = Column::of(Vec::new(alloc));
+        let labels = Column::of(Vec::new(alloc));
+        Page::made(rows, fields, labels)
+    }
+
+    // A page of rows and their words.
+    fn made(rows: Vec<Arc<Shown>>, fields: Column, labels: Column) -> Page
+        requires fields { fields ≡ fields_of rows.items }
+        requires labels { labels ≡ labels_of rows.items }
         ensures { result ≡ values_of rows.items }
     {
+        let prefix = prefix_of(&rows);
         Page {
-            prefix: prefix_of(&rows),
+            prefix,
             rows,
+            fields,
+            labels,
         }
     }
 
@@ -122,7 +171,8 @@ impl Page {
         share(&mut rows, front)?;
         rows.push(shown)?;
         share(&mut rows, back)?;
-        Ok(Page::of(rows))
+        let page = Page::of(alloc, rows)?;
+        Ok(page)
     }
 
     // A copy without the row at a place.
@@ -172,11 +222,17 @@ impl Page {
         ensures back { IfOk result (λ back. back.value ≡ drop 32 self.old) }
         ensures err { OnErr result (self.new ≡ self.old) }
     {
-        let mut back = Arc::new(alloc, Page::of(Vec::new(alloc)))?;
+        let mut back = Arc::new(alloc, Page::none(alloc))?;
         let Some(room) = Arc::get_mut(&mut back) else {
             return Err(Memory);
         };
-        *room = Page::of(self.rows.split_off(32)?);
+        let (_, later) = self.rows.split_at(32);
+        let fields = fields_of(alloc, later)?;
+        let labels = labels_of(alloc, later)?;
+        let rows = self.rows.split_off(32)?;
+        self.fields.cut(32);
+        self.labels.cut(32);
+        *room = Page::made(rows, fields, labels);
         Ok(back)
     }
 }
@@ -245,7 +301,8 @@ fn joined(alloc: Global, front: &[Arc<Shown>], back: &[Arc<Shown>]) -> Result<Pa
     let mut rows = Vec::new(alloc);
     share(&mut rows, front)?;
     share(&mut rows, back)?;
-    Ok(Page::of(rows))
+    let page = Page::of(alloc, rows)?;
+    Ok(page)
 }
 
 // Puts shared rows behind others.

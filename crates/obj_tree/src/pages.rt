@@ -286,7 +286,7 @@ fn put_full(
     ensures ok { OnOk result (values_of pages.new.items ≡ replaced (values_of pages.old.items) at (at + 1) (take 32 (row_put (page_at (values_of pages.old.items) at) place place shown.value) ∷ drop 32 (row_put (page_at (values_of pages.old.items) at) place place shown.value) ∷ [])) }
     ensures err { OnErr result (values_of pages.new.items ≡ values_of pages.old.items) }
 {
-    let next = Arc::new(alloc, Page::of(Vec::new(alloc)))?;
+    let next = Arc::new(alloc, Page::none(alloc))?;
     pages.insert(at + 1, next)?;
     match divide_in(alloc, &mut pages[at], place, shown) {
         Ok(back) => {

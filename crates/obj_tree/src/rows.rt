@@ -4,12 +4,14 @@ ghost use Rattle.std.specs.Prelude.{◌≡◌, ◌-◌, ◌≤◌, ◌==◌, ◌
 ghost use Rattle.std.specs.Iterator.{YieldsFirstBy, item_count};
 ghost use Rattle.obj_tree.specs.Edges.{rows_before, IsSpot};
 ghost use Rattle.obj_tree.specs.Pages.{values_of, parts_of, joined, page_at, HoldEach, IsWithin};
+ghost use Rattle.obj_tree.specs.Words.{from_fit, Passes};
 
 use crate::edges::Spot;
 use crate::node::Node;
 use crate::page::Page;
 use crate::part::Part;
 use encode_once::Shown;
+use kube_meta::Mask;
 use std::marker::Model;
 use std::sync::Arc;
 
@@ -78,6 +80,33 @@ impl<'a> Rows<'a> {
         let (front, _) = rest.split_at(to.part - from.part);
         let left = (rows_in(front) + to.row).saturating_sub(from.row);
         Rows::from(rest, from.row, left)
+    }
+
+    /// The next object whose words have the bits of a mask, and then those behind it are to come. Those before it
+    /// are passed over by their words alone, which lie together.
+    pub fn next_with(&mut self, mask: Mask) -> Option<&'a Arc<Shown>>
+        ensures { MatchOption result ((from_fit mask self.old ≡ []) × (self.new ≡ [])) (λ shown. from_fit mask self.old ≡ shown.now.value ∷ self.new) }
+    {
+        while let Some(rest) = self.passed(mask) {
+            *self = rest;
+        }
+        let (shown, rest) = self.first()?;
+        *self = rest;
+        Some(shown)
+    }
+
+    // The rows without some of the next ones that don't fit a mask; `None` where the next one does, or none is.
+    fn passed(&self, mask: Mask) -> Option<Rows<'a>>
+        ensures { MatchOption result (from_fit mask self.now ≡ self.now) (λ rest. Passes mask self.now rest) }
+    {
+        passed(self.pages, self.nodes, self.place, self.left, mask)
+    }
+
+    // The next row and those behind it, if there is one.
+    fn first(&self) -> Option<(&'a Arc<Shown>, Rows<'a>)>
+        ensures { MatchOption result (self.now ≡ []) (λ first. self.now ≡ first.0.now.value ∷ first.1) }
+    {
+        taken(self.pages, self.nodes, self.place, self.left)
     }
 
     /// How many objects are still to come.
@@ -175,6 +204,30 @@ fn taken<'a>(
     let (page, _) = pages.split_first()?;
     let shown = &page.rows()[place];
     Some((shown, lent(pages, nodes, place + 1, left)))
+}
+
+// The rows without some of those of the first page that don't fit a mask.
+fn passed<'a>(
+    pages: &'a [Arc<Page>],
+    nodes: &'a [Arc<Node>],
+    place: usize,
+    left: usize,
+    mask: Mask,
+) -> Option<Rows<'a>>
+    requires some { HoldEach 1 (values_of pages.now) }
+    requires behind { HoldEach 1 (values_of nodes.now) }
+    requires place { IsWithin place (values_of pages.now) (values_of nodes.now) }
+    requires left { left ≤ length (drop place (joined (values_of pages.now ++ values_of nodes.now))) }
+    ensures { MatchOption result (from_fit mask (take left (drop place (joined (values_of pages.now ++ values_of nodes.now)))) ≡ take left (drop place (joined (values_of pages.now ++ values_of nodes.now))))
+        (λ rest. Passes mask (take left (drop place (joined (values_of pages.now ++ values_of nodes.now)))) rest) }
+{
+    let (page, _) = pages.split_first()?;
+    let unfit = page.unfit(place, mask);
+    let over = unfit.min(left);
+    if over == 0 {
+        return None;
+    }
+    Some(lent(pages, nodes, place + over, left - over))
 }
 
 /// How many rows parts hold.

@@ -1,0 +1,10 @@
+use Rattle.std.proofs.Common.{ap, ◌∙◌}
+use Rattle.kube_meta.specs.Rows.{RowData}
+use Rattle.kube_meta.specs.Words.{labels_word}
+use Rattle.obj_tree.proofs.WordLemmas.{pushed_beside}
+use Rattle.obj_tree.proofs.column.labels_of.Goals as goal
+
+pub loop-shown-preserved : goal.loop-shown-preserved
+loop-shown-preserved c =
+    pushed_beside (λ p. labels_word p.value.obj.labels) c.args.rows.now c.loop-shown.words.items c.push.new.self.items c.loop-shown.shown-index c.shown-item.result c.labels.result
+    c.loop-shown.invariant c.loop-shown-test.true c.shown-item.is (c.labels.ensures ∙ ap (λ (r : RowData). labels_word r.obj.labels) c.deref.ensures) c.in_ok-push.ensures.items

@@ -1,0 +1,198 @@
+//! The words of a page's rows.
+
+ghost use Rattle.std.specs.Prelude.{◌≡◌, ◌≤◌, ◌<◌, ◌+◌, ℕ, true, false, length, take, set, slice_index, IfOk, OnOk, OnErr};
+ghost use Rattle.std.specs.List.{insert, remove};
+ghost use Rattle.kube_meta.specs.Words.{has_bits, labels_word, fields_word};
+ghost use Rattle.obj_tree.specs.Words.{labels_of, fields_of, eight_at, HaveEights, IsFirstWith};
+
+use encode_once::Shown;
+use kube_meta::{Memory, has_bits};
+use std::alloc::Global;
+use std::marker::Model;
+use std::sync::Arc;
+
+/// The words of rows that stand next to each other: those of their labels, or those of their listed fields. Seen in
+/// contracts as their list.
+#[derive(Drop)]
+pub(crate) struct Column {
+    words: Vec<u64>,
+    // The bits of each eight words, by which these are passed over at once. They are eight for the 64 rows of a page;
+    // where one has more until it is divided, the first of them has the bits of those too.
+    eights: [u64; 8],
+}
+
+impl Model for Column {
+    ghost use Rattle.std.specs.Prelude.{ℕ, List};
+    ghost use Rattle.obj_tree.specs.Words.{HaveEights};
+
+    ghost Value = { List ℕ };
+
+    ghost view = { λ c. c.words.items };
+
+    ghost invariant = { λ c. HaveEights c.eights c.words.items };
+}
+
+impl Column {
+    // A column of these words.
+    pub(crate) fn of(words: Vec<u64>) -> Column
+        ensures { result ≡ words.items }
+    {
+        let eights = eights_of(&words);
+        Column { words, eights }
+    }
+
+    // Puts a word at a place, before those that stand there.
+    pub(crate) fn insert(&mut self, place: usize, word: u64) -> Result<(), Memory>
+        requires { place ≤ length self.old }
+        ensures ok { OnOk result (self.new ≡ insert self.old place word) }
+        ensures err { OnErr result (self.new ≡ self.old) }
+    {
+        self.words.insert(place, word)?;
+        self.eights = eights_of(&self.words);
+        Ok(())
+    }
+
+    // Puts a word in place of the one at a place.
+    pub(crate) fn replace(&mut self, place: usize, word: u64)
+        requires { place < length self.old }
+        ensures { self.new ≡ set self.old place word }
+    {
+        self.words[place] = word;
+        self.eights = eights_of(&self.words);
+    }
+
+    // Removes the word at a place.
+    pub(crate) fn remove(&mut self, place: usize)
+        requires { place < length self.old }
+        ensures { self.new ≡ remove self.old place }
+    {
+        self.words.remove(place);
+        self.eights = eights_of(&self.words);
+    }
+
+    // Leaves so many words at most.
+    pub(crate) fn cut(&mut self, len: usize)
+        ensures { self.new ≡ take len self.old }
+    {
+        self.words.truncate(len);
+        self.eights = eights_of(&self.words);
+    }
+
+    // The place of the first word from a place on that has each bit of a mask, or the end. Where the mask has no bit
+    // nothing is looked at.
+    pub(crate) fn first_with(&self, from: usize, mask: u64) -> usize
+        requires { from ≤ length self.now }
+        ensures { IsFirstWith mask self.now from result }
+    {
+        if mask == 0 {
+            return from;
+        }
+        first_with(&self.eights, &self.words, from, mask)
+    }
+}
+
+/// The words of the labels of rows.
+pub(crate) fn labels_of(alloc: Global, rows: &[Arc<Shown>]) -> Result<Column, Memory>
+    ensures { IfOk result (λ column. column ≡ labels_of rows.now) }
+{
+    let mut words = Vec::with_capacity(alloc, rows.len())?;
+    for shown in rows {
+        words.push(shown.labels())?;
+    }
+    Ok(Column::of(words))
+}
+
+/// The words of the listed fields of rows.
+pub(crate) fn fields_of(alloc: Global, rows: &[Arc<Shown>]) -> Result<Column, Memory>
+    ensures { IfOk result (λ column. column ≡ fields_of rows.now) }
+{
+    let mut words = Vec::with_capacity(alloc, rows.len())?;
+    for shown in rows {
+        words.push(shown.fields())?;
+    }
+    Ok(Column::of(words))
+}
+
+/// Puts the words of a row at a place, before those that stand there. Both columns stay as they are where there is no
+/// memory for one of them.
+pub(crate) fn put_words(
+    fields: &mut Column,
+    labels: &mut Column,
+    place: usize,
+    shown: &Shown,
+) -> Result<(), Memory>
+    requires fields { place ≤ length fields.old }
+    requires labels { place ≤ length labels.old }
+    ensures ok { OnOk result ((fields.new ≡ insert fields.old place (fields_word shown.now.obj.fields)) × (labels.new ≡ insert labels.old place (labels_word shown.now.obj.labels))) }
+    ensures err { OnErr result ((fields.new ≡ fields.old) × (labels.new ≡ labels.old)) }
+{
+    fields.insert(place, shown.fields())?;
+    match labels.insert(place, shown.labels()) {
+        Ok(()) => Ok(()),
+        Err(refused) => {
+            fields.remove(place);
+            Err(refused)
+        }
+    }
+}
+
+// The bits of each eight words.
+fn eights_of(words: &[u64]) -> [u64; 8]
+    ensures { HaveEights result words.now }
+{
+    let mut eights = [0; 8];
+    for (at, word) in words.iter().enumerate() {
+        add(&mut eights, at, *word);
+    }
+    eights
+}
+
+// Adds the bits of the word at a place to those of its eight.
+fn add(eights: &mut [u64; 8], at: usize, word: u64)
+    ensures has { has_bits (slice_index eights.new (eight_at at)) word ≡ true }
+    ensures keeps { (eight mask : ℕ) → has_bits (slice_index eights.old eight) mask ≡ true → has_bits (slice_index eights.new eight) mask ≡ true }
+{
+    eights[at / 8 % 8] |= word;
+}
+
+fn first_with(eights: &[u64; 8], words: &[u64], from: usize, mask: u64) -> usize
+    requires from { from ≤ length words.now }
+    requires eights { HaveEights eights.now words.now }
+    ensures { IsFirstWith mask words.now from result }
+{
+    let mut at = from;
+    while at < words.len() {
+        let over = lacking(eights, words, at, mask);
+        if over == 0 {
+            return at;
+        }
+        let step = over.min(words.len() - at);
+        at += step;
+    }
+    at
+}
+
+// How many words from a place on are known to lack a bit of a mask: the rest of an eight that lacks one, or the word
+// at the place; none where that has each bit.
+fn lacking(eights: &[u64; 8], words: &[u64], at: usize, mask: u64) -> usize
+    requires inside { at < length words.now }
+    requires eights { HaveEights eights.now words.now }
+    ensures lack { (k : ℕ) → at ≤ k → k < at + result → k < length words.now → has_bits (slice_index words.now k) mask ≡ false }
+    ensures has { result ≡ 0 → has_bits (slice_index words.now at) mask ≡ true }
+{
+    if has_bits(eights[at / 8 % 8], mask) {
+        return lack_of(words[at], mask);
+    }
+    8 - at % 8
+}
+
+// None where a word has each bit of a mask, and else one.
+fn lack_of(word: u64, mask: u64) -> usize
+    ensures has { result ≡ 0 → has_bits word mask ≡ true }
+    ensures lack { 0 < result → (result ≡ 1) × (has_bits word mask ≡ false) }
+{
+    if has_bits(word, mask) {
+        return 0;
+    }
+    1
+}
