@@ -5,13 +5,14 @@ use Rattle.meta_view.specs.declared.form.Form.TheVariants.{Whole}
 use Rattle.rev_log.specs.Logs.{end_of}
 use Rattle.select_all.specs.declared.selection.Selection.{Selection}
 use Rattle.select_all.specs.Listings.{listing}
+use Rattle.select_all.specs.Meanings.{IsAtLeast}
 use Rattle.select_all.specs.Streams.{TransitionData, transitions}
 use Rattle.watch_record.specs.declared.records.Record.{Record}
 use Rattle.watch_rules.specs.Bodies.{Line, Told, Bookmark, Closing, Lost, opening_lines}
 use Rattle.watch_rules.specs.declared.starts.Start.{Start}
 use Rattle.watch_rules.specs.declared.starts.Start.TheVariants.{FromState, FromHere, FromRevision}
 use Rattle.watch_texts.specs.Texts.{line_text}
-use Rattle.body_check.specs.Judging.{record_log, IsAtLeast}
+use Rattle.body_check.specs.Judging.{record_log}
 use Rattle.body_check.specs.Losses.{is_lost}
 use Rattle.body_check.specs.Reading.{Course}
 

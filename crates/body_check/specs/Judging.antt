@@ -4,7 +4,7 @@ use Rattle.std.specs.Prelude.{◌≡◌, ℕ, ◌≤◌, ◌⊎◌, List, ◌++�
 use Rattle.meta_view.specs.declared.form.Form.TheVariants.{Whole}
 use Rattle.rev_log.specs.Logs.{Log, end_of}
 use Rattle.select_all.specs.declared.selection.Meaning.{Meaning}
-use Rattle.select_all.specs.declared.selection.Meaning.TheVariants.{MostRecent, Any, NotOlder, Exact}
+use Rattle.select_all.specs.Meanings.{IsAtLeast}
 use Rattle.watch_record.specs.declared.records.Record.{Record}
 use Rattle.watch_rules.specs.Bodies.{Line, TellsBody}
 use Rattle.watch_rules.specs.declared.starts.Start.{Start}
@@ -19,13 +19,6 @@ abbrev pub record_log : Record → Log
 record_log case = log_from case.first case.log.items
 
 -- ---- where the ask lets a body begin
-
--- a revision is at least the one that a meaning names, which isn't that of one revision alone
-abbrev pub IsAtLeast : Meaning → ℕ → Type 0
-IsAtLeast MostRecent at = Unit {0}
-IsAtLeast Any at = Unit {0}
-IsAtLeast (NotOlder asked) at = asked ≤ at
-IsAtLeast (Exact asked) at = ⊥
 
 -- at the revision that is asked for, reached or not, or at any of the log that is new enough
 abbrev pub IsAllowed : Log → Start → ℕ → Type 0

@@ -4,9 +4,10 @@ ghost use Rattle.std.specs.Prelude.{◌≡◌, ◌+◌, ◌≤◌, ◌<◌, ◌^
 ghost use Rattle.std.specs.BTreeMap.{values};
 ghost use Rattle.rev_log.specs.Logs.{end_of};
 ghost use Rattle.rev_log.specs.Rows.{Holds};
+ghost use Rattle.select_all.specs.Meanings.{IsAtLeast};
 ghost use Rattle.watch_rules.specs.Bodies.{IsOpening};
 ghost use Rattle.body_check.specs.Courses.{rows_told, untold_at, Admits, IsRanged};
-ghost use Rattle.body_check.specs.Judging.{IsAtLeast, IsJudged, JudgementsAreOne, record_log};
+ghost use Rattle.body_check.specs.Judging.{IsJudged, JudgementsAreOne, record_log};
 ghost use Rattle.body_check.specs.Moves.{standing};
 ghost use Rattle.body_check.specs.Rounds.{IsTriedBy, IsRoundOf};
 

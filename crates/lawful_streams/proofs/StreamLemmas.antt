@@ -22,7 +22,8 @@ use Rattle.sess_turns.specs.Turns.{watch_lines}
 use Rattle.sess_turns.proofs.BodyLemmas.{turns_tell}
 use Rattle.body_check.specs.declared.judging.Checked.{Checked}
 use Rattle.body_check.specs.declared.judging.Checked.TheVariants.{Lawful, Unlawful}
-use Rattle.body_check.specs.Judging.{record_log, IsAtLeast, IsAllowed, MayStart, IsToldBy, IsJudged}
+use Rattle.select_all.specs.Meanings.{IsAtLeast}
+use Rattle.body_check.specs.Judging.{record_log, IsAllowed, MayStart, IsToldBy, IsJudged}
 use Rattle.lawful_streams.specs.Streams.{StreamsAreLawful}
 use Rattle.lawful_streams.proofs.TurnLemmas.{first_stays}
 

@@ -1,5 +1,6 @@
 pub mod Selecting
 pub mod Masks
+pub mod Meanings
 pub mod Reading
 pub mod Streams
 pub mod Listings

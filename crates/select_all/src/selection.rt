@@ -7,7 +7,7 @@ ghost use Rattle.select_all.specs.Masks.{IsMaskOf};
 ghost use Rattle.select_all.specs.Selecting.{Selects, is_within, selects, holds, kind_of_change, told_of};
 
 use field_select::{FieldNo, FieldSel};
-use kube_meta::{Key, Memory, Obj, Resource, Text};
+use kube_meta::{Key, Mask, Memory, Obj, Resource, Text};
 use label_select::{LabelNo, LabelSel};
 use std::alloc::Global;
 
@@ -133,12 +133,15 @@ impl Selection {
             && self.fields.matches(&obj.fields, &obj.key)
     }
 
-    /// Bits that the word of each selected object has: those of each label and each listed field that has to
+    /// Bits that the words of each selected object have: those of each label and each listed field that has to
     /// have one value.
-    pub fn mask(&self) -> u64
+    pub fn mask(&self) -> Mask
         ensures { IsMaskOf self.now result }
     {
-        self.labels.mask() | self.fields.mask()
+        Mask {
+            labels: self.labels.mask(),
+            fields: self.fields.mask(),
+        }
     }
 
     /// What a change from `old` to `new` is to a watch of the selection; `None` where neither is
