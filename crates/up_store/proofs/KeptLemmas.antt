@@ -1,24 +1,23 @@
 -- What a store keeps, as its tables follow the log.
-use Rattle.std.proofs.Common.{◌≡◌, ℕ, zero, suc, ◌+◌, ◌-◌, ◌^◌, ◌<◌, ◌≤◌, ◌⊎◌, inl, inr, List, [], ◌∷◌, ◌++◌, length, get_or, take, drop, fold, None, refl, leb, leb-true, leb-false, sym, ap, ◌∙◌, subst, arith, length-take, length-append}
+use Rattle.std.proofs.Common.{◌≡◌, ℕ, zero, suc, ◌+◌, ◌-◌, ◌^◌, ◌<◌, ◌≤◌, ◌⊎◌, inl, inr, List, [], ◌∷◌, ◌++◌, length, get_or, take, drop, fold, refl, leb, leb-true, leb-false, sym, ap, ◌∙◌, subst, arith, length-take, length-append}
 use Rattle.std.proofs.Math.ListN.{drop_of_length-le}
 use Rattle.std.proofs.Math.Seq.{take-nil, drop-nil}
 use Rattle.std.proofs.lemmas.Bool.{cases_Bool}
 use Rattle.std.proofs.lemmas.List.{drop-take, drop-append-le}
 use Rattle.std.proofs.lemmas.List.Sums.{fold-append}
-use Rattle.std.specs.BTreeMap.{BTreeMap, get, values}
-use Rattle.std.specs.Cmp.Lexicographic.{slice_cmp}
-use Rattle.std.specs.Ordering.{nat_cmp}
-use Rattle.kube_meta.specs.Rows.{RowData}
+use Rattle.std.specs.List.{filter_map}
+use Rattle.kube_meta.specs.Rows.{RowData, AreRising, row_with}
 use Rattle.kube_meta.specs.declared.resources.Resource.{Resource}
-use Rattle.kube_meta.specs.declared.resources.Resource.TheVariants.{Pods, ConfigMaps, Deployments}
 use Rattle.rev_log.specs.Changes.{RevisionData}
 use Rattle.rev_log.specs.Logs.{Log, end_of, upto, between, grown}
-use Rattle.rev_log.specs.Rows.{Holds}
 use Rattle.rev_log.specs.States.{row_next, row_at, row_in_base, IsStateAt}
 use Rattle.rev_log.proofs.GrowthLemmas.{upto-end, upto-grown, row_at-grown, row_at-pushed, AreNumbered-push}
-use Rattle.rev_log.proofs.MapLemmas.{Holds-same, values_rise, row_with-values}
-use Rattle.up_store.specs.Kept.{rows_of, HoldEach, HaveMade, HaveBegun, Replay, Keeps, AreBounded}
+use Rattle.up_api.specs.Feeds.{IsHistory, part_of}
+use Rattle.up_store.specs.Kept.{rows_of, AreStepped, HoldEach, HaveMade, HaveBegun, Replay, Keeps, AreBounded}
+use Rattle.up_store.specs.Past.{IsOldState, IsOldHistory}
 use Rattle.up_store.specs.declared.kept.Kept.{Kept}
+use Rattle.up_store.specs.declared.past.OldHistory.{OldHistory}
+use Rattle.up_store.specs.declared.past.OldState.{OldState}
 use Rattle.up_store.specs.declared.tables.Tables.{Tables}
 use Rattle.up_store.proofs.ReplayLemmas.{between-step, between-length, Replay-made, Replay-begun}
 
@@ -44,6 +43,22 @@ next-kept log floor kept at i r keeps at_is is to below within =
     subst (λ n. between log n to ≡ r ∷ between log (n + 1) to) (sym at_is)
     (between-step log kept.from i to r keeps.begun (omega (arith, at_is, below)) within (is ∙ ap (λ xs. get_or xs i r) keeps.revisions))
 
+-- the last rows follow the log, and the rest stays
+last-follow : (log : Log) (floor : ℕ) (kept new : Kept) → new.from ≡ kept.from → new.revisions.items ≡ kept.revisions.items → new.floor_rows ≡ kept.floor_rows →
+    kept.last_at ≤ new.last_at → new.last_at ≤ end_of log → Replay log new.last_at (end_of log) new.last_rows → Keeps log floor kept → Keeps log floor new
+last-follow log floor kept new from items floor_rows later within last keeps = record {
+  numbered = keeps.numbered;
+  ends = keeps.ends;
+  begun = omega (arith, from, keeps.begun);
+  within = omega (arith, from, keeps.within);
+  reached = keeps.reached;
+  revisions = items ∙ keeps.revisions ∙ ap (λ n. between log n (end_of log)) (sym from);
+  floor_rows = rw (from, floor_rows) keeps.floor_rows;
+  followed = omega (arith, from, later, keeps.followed);
+  behind = within;
+  last_rows = last;
+}
+
 -- the last rows made one more revision
 pub caught : (log : Log) (floor i : ℕ) (r : RevisionData) (kept new : Kept) → new.from ≡ kept.from → new.revisions ≡ kept.revisions → new.floor_rows ≡ kept.floor_rows →
     kept.last_at ≡ kept.from + i → i < length kept.revisions.items → r ≡ get_or kept.revisions.items i r → new.last_at ≡ kept.last_at + 1 →
@@ -52,18 +67,8 @@ caught log floor i r kept new from revisions floor_rows at inside is next made k
     let long = kept-length log floor kept keeps in
     let last : Replay log (kept.last_at + 1) (end_of log) new.last_rows =
     Replay-made log kept.last_at (end_of log) r kept.last_rows new.last_rows (omega (arith, long, at, inside)) (next-kept log floor kept kept.last_at i r keeps at is) made keeps.last_rows in
-    record {
-      numbered = keeps.numbered;
-      ends = keeps.ends;
-      begun = subst (λ n. log.first ≤ n) (sym from) keeps.begun;
-      within = subst (λ n. n ≤ floor) (sym from) keeps.within;
-      reached = keeps.reached;
-      revisions = ap (λ rs. rs.items) revisions ∙ keeps.revisions ∙ ap (λ n. between log n (end_of log)) (sym from);
-      floor_rows = rw (from, floor_rows) keeps.floor_rows;
-      followed = omega (arith, from, next, keeps.followed);
-      behind = omega (arith, long, at, inside, next);
-      last_rows = subst (λ n. Replay log n (end_of log) new.last_rows) (sym next) last;
-    }
+    last-follow log floor kept new from (ap (λ rs. rs.items) revisions) floor_rows (omega (arith, next)) (omega (arith, long, at, inside, next))
+    (subst (λ n. Replay log n (end_of log) new.last_rows) (sym next) last) keeps
 
 -- they made the first changes of it
 pub catching : (log : Log) (floor i : ℕ) (r : RevisionData) (kept new : Kept) → new.from ≡ kept.from → new.revisions ≡ kept.revisions → new.floor_rows ≡ kept.floor_rows →
@@ -73,20 +78,26 @@ catching log floor i r kept new from revisions floor_rows at inside is same begu
     let long = kept-length log floor kept keeps in
     let last : Replay log kept.last_at (end_of log) new.last_rows =
     Replay-begun log kept.last_at (end_of log) r kept.last_rows new.last_rows (omega (arith, long, at, inside)) (next-kept log floor kept kept.last_at i r keeps at is) begun keeps.last_rows in
-    record {
-      numbered = keeps.numbered;
-      ends = keeps.ends;
-      begun = subst (λ n. log.first ≤ n) (sym from) keeps.begun;
-      within = subst (λ n. n ≤ floor) (sym from) keeps.within;
-      reached = keeps.reached;
-      revisions = ap (λ rs. rs.items) revisions ∙ keeps.revisions ∙ ap (λ n. between log n (end_of log)) (sym from);
-      floor_rows = rw (from, floor_rows) keeps.floor_rows;
-      followed = omega (arith, from, same, keeps.followed);
-      behind = omega (arith, same, keeps.behind);
-      last_rows = subst (λ n. Replay log n (end_of log) new.last_rows) (sym same) last;
-    }
+    last-follow log floor kept new from (ap (λ rs. rs.items) revisions) floor_rows (omega (arith, same)) (omega (arith, same, keeps.behind))
+    (subst (λ n. Replay log n (end_of log) new.last_rows) (sym same) last) keeps
 
 -- ---- the floor's rows follow
+
+-- and the rest stays
+floor-follow : (log : Log) (floor : ℕ) (kept new : Kept) → kept.from ≤ new.from → new.from ≤ floor → new.from ≤ kept.last_at → new.revisions.items ≡ between log new.from (end_of log) →
+    new.last_at ≡ kept.last_at → new.last_rows ≡ kept.last_rows → Replay log new.from floor new.floor_rows → Keeps log floor kept → Keeps log floor new
+floor-follow log floor kept new later within followed revisions last_at last_rows rows keeps = record {
+  numbered = keeps.numbered;
+  ends = keeps.ends;
+  begun = omega (arith, later, keeps.begun);
+  within = within;
+  reached = keeps.reached;
+  revisions = revisions;
+  floor_rows = rows;
+  followed = omega (arith, followed, last_at);
+  behind = omega (arith, last_at, keeps.behind);
+  last_rows = rw (last_at, last_rows) keeps.last_rows;
+}
 
 -- they made one more revision, which is kept no longer
 pub dropped : (log : Log) (floor : ℕ) (r : RevisionData) (kept new : Kept) → kept.from < floor → kept.last_at ≡ kept.from + length kept.revisions.items →
@@ -98,20 +109,10 @@ dropped log floor r kept new below whole first next last_at last_rows made keeps
     let parts = next-kept log floor kept kept.from 0 r keeps (omega arith) is in
     let rest : r ∷ new.revisions.items ≡ r ∷ between log (kept.from + 1) (end_of log) = sym first ∙ keeps.revisions ∙ parts (end_of log) (omega (arith, below, keeps.reached)) (omega arith) in
     let revisions : new.revisions.items ≡ between log (kept.from + 1) (end_of log) = cc in
-    let made_floor : Replay log (kept.from + 1) floor new.floor_rows =
+    let rows : Replay log (kept.from + 1) floor new.floor_rows =
     Replay-made log kept.from floor r kept.floor_rows new.floor_rows (omega (arith, below)) parts made keeps.floor_rows in
-    record {
-      numbered = keeps.numbered;
-      ends = keeps.ends;
-      begun = omega (arith, next, keeps.begun);
-      within = omega (arith, next, below);
-      reached = keeps.reached;
-      revisions = revisions ∙ ap (λ n. between log n (end_of log)) (sym next);
-      floor_rows = subst (λ n. Replay log n floor new.floor_rows) (sym next) made_floor;
-      followed = omega (arith, next, last_at, whole, ap length first);
-      behind = omega (arith, last_at, keeps.behind);
-      last_rows = rw (last_at, last_rows) keeps.last_rows;
-    }
+    floor-follow log floor kept new (omega (arith, next)) (omega (arith, next, below)) (omega (arith, next, whole, ap length first))
+    (revisions ∙ ap (λ n. between log n (end_of log)) (sym next)) last_at last_rows (subst (λ n. Replay log n floor new.floor_rows) (sym next) rows) keeps
 
 -- they made the first changes of it
 pub dropping : (log : Log) (floor : ℕ) (r : RevisionData) (kept new : Kept) → kept.from < floor → 0 < length kept.revisions.items → r ≡ get_or kept.revisions.items 0 r →
@@ -119,20 +120,10 @@ pub dropping : (log : Log) (floor : ℕ) (r : RevisionData) (kept new : Kept) �
     HaveBegun r kept.floor_rows new.floor_rows → Keeps log floor kept → Keeps log floor new
 dropping log floor r kept new below some is from revisions last_at last_rows begun keeps =
     let long = kept-length log floor kept keeps in
-    let begun_floor : Replay log kept.from floor new.floor_rows =
+    let rows : Replay log kept.from floor new.floor_rows =
     Replay-begun log kept.from floor r kept.floor_rows new.floor_rows (omega (arith, below)) (next-kept log floor kept kept.from 0 r keeps (omega arith) is) begun keeps.floor_rows in
-    record {
-      numbered = keeps.numbered;
-      ends = keeps.ends;
-      begun = omega (arith, from, keeps.begun);
-      within = omega (arith, from, below);
-      reached = keeps.reached;
-      revisions = ap (λ rs. rs.items) revisions ∙ keeps.revisions ∙ ap (λ n. between log n (end_of log)) (sym from);
-      floor_rows = subst (λ n. Replay log n floor new.floor_rows) (sym from) begun_floor;
-      followed = omega (arith, from, last_at, keeps.followed);
-      behind = omega (arith, last_at, keeps.behind);
-      last_rows = rw (last_at, last_rows) keeps.last_rows;
-    }
+    floor-follow log floor kept new (omega (arith, from)) (omega (arith, from, below)) (omega (arith, from, keeps.followed))
+    (ap (λ rs. rs.items) revisions ∙ keeps.revisions ∙ ap (λ n. between log n (end_of log)) (sym from)) last_at last_rows (subst (λ n. Replay log n floor new.floor_rows) (sym from) rows) keeps
 
 -- ---- what is read
 
@@ -151,66 +142,97 @@ between-kept log floor kept a b keeps above order within =
     ∙ ap (drop (a - kept.from)) (drop-take q (b - kept.from) log.revisions)
     ∙ ap (λ xs. drop (a - kept.from) (take (b - kept.from) xs)) (sym items)
 
--- the rows at a revision, made from the floor's rows
-pub state-kept : (log : Log) (floor : ℕ) (kept : Kept) (resource : Resource) (at : ℕ) (m : BTreeMap (List ℕ) RowData) (rows : List RowData) (keeps : Keeps log floor kept) →
-    floor ≤ at → at ≤ end_of log → Holds m (λ key. fold (row_next resource key) (keeps.floor_rows.stands resource key) (take (at - kept.from) kept.revisions.items)) →
-    rows ≡ values m → IsStateAt log resource at rows
-state-kept log floor kept resource at m rows keeps later within holds are =
-    let parts : between log kept.from at ≡ take (at - kept.from) kept.revisions.items =
-    between-kept log floor kept kept.from at keeps (omega arith) (omega (arith, keeps.within, later)) within ∙ ap (λ n. drop n (take (at - kept.from) kept.revisions.items)) {x = kept.from - kept.from} {y = 0} (omega arith) in
-    record {
-      rising = rw are (values_rise m _ holds);
-      exact = λ key. rw are (row_with-values m _ key holds ∙ ap (fold (row_next resource key) (keeps.floor_rows.stands resource key)) (sym parts) ∙ keeps.floor_rows.replays resource key at later within);
-    }
-
 -- the row of a key at the log's end
 pub row-kept : (log : Log) (floor : ℕ) (kept : Kept) (resource : Resource) (key : List ℕ) → kept.last_at ≡ kept.from + length kept.revisions.items → Keeps log floor kept →
-    get (slice_cmp nat_cmp) (rows_of kept.last_rows resource) key ≡ row_at log resource (end_of log) key
+    row_with (rows_of kept.last_rows resource) key ≡ row_at log resource (end_of log) key
 row-kept log floor kept resource key whole keeps =
     let long = kept-length log floor kept keeps in
     let none : between log kept.last_at (end_of log) ≡ [] =
     between-kept log floor kept kept.last_at (end_of log) keeps keeps.followed keeps.behind (omega arith)
     ∙ drop_of_length-le (take (end_of log - kept.from) kept.revisions.items) (omega (arith, long, whole, length-take (end_of log - kept.from) kept.revisions.items)) in
-    (keeps.last_rows.holds resource).reads key
-    ∙ ap (fold (row_next resource key) (keeps.last_rows.stands resource key)) (sym none)
+    ap (fold (row_next resource key) (row_with (rows_of kept.last_rows resource) key)) {x = []} (sym none)
     ∙ keeps.last_rows.replays resource key (end_of log) (omega arith) (omega arith)
 
--- the rows at the log's end
-pub state-last : (log : Log) (floor : ℕ) (kept : Kept) (resource : Resource) (at : ℕ) (rows : List RowData) → kept.last_at ≡ kept.from + length kept.revisions.items → at ≡ kept.last_at →
-    rows ≡ values (rows_of kept.last_rows resource) → Keeps log floor kept → IsStateAt log resource at rows
-state-last log floor kept resource at rows whole is are keeps =
+-- what the rows at the log's end are made of
+pub old-last : (log : Log) (floor : ℕ) (kept : Kept) (resource : Resource) (old : OldState) → kept.last_at ≡ kept.from + length kept.revisions.items →
+    old.resource ≡ resource → old.rows ≡ rows_of kept.last_rows resource → old.revisions.items ≡ [] → Keeps log floor kept → IsOldState log resource (end_of log) old
+old-last log floor kept resource old whole same rows none keeps = record {
+  resource_is = same;
+  rising = subst AreRising (sym rows) (keeps.last_rows.rising resource);
+  leaves = λ key.
+      ap (fold (row_next resource key) (row_with old.rows key)) none ∙ ap (λ xs. row_with xs key) rows
+      ∙ row-kept log floor kept resource key whole keeps;
+}
+
+-- and those that so many revisions leave of the floor's
+pub old-after : (log : Log) (floor : ℕ) (kept : Kept) (resource : Resource) (count : ℕ) (old : OldState) → count ≤ length kept.revisions.items →
+    old.resource ≡ resource → old.rows ≡ rows_of kept.floor_rows resource → old.revisions.items ≡ drop 0 (take count kept.revisions.items) → floor ≤ kept.from + count →
+    Keeps log floor kept → IsOldState log resource (kept.from + count) old
+old-after log floor kept resource count old inside same rows are later keeps =
     let long = kept-length log floor kept keeps in
-    let end : at ≡ end_of log = omega (arith, long, whole, is) in
-    let holds = keeps.last_rows.holds resource in
-    let m = rows_of kept.last_rows resource in
-    subst (IsStateAt log resource at) (sym are) (record {
-      rising = values_rise m (keeps.last_rows.stands resource) holds;
-      exact = λ key. row_with-values m (keeps.last_rows.stands resource) key holds ∙ sym (holds.reads key) ∙ row-kept log floor kept resource key whole keeps
-          ∙ ap (λ n. row_at log resource n key) (sym end);
-    })
+    let parts : between log kept.from (kept.from + count) ≡ old.revisions.items =
+    between-kept log floor kept kept.from (kept.from + count) keeps (omega arith) (omega arith) (omega (arith, long, inside))
+    ∙ ap (λ n. drop n (take (kept.from + count - kept.from) kept.revisions.items)) {x = kept.from - kept.from} {y = 0} (omega arith)
+    ∙ ap (λ n. drop 0 (take n kept.revisions.items)) {x = kept.from + count - kept.from} {y = count} (omega arith)
+    ∙ sym are in
+    record {
+      resource_is = same;
+      rising = subst AreRising (sym rows) (keeps.floor_rows.rising resource);
+      leaves = λ key.
+          ap (λ xs. fold (row_next resource key) (row_with xs key) old.revisions.items) rows
+          ∙ ap (fold (row_next resource key) (row_with (rows_of kept.floor_rows resource) key)) (sym parts)
+          ∙ keeps.floor_rows.replays resource key (kept.from + count) later (omega (arith, long, inside));
+    }
 
-take-none : {A : Type 0} (xs : List A) → take 0 xs ≡ []
-take-none [] = refl
-take-none (x ∷ xs) = refl
+-- what a history is made of
+pub old-history : (log : Log) (floor : ℕ) (kept : Kept) (resource : Resource) (from upto : ℕ) (old : OldHistory) → kept.from ≤ from → from ≤ kept.from + length kept.revisions.items →
+    old.floor ≡ from → old.upto ≡ upto → upto ≡ end_of log → IsOldState log resource from old.state → old.revisions.items ≡ between log from (end_of log) →
+    Keeps log floor kept → IsOldHistory log from resource old
+old-history log floor kept resource from upto old above reached floor_is upto_is end state revisions keeps =
+    let long = kept-length log floor kept keeps in
+    record {
+      begun = omega (arith, keeps.begun, above, floor_is);
+      kept = omega (arith, floor_is);
+      ordered = omega (arith, long, reached, floor_is, upto_is, end);
+      within = omega (arith, upto_is, end);
+      state = subst (λ n. IsOldState log resource n old.state) (sym floor_is) state;
+      revisions = revisions ∙ ap (λ n. between log n (end_of log)) (sym floor_is) ∙ ap (between log old.floor) (sym (upto_is ∙ end));
+    }
 
--- the floor's rows
-pub state-first : (log : Log) (floor : ℕ) (kept : Kept) (resource : Resource) (at : ℕ) (rows : List RowData) → at ≡ kept.from → floor ≤ at →
-    rows ≡ values (rows_of kept.floor_rows resource) → Keeps log floor kept → IsStateAt log resource at rows
-state-first log floor kept resource at rows is low are keeps =
-    let none : take (at - kept.from) kept.revisions.items ≡ [] = ap (λ n. take n kept.revisions.items) {x = at - kept.from} {y = 0} (omega (arith, is)) ∙ take-none kept.revisions.items in
-    state-kept log floor kept resource at (rows_of kept.floor_rows resource) rows keeps low (omega (arith, is, keeps.within, keeps.reached))
-    (Holds-same (rows_of kept.floor_rows resource) (keeps.floor_rows.stands resource) _ (λ key. ap (fold (row_next resource key) (keeps.floor_rows.stands resource key)) (sym none)) (keeps.floor_rows.holds resource)) are
+-- ---- what is made of that
+
+-- a state
+pub state-made : (log : Log) (resource : Resource) (at : ℕ) (old : OldState) (revisions : List RevisionData) (rows : List RowData) → revisions ≡ old.revisions.items →
+    AreStepped old.rows rows (λ key row. fold (row_next old.resource key) row revisions) → IsOldState log resource at old → IsStateAt log resource at rows
+state-made log resource at old revisions rows are stepped is = record {
+  rising = stepped.rising is.rising;
+  exact = λ key.
+      stepped.reads key ∙ ap (fold (row_next old.resource key) (row_with old.rows key)) are
+      ∙ ap (λ r. fold (row_next r key) (row_with old.rows key) old.revisions.items) is.resource_is ∙ is.leaves key;
+}
+
+-- a history
+pub history-made : (log : Log) (log_floor : ℕ) (resource : Resource) (old : OldHistory) (copies : List RevisionData) (rows : List RowData) (parts : List RevisionData) → copies ≡ old.revisions.items →
+    parts ≡ filter_map (part_of old.state.resource) copies → ((log : Log) (resource : Resource) (at : ℕ) → IsOldState log resource at old.state → IsStateAt log resource at rows) →
+    IsOldHistory log log_floor resource old → IsHistory log log_floor resource (record { floor = old.floor; rows = rows; revisions = parts; upto = old.upto })
+history-made log log_floor resource old copies rows parts are found states is = record {
+  begun = is.begun;
+  kept = is.kept;
+  ordered = is.ordered;
+  within = is.within;
+  state = states log resource old.floor is.state;
+  parts = found ∙ ap (filter_map (part_of old.state.resource)) (are ∙ is.revisions) ∙ ap (λ r. filter_map (part_of r) (between log old.floor old.upto)) is.state.resource_is;
+}
 
 -- ---- the log and its floor grow
 
 grown-replay : (log : Log) (r : RevisionData) (from least next : ℕ) (tables : Tables) → log.first ≤ from → from ≤ end_of log → least ≤ end_of log → least ≤ next →
     Replay log from least tables → Replay (grown log (r ∷ [])) from next tables
 grown-replay log r from least next tables begun within low later was = record {
-  stands = was.stands;
-  holds = was.holds;
+  rising = was.rising;
   replays = λ resource key at above below. elim (le-or-lt at (end_of log)) [
     | inl before ↦
-        ap (λ xs. fold (row_next resource key) (was.stands resource key) (drop (from - log.first) xs)) (upto-grown log (r ∷ []) at before)
+        ap (λ xs. fold (row_next resource key) (row_with (rows_of tables resource) key) (drop (from - log.first) xs)) (upto-grown log (r ∷ []) at before)
         ∙ was.replays resource key at (omega (arith, later, above)) before ∙ sym (row_at-grown log (r ∷ []) resource at key before)
     | inr after ↦
         let is : at ≡ end_of log + 1 = omega (arith, after, below, length-append log.revisions (r ∷ [])) in
@@ -218,8 +240,8 @@ grown-replay log r from least next tables begun within low later was = record {
         let before : upto log (end_of log) ≡ log.revisions = upto-end log (end_of log) (omega arith) in
         let parts : between (grown log (r ∷ [])) from at ≡ between log from (end_of log) ++ r ∷ [] =
         ap (drop (from - log.first)) whole ∙ drop-append-le (from - log.first) log.revisions (r ∷ []) (omega arith) ∙ ap (λ xs. drop (from - log.first) xs ++ r ∷ []) (sym before) in
-        ap (fold (row_next resource key) (was.stands resource key)) parts
-        ∙ fold-append (row_next resource key) (was.stands resource key) (between log from (end_of log)) (r ∷ [])
+        ap (fold (row_next resource key) (row_with (rows_of tables resource) key)) parts
+        ∙ fold-append (row_next resource key) (row_with (rows_of tables resource) key) (between log from (end_of log)) (r ∷ [])
         ∙ ap (λ row. row_next resource key row r) (was.replays resource key (end_of log) low (omega arith))
         ∙ sym (row_at-pushed log r resource key)
         ∙ ap (λ n. row_at (grown log (r ∷ [])) resource n key) (sym is)
@@ -267,8 +289,7 @@ keeps-raised log floor next kept higher within keeps = record {
   within = omega (arith, keeps.within, higher);
   reached = within;
   floor_rows = record {
-    stands = keeps.floor_rows.stands;
-    holds = keeps.floor_rows.holds;
+    rising = keeps.floor_rows.rising;
     replays = λ resource key at above below. keeps.floor_rows.replays resource key at (omega (arith, above, higher)) below;
   };
 }
@@ -295,10 +316,10 @@ opening-row base first resource at key = rw take-nil refl
 
 opening-replay : (base : List RowData) (first from least : ℕ) (tables : Tables) → HoldEach tables (row_in_base base) → Replay (opening base first) from least tables
 opening-replay base first from least tables holds = record {
-  stands = row_in_base base;
-  holds = holds;
+  rising = λ resource. (holds resource).rising;
   replays = λ resource key at above below.
-      ap (fold (row_next resource key) (row_in_base base resource key)) (opening-between base first from at) ∙ sym (opening-row base first resource at key);
+      ap (fold (row_next resource key) (row_with (rows_of tables resource) key)) (opening-between base first from at)
+      ∙ (holds resource).reads key ∙ sym (opening-row base first resource at key);
 }
 
 -- what is kept of it
@@ -317,29 +338,9 @@ keeps-begun base first kept fits from last_at items floor_rows last_rows = recor
   last_rows = opening-replay base first kept.last_at (end_of (opening base first)) kept.last_rows last_rows;
 }
 
-no_base : (resource : Resource) (key : List ℕ) → None ≡ row_in_base [] resource key
-no_base Pods key = refl
-no_base ConfigMaps key = refl
-no_base Deployments key = refl
-
--- without base rows nothing stands
-pub no-rows : (tables : Tables) → HoldEach tables (λ resource key. None) → HoldEach tables (row_in_base [])
-no-rows tables holds = λ resource. Holds-same (rows_of tables resource) (λ key. None) (row_in_base [] resource) (no_base resource) (holds resource)
-
 -- the same with more room
 pub keeps-roomy : (log : Log) (floor : ℕ) (kept new : Kept) → new ≡ record kept { revisions = new.revisions } → new.revisions.items ≡ kept.revisions.items → Keeps log floor kept → Keeps log floor new
 keeps-roomy log floor kept new rest items keeps =
-    let from : new.from ≡ kept.from = ap (λ k. k.from) rest in
     let last_at : new.last_at ≡ kept.last_at = ap (λ k. k.last_at) rest in
-    record {
-      numbered = keeps.numbered;
-      ends = keeps.ends;
-      begun = omega (arith, from, keeps.begun);
-      within = omega (arith, from, keeps.within);
-      reached = keeps.reached;
-      revisions = items ∙ keeps.revisions ∙ ap (λ n. between log n (end_of log)) (sym from);
-      floor_rows = subst (λ (k : Kept). Replay log k.from floor k.floor_rows) (sym rest) keeps.floor_rows;
-      followed = omega (arith, from, last_at, keeps.followed);
-      behind = omega (arith, last_at, keeps.behind);
-      last_rows = subst (λ (k : Kept). Replay log k.last_at (end_of log) k.last_rows) (sym rest) keeps.last_rows;
-    }
+    last-follow log floor kept new (ap (λ k. k.from) rest) items (ap (λ k. k.floor_rows) rest) (omega (arith, last_at)) (omega (arith, last_at, keeps.behind))
+    (subst (λ (k : Kept). Replay log k.last_at (end_of log) k.last_rows) (sym rest) keeps.last_rows) keeps

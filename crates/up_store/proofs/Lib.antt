@@ -7,6 +7,8 @@ pub mod PollLemmas
 pub mod Repeats
 pub mod ReplayLemmas
 pub mod ReplyLemmas
+pub mod StepLemmas
 pub mod StoreLemmas
+pub mod TableLemmas
 pub mod TransactLemmas
 pub mod WriteLemmas

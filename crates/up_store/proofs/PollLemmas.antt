@@ -18,15 +18,19 @@ alone : {A : Type 0} (o : Option A) → cons_option o [] ≡ option_to_list o
 alone None = refl
 alone (Some x) = refl
 
+-- one more of some revisions
+pub taken-more : {A : Type 0} (start i : ℕ) (items : List A) (r : A) → start ≤ i → i < length items → r ≡ get_or items i r → drop start (take i items) ++ r ∷ [] ≡ drop start (take (i + 1) items)
+taken-more start i items r order inside is =
+    let more : take (i + 1) items ≡ take i items ++ r ∷ [] = take_more items i r inside ∙ ap (λ x. take i items ++ x ∷ []) (sym is) in
+    let long : length (take i items) ≡ i = omega (arith, length-take i items) in
+    sym (ap (drop start) more ∙ drop-append-le start (take i items) (r ∷ []) (omega (arith, long)))
+
 -- one more revision adds its part, if it has one
 pub part-more : (resource : Resource) (start i : ℕ) (items : List RevisionData) (r : RevisionData) (part : Option RevisionData) → start ≤ i → i < length items → r ≡ get_or items i r →
     part ≡ part_of resource r → filter_map (part_of resource) (drop start (take i items)) ++ option_to_list part ≡ filter_map (part_of resource) (drop start (take (i + 1) items))
 part-more resource start i items r part order inside is found =
     let one : filter_map (part_of resource) (r ∷ []) ≡ option_to_list part = alone (part_of resource r) ∙ ap option_to_list (sym found) in
-    let more : take (i + 1) items ≡ take i items ++ r ∷ [] = take_more items i r inside ∙ ap (λ x. take i items ++ x ∷ []) (sym is) in
-    let long : length (take i items) ≡ i = omega (arith, length-take i items) in
-    sym (ap (λ xs. filter_map (part_of resource) (drop start xs)) more
-    ∙ ap (filter_map (part_of resource)) (drop-append-le start (take i items) (r ∷ []) (omega (arith, long)))
+    sym (ap (filter_map (part_of resource)) (sym (taken-more start i items r order inside is))
     ∙ filter_map-append (part_of resource) (drop start (take i items)) (r ∷ [])
     ∙ ap (λ xs. filter_map (part_of resource) (drop start (take i items)) ++ xs) one)
 
@@ -88,15 +92,6 @@ poll-ended log floor kept resource from max wanted upto revisions keeps above re
       parts = parts ∙ parts-kept log floor kept resource from (length kept.revisions.items) keeps above (omega (arith, above, reached)) (omega arith) ∙ ap (parts_between log resource from) (sym end);
       stops = inl (end ∙ long, omega (arith, count, some));
     }
-
--- the parts of all that is kept above a number
-pub parts-all : (log : Log) (floor : ℕ) (kept : Kept) (resource : Resource) (from i : ℕ) (parts : List RevisionData) → Keeps log floor kept → kept.from ≤ from →
-    from ≤ kept.from + length kept.revisions.items → i ≡ length kept.revisions.items →
-    parts ≡ filter_map (part_of resource) (drop (from - kept.from) (take i kept.revisions.items)) → parts ≡ parts_between log resource from (end_of log)
-parts-all log floor kept resource from i parts keeps above reached whole are =
-    let long = kept-length log floor kept keeps in
-    are ∙ parts-kept log floor kept resource from i keeps above (omega (arith, above, reached, whole)) (omega (arith, whole))
-    ∙ ap (parts_between log resource from) {x = kept.from + i} {y = end_of log} (omega (arith, long, whole))
 
 -- one more revision without a part adds nothing
 pub part-none : (resource : Resource) (start i : ℕ) (items : List RevisionData) (r : RevisionData) → start ≤ i → i < length items → r ≡ get_or items i r →

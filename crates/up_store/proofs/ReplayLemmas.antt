@@ -2,13 +2,13 @@
 use Rattle.std.proofs.Common.{◌≡◌, ℕ, zero, suc, ◌+◌, ◌-◌, ◌<◌, ◌≤◌, List, [], ◌∷◌, length, get_or, take, drop, fold, Option, refl, sym, ap, ◌∙◌, arith, ◌⊎◌, inl, inr, length-drop}
 use Rattle.std.proofs.Math.Seq.{take-nil}
 use Rattle.std.proofs.lemmas.Bool.{cases_Bool}
-use Rattle.kube_meta.specs.Rows.{RowData}
+use Rattle.kube_meta.specs.Rows.{RowData, row_with}
 use Rattle.kube_meta.specs.declared.resources.Resource.{Resource}
 use Rattle.rev_log.specs.Changes.{ChangeData, RevisionData}
 use Rattle.rev_log.specs.Logs.{Log, end_of, upto, between}
 use Rattle.rev_log.specs.States.{is_change_of, row_after, row_next}
 use Rattle.rev_log.proofs.GrowthLemmas.{upto-end}
-use Rattle.up_store.specs.Kept.{HaveMade, HaveBegun, Replay}
+use Rattle.up_store.specs.Kept.{rows_of, HaveMade, HaveBegun, Replay}
 use Rattle.up_store.specs.declared.tables.Tables.{Tables}
 
 -- ---- a revision that is made upon a beginning of itself
@@ -74,10 +74,10 @@ pub Replay-made : (log : Log) (from least : ℕ) (r : RevisionData) (old new : T
     ((at : ℕ) → from < at → at ≤ end_of log → between log from at ≡ r ∷ between log (from + 1) at) →
     HaveMade r old new → Replay log from least old → Replay log (from + 1) least new
 Replay-made log from least r old new below next made was = record {
-  stands = λ resource key. row_next resource key (was.stands resource key) r;
-  holds = λ resource. made resource (was.stands resource) (was.holds resource);
+  rising = λ resource. (made resource).rising (was.rising resource);
   replays = λ resource key at later within.
-      ap (fold (row_next resource key) (was.stands resource key)) (sym (next at (omega arith) within)) ∙ was.replays resource key at later within;
+      ap (λ row. fold (row_next resource key) row (between log (from + 1) at)) ((made resource).reads key)
+      ∙ ap (fold (row_next resource key) (row_with (rows_of old resource) key)) (sym (next at (omega arith) within)) ∙ was.replays resource key at later within;
 }
 
 -- tables that have made the first changes of the next revision, of each resource some
@@ -85,13 +85,14 @@ pub Replay-begun : (log : Log) (from least : ℕ) (r : RevisionData) (old new : 
     ((at : ℕ) → from < at → at ≤ end_of log → between log from at ≡ r ∷ between log (from + 1) at) →
     HaveBegun r old new → Replay log from least old → Replay log from least new
 Replay-begun log from least r old new below next begun was = record {
-  stands = λ resource key. fold (row_after resource key r.rev) (was.stands resource key) (take (begun resource).0 r.changes);
-  holds = λ resource. (begun resource).1 (was.stands resource) (was.holds resource);
+  rising = λ resource. (begun resource).1.rising (was.rising resource);
   replays = λ resource key at later within.
-      let row : Option RowData = fold (row_after resource key r.rev) (was.stands resource key) (take (begun resource).0 r.changes) in
+      let before : Option RowData = row_with (rows_of old resource) key in
+      let row : Option RowData = fold (row_after resource key r.rev) before (take (begun resource).0 r.changes) in
       let revisions : between log from at ≡ r ∷ between log (from + 1) at = next at (omega arith) within in
-      ap (fold (row_next resource key) row) revisions
-      ∙ ap (λ x. fold (row_next resource key) x (between log (from + 1) at)) (made_again resource key r (begun resource).0 (was.stands resource key))
-      ∙ ap (fold (row_next resource key) (was.stands resource key)) (sym revisions)
+      ap (λ x. fold (row_next resource key) x (between log from at)) ((begun resource).1.reads key)
+      ∙ ap (fold (row_next resource key) row) revisions
+      ∙ ap (λ x. fold (row_next resource key) x (between log (from + 1) at)) (made_again resource key r (begun resource).0 before)
+      ∙ ap (fold (row_next resource key) before) (sym revisions)
       ∙ was.replays resource key at later within;
 }

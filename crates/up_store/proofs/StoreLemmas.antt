@@ -1,16 +1,19 @@
 -- A store's log as it grows, and what a pass knows once the store met it.
-use Rattle.std.proofs.Common.{◌≡◌, ℕ, ◌+◌, ◌^◌, ◌<◌, ◌≤◌, List, [], ◌∷◌, ◌++◌, Bool, refl, sym, ap, ◌∙◌, subst, arith}
+use Rattle.std.proofs.Common.{◌≡◌, ℕ, ◌+◌, ◌^◌, ◌<◌, ◌≤◌, List, [], ◌∷◌, ◌++◌, Bool, Err, refl, sym, ap, ◌∙◌, subst, arith}
 use Rattle.kube_meta.specs.Rows.{RowData}
 use Rattle.rev_front.specs.Passes.{Pass, Whole, Covers, revision, empty_log, end_from}
 use Rattle.rev_front.proofs.Passing.{extends_self, extends_trans}
 use Rattle.rev_log.specs.Changes.{RevisionData}
 use Rattle.kube_meta.specs.declared.resources.Resource.{Resource}
-use Rattle.rev_log.specs.Logs.{Log, end_of}
-use Rattle.rev_log.specs.States.{row_in_base, IsStateAt}
-use Rattle.up_api.specs.Feeds.{IsHistory, parts_between}
-use Rattle.up_api.specs.Sections.{log_of, Learns, HasSeenAll, Knows}
+use Rattle.rev_log.specs.Logs.{Log}
+use Rattle.rev_log.specs.States.{row_in_base}
+use Rattle.up_api.specs.Sections.{log_of, Learns, HasSeenAll, Knows, Sections, StaysOrKnows}
+use Rattle.up_api.specs.declared.refusals.UpNo.{UpNo}
+use Rattle.up_api.specs.declared.refusals.UpNo.TheVariants as up_no
 use Rattle.up_store.specs.declared.kept.Kept.{Kept}
 use Rattle.up_store.specs.Kept.{HoldEach, Keeps}
+use Rattle.up_store.specs.Past.{IsOldHistory}
+use Rattle.up_store.specs.declared.past.OldHistory.{OldHistory}
 use Rattle.up_store.specs.Stores.{IsStore, HasMet, KnowsAll, log_in}
 use Rattle.up_store.proofs.KeptLemmas.{keeps-grown, keeps-raised, keeps-begun}
 
@@ -95,20 +98,22 @@ learns-join p m q one two = record { extends = extends_trans p m q one.extends t
 pub learns-nothing : (p : Pass RevisionData) → Learns p p
 learns-nothing p = record { extends = extends_self p; loads_stay = refl; last_stays = refl }
 
--- what a history gives, of the log as the pass knows it
-pub history-of : (base : List RowData) (w : Whole RevisionData) (p q : Pass RevisionData) (kept : Kept) (resource : Resource) (floor upto : ℕ) (rows : List RowData) (revisions : List RevisionData) →
-    HasMet w p q → Keeps (log_in base w) w.floor kept → floor ≡ w.floor → upto ≡ revision w → IsStateAt (log_in base w) resource floor rows →
-    revisions ≡ parts_between (log_in base w) resource floor (end_of (log_in base w)) →
-    IsHistory (log_of base q) q.floor resource (record { floor = floor; rows = rows; revisions = revisions; upto = upto })
-history-of base w p q kept resource floor upto rows revisions met keeps floor_is upto_is state parts =
-    let of_store : IsHistory (log_in base w) w.floor resource (record { floor = floor; rows = rows; revisions = revisions; upto = upto }) = record {
-      begun = omega (arith, floor_is, keeps.begun, keeps.within);
-      kept = omega (arith, floor_is);
-      ordered = omega (arith, floor_is, upto_is, keeps.reached);
-      within = omega (arith, upto_is);
-      state = state;
-      parts = parts ∙ ap (parts_between (log_in base w) resource floor) (sym upto_is);
-    } in
-    let known : IsHistory (log_in base w) q.floor resource (record { floor = floor; rows = rows; revisions = revisions; upto = upto }) =
-    subst (λ n. IsHistory (log_in base w) n resource (record { floor = floor; rows = rows; revisions = revisions; upto = upto })) (sym (ap (λ x. x.floor) met.is)) of_store in
-    subst (λ log. IsHistory log q.floor resource (record { floor = floor; rows = rows; revisions = revisions; upto = upto })) (sym (met-log base w p q met)) known
+-- what a history is made of, of the log as the pass knows it
+pub old-history-told : (base : List RowData) (w : Whole RevisionData) (p q : Pass RevisionData) (resource : Resource) (floor : ℕ) (old : OldHistory) → HasMet w p q → floor ≡ w.floor →
+    IsOldHistory (log_in base w) floor resource old → IsOldHistory (log_of base q) q.floor resource old
+old-history-told base w p q resource floor old met is history =
+    subst (λ (log : Log). IsOldHistory log q.floor resource old) (sym (met-log base w p q met))
+    (subst (λ n. IsOldHistory (log_in base w) n resource old) (is ∙ sym (ap (λ x. x.floor) met.is)) history)
+
+-- a refusal is one of whatever was asked for
+pub section-refused : (A B : Type 0) (fault : UpNo) (p q : Pass RevisionData) → Sections {A = A} (Err fault) p q → Sections {A = B} (Err fault) p q
+section-refused A B (up_no.Compacted asked floor) p q seen = seen
+section-refused A B (up_no.Future asked current) p q seen = seen
+section-refused A B (up_no.Cut opened now) p q seen = seen
+section-refused A B up_no.Memory p q seen = seen
+
+pub known-refused : (A B : Type 0) (fault : UpNo) (w : Whole RevisionData) (p q : Pass RevisionData) → StaysOrKnows {A = A} w (Err fault) p q → StaysOrKnows {A = B} w (Err fault) p q
+known-refused A B (up_no.Compacted asked floor) w p q known = known
+known-refused A B (up_no.Future asked current) w p q known = known
+known-refused A B (up_no.Cut opened now) w p q known = known
+known-refused A B up_no.Memory w p q known = known

@@ -1,46 +1,54 @@
 -- What a store keeps of its log: the rows of each resource at its compaction floor and at its end, and the revisions after the floor.
-use Rattle.std.specs.Prelude.{◌≡◌, ℕ, ◌+◌, ◌^◌, ◌≤◌, List, length, fold, Option}
-use Rattle.std.specs.BTreeMap.{BTreeMap}
+use Rattle.std.specs.Prelude.{◌≡◌, ℕ, ◌+◌, ◌^◌, ◌≤◌, List, length, take, fold, Option}
 use Rattle.std.specs.VecDeque.{deque_len, deque_capacity}
-use Rattle.kube_meta.specs.Rows.{RowData}
+use Rattle.kube_meta.specs.Rows.{RowData, AreRising, row_with}
 use Rattle.kube_meta.specs.declared.resources.Resource.{Resource}
 use Rattle.kube_meta.specs.declared.resources.Resource.TheVariants.{Pods, ConfigMaps, Deployments}
 use Rattle.rev_log.specs.Changes.{RevisionData}
 use Rattle.rev_log.specs.Logs.{Log, end_of, between, AreNumbered}
-use Rattle.rev_log.specs.Rows.{Holds, Follows, HasBegun}
-use Rattle.rev_log.specs.States.{row_next, row_at}
+use Rattle.rev_log.specs.States.{row_after, row_next, row_at}
 use Rattle.up_store.specs.declared.kept.Kept.{Kept}
 use Rattle.up_store.specs.declared.tables.Tables.{Tables}
 
 -- the rows of one resource
-abbrev pub rows_of : Tables → Resource → BTreeMap (List ℕ) RowData
+abbrev pub rows_of : Tables → Resource → List RowData
 rows_of tables Pods = tables.pods
 rows_of tables ConfigMaps = tables.config_maps
 rows_of tables Deployments = tables.deployments
 
--- the row that stands at each key of each resource
-abbrev pub Standing : Type 0
-Standing = Resource → List ℕ → Option RowData
+-- the rows that stand at the keys, in the order of these
+pub record AreStanding (rows : List RowData) (stands : List ℕ → Option RowData) : Type 0 where
+  pub rising : AreRising rows
+  pub reads : (key : List ℕ) → row_with rows key ≡ stands key
 
 -- each resource's rows are these
-abbrev pub HoldEach : Tables → Standing → Type 0
-HoldEach tables stands = (resource : Resource) → Holds (rows_of tables resource) (stands resource)
+abbrev pub HoldEach : Tables → (Resource → List ℕ → Option RowData) → Type 0
+HoldEach tables stands = (resource : Resource) → AreStanding (rows_of tables resource) (stands resource)
+
+-- rows in their order stay in it, and at each key stands what a step makes of the row that stood there
+pub record AreStepped (old new : List RowData) (step : List ℕ → Option RowData → Option RowData) : Type 0 where
+  pub rising : AreRising old → AreRising new
+  pub reads : (key : List ℕ) → row_with new key ≡ step key (row_with old key)
 
 -- each resource's rows have made this revision's changes
 abbrev pub HaveMade : RevisionData → Tables → Tables → Type 0
 HaveMade revision old new =
-    (resource : Resource) → Follows (rows_of old resource) (rows_of new resource) (λ key row. row_next resource key row revision)
+    (resource : Resource) → AreStepped (rows_of old resource) (rows_of new resource) (λ key row. row_next resource key row revision)
+
+-- the rows of one resource have made the first of a revision's changes
+abbrev pub ArePartlyMade : Resource → RevisionData → List RowData → List RowData → Type 0
+ArePartlyMade resource revision old new =
+    (n : ℕ) × AreStepped old new (λ key row. fold (row_after resource key revision.rev) row (take n revision.changes))
 
 -- each resource's rows have made the first of this revision's changes
 abbrev pub HaveBegun : RevisionData → Tables → Tables → Type 0
-HaveBegun revision old new = (resource : Resource) → HasBegun resource revision (rows_of old resource) (rows_of new resource)
+HaveBegun revision old new = (resource : Resource) → ArePartlyMade resource revision (rows_of old resource) (rows_of new resource)
 
 -- where the revisions above `from` are made again upon the tables, the log's rows stand at each revision from `least` on
 pub record Replay (log : Log) (from least : ℕ) (tables : Tables) : Type 0 where
-  pub stands : Standing
-  pub holds : HoldEach tables stands
+  pub rising : (resource : Resource) → AreRising (rows_of tables resource)
   pub replays : (resource : Resource) (key : List ℕ) (at : ℕ) → least ≤ at → at ≤ end_of log →
-      fold (row_next resource key) (stands resource key) (between log from at) ≡ row_at log resource at key
+      fold (row_next resource key) (row_with (rows_of tables resource) key) (between log from at) ≡ row_at log resource at key
 
 -- what is kept of a log with this floor
 pub record Keeps (log : Log) (floor : ℕ) (kept : Kept) : Type 0 where

@@ -5,3 +5,5 @@ pub mod Stores
 pub mod Transactions
 pub mod Transacting
 pub mod Writes
+pub mod Shared
+pub mod Past

@@ -9,6 +9,7 @@ ghost use Rattle.up_store.specs.Stores.{accepted, log_in, IsCutAnswer, IsCompact
 
 use crate::OpNo;
 use crate::kept::Kept;
+use crate::revisions::SharedRevision;
 use crate::store::LAST;
 use kube_meta::Memory;
 use rev_front::Pen;
@@ -84,7 +85,7 @@ pub fn commit<N: LogFacts>(
     pen: &mut Pen<Revision, N>,
     kept: &mut Kept,
     history: u64,
-    revision: Revision,
+    revision: SharedRevision,
 ) -> Result<(), Memory>
     requires last { reached pen.old < 2 ^ 62 }
     requires fits { Fits (reached pen.old + 1) revision }
@@ -104,7 +105,7 @@ pub fn commit<N: LogFacts>(
 pub fn commit_all<N: LogFacts>(
     pen: &mut Pen<Revision, N>,
     kept: &mut Kept,
-    revisions: Vec<Revision>,
+    revisions: Vec<SharedRevision>,
 ) -> u64
     requires last { reached pen.old + length revisions.items ≤ 2 ^ 62 }
     requires fits { FitFrom Fits (reached pen.old) revisions.items }
@@ -121,7 +122,7 @@ pub fn commit_all<N: LogFacts>(
 }
 
 // Adds revisions, for which there is room, to the log. The floor stays.
-fn put_all<N: LogFacts>(pen: &mut Pen<Revision, N>, kept: &mut Kept, revisions: Vec<Revision>)
+fn put_all<N: LogFacts>(pen: &mut Pen<Revision, N>, kept: &mut Kept, revisions: Vec<SharedRevision>)
     requires last { reached pen.old + length revisions.items ≤ 2 ^ 62 }
     requires fits { FitFrom Fits (reached pen.old) revisions.items }
     requires room { HasRoom (length revisions.items) kept.old }
@@ -134,7 +135,7 @@ fn put_all<N: LogFacts>(pen: &mut Pen<Revision, N>, kept: &mut Kept, revisions: 
 }
 
 // Adds a revision, for which there is room, to the log, and answers its number. The floor stays.
-fn put<N: LogFacts>(pen: &mut Pen<Revision, N>, kept: &mut Kept, revision: Revision) -> u64
+fn put<N: LogFacts>(pen: &mut Pen<Revision, N>, kept: &mut Kept, revision: SharedRevision) -> u64
     requires last { reached pen.old < 2 ^ 62 }
     requires fits { Fits (reached pen.old + 1) revision }
     requires room { HasRoom 1 kept.old }
@@ -143,7 +144,7 @@ fn put<N: LogFacts>(pen: &mut Pen<Revision, N>, kept: &mut Kept, revision: Revis
     ensures room { (count : ℕ) → HasRoom (count + 1) kept.old → HasRoom count kept.new }
     ensures keeps { (base : List RowData) → Keeps (log_in base pen.old) pen.old.floor kept.old → Keeps (log_in base pen.new) pen.new.floor kept.new }
 {
-    let end = pen.commit(&revision);
+    let end = pen.commit(revision.get());
     kept.push(revision);
     end
 }

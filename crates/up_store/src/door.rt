@@ -1,11 +1,12 @@
 //! Doors to one store, for many threads.
 
-ghost use Rattle.std.specs.Prelude.{◌≡◌, ◌+◌, ◌≤◌, ◌^◌, length, All, IfOk, true};
+ghost use Rattle.std.specs.Prelude.{◌≡◌, ◌+◌, ◌≤◌, ◌^◌, length, All, IfErr, IfOk, true};
 ghost use Rattle.kube_meta.specs.declared.resources.Resource.TheVariants.{Pods};
 ghost use Rattle.rev_front.specs.Passes.{FitFrom, Whole, pass_from};
 ghost use Rattle.rev_log.specs.Changes.{RevisionData};
 ghost use Rattle.rev_log.specs.Logs.{Fits};
-ghost use Rattle.up_api.specs.Sections.{Learns, HasSeenAll};
+ghost use Rattle.rev_log.specs.States.{IsStateAt};
+ghost use Rattle.up_api.specs.Sections.{log_of, Learns, HasSeenAll, RefusesAt, Sections};
 ghost use Rattle.up_store.specs.Hearing.{IsHearReply, IsHearAllReply};
 ghost use Rattle.up_store.specs.Replies.{IsWriteReply, IsTransactionReply, IsCutReply, IsCompactionReply};
 ghost use Rattle.up_store.specs.Transacting.{answers_in};
@@ -14,6 +15,7 @@ use crate::transacting::share_all;
 use crate::writing::share;
 use crate::{HearNo, OpNo, Store, Transaction, TxWriteNo, WriteAsk, WriteNo, Written};
 use kube_meta::{Memory, Resource, Row};
+use obj_tree::Snapshot;
 use rev_log::Revision;
 use std::alloc::Global;
 use std::sync::{Arc, Mutex, Wait};
@@ -21,6 +23,7 @@ use up_api::{Feed, History, LogFacts, Pass, Polled, UpNo, Upstream};
 
 /// A door to one store, which stands behind a lock. Each call is one section under the lock. Another thread may have
 /// changed the store between two of them, so contracts tell a call by what its pass knew before and knows afterwards.
+/// Rows and histories are made once the lock is let go: under it what they are made of is shared.
 #[derive(Drop)]
 pub struct StoreDoor<N: LogFacts, R: Wait + Copy> {
     rt: R,
@@ -139,6 +142,24 @@ impl<N: LogFacts, R: Wait + Copy> StoreDoor<N, R> {
         self.store.lock(&self.rt).pass()
     }
 
+    /// The objects of the resource at the revision `at`, in pages of which those that no revision changed are the
+    /// store's. They are made once the lock is let go.
+    pub fn state_at(
+        &self,
+        resource: Resource,
+        at: u64,
+        told: &mut Pass<N>,
+    ) -> Result<Snapshot, UpNo>
+        ensures learns { Learns told.old told.new }
+        ensures section { Sections result told.old told.new }
+        ensures state { IfOk result (λ state. IsStateAt (log_of N.base told.new) resource at state) }
+        ensures served { IfOk result (λ state. (told.new.floor ≤ at) × (at ≤ told.new.shown)) }
+        ensures refused { IfErr result (RefusesAt told.new at) }
+    {
+        let old = self.store.lock(&self.rt).old_state(resource, at, told)?;
+        Ok(old.made()?)
+    }
+
     /// How many times states and histories were read, refused calls included, up to 2 ^ 62.
     pub fn reads(&self) -> u64
         ensures { result ≤ 2 ^ 62 }
@@ -162,7 +183,8 @@ impl<N: LogFacts, R: Wait + Copy> Upstream<N> for StoreDoor<N, R> {
         at: u64,
         told: &mut Pass<N>,
     ) -> Result<Vec<Row>, UpNo> {
-        self.store.lock(&self.rt).list_at(resource, at, told)
+        let old = self.store.lock(&self.rt).old_state(resource, at, told)?;
+        Ok(old.rows(self.alloc)?)
     }
 
     fn begin(&mut self, resource: Resource, at: u64, told: &mut Pass<N>) -> Result<Feed, UpNo> {
@@ -174,6 +196,7 @@ impl<N: LogFacts, R: Wait + Copy> Upstream<N> for StoreDoor<N, R> {
     }
 
     fn history(&mut self, resource: Resource, told: &mut Pass<N>) -> Result<History, Memory> {
-        self.store.lock(&self.rt).history(resource, told)
+        let old = self.store.lock(&self.rt).old_history(resource, told)?;
+        Ok(old.made(self.alloc)?)
     }
 }

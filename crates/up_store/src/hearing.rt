@@ -13,8 +13,8 @@ ghost use Rattle.up_store.specs.Stores.{KnowsAll, log_in};
 use crate::Store;
 use crate::committing::{commit, commit_all};
 use crate::kept::Kept;
+use crate::revisions::{SharedRevision, shared};
 use crate::store::meet;
-use crate::tables::Tables;
 use kube_meta::{Memory, Row};
 use rev_front::{Blank, Pen};
 use rev_log::Revision;
@@ -57,9 +57,7 @@ impl<N: LogFacts> Store<N> {
         requires history { 1 ≤ history }
         ensures { IfOk result (λ store. store ≡ record { whole = empty_log N.log.first; history = history; reads = 0 }) }
     {
-        let floor_rows = Tables::of_pods(alloc, &rows)?;
-        let last_rows = Tables::of_pods(alloc, &rows)?;
-        Ok(Store::open(alloc, blank, floor_rows, last_rows, true, history))
+        Store::open(alloc, blank, rows, true, history)
     }
 
     /// Adds the next revision of the peer's log, and answers its number.
@@ -76,7 +74,13 @@ impl<N: LogFacts> Store<N> {
         ensures rest { self.new ≡ record self.old { whole = self.new.whole } }
     {
         meet(&mut self.pen, told);
-        let answer = append(&mut self.pen, &mut self.kept, self.history, revision);
+        let answer = append(
+            self.alloc,
+            &mut self.pen,
+            &mut self.kept,
+            self.history,
+            revision,
+        );
         meet(&mut self.pen, told);
         answer
     }
@@ -125,7 +129,7 @@ impl<N: LogFacts> Store<N> {
         ensures rest { self.new ≡ record self.old { whole = self.new.whole } }
     {
         meet(&mut self.pen, told);
-        let answer = append_all(&mut self.pen, &mut self.kept, from, revisions);
+        let answer = append_all(self.alloc, &mut self.pen, &mut self.kept, from, revisions);
         meet(&mut self.pen, told);
         answer
     }
@@ -133,6 +137,7 @@ impl<N: LogFacts> Store<N> {
 
 // Adds the next revision to the log, if there is memory to keep it.
 fn append<N: LogFacts>(
+    alloc: Global,
     pen: &mut Pen<Revision, N>,
     kept: &mut Kept,
     history: u64,
@@ -146,14 +151,16 @@ fn append<N: LogFacts>(
     ensures keeps { (base : List RowData) → Keeps (log_in base pen.old) pen.old.floor kept.old → Keeps (log_in base pen.new) pen.new.floor kept.new }
     ensures generation { pen.new.gen ≡ pen.old.gen }
 {
-    kept.reserve(1)?;
     let rev = revision.rev;
-    let _ = commit(pen, kept, history, revision);
+    let entry = SharedRevision::new(alloc, revision)?;
+    kept.reserve(1)?;
+    let _ = commit(pen, kept, history, entry);
     Ok(rev)
 }
 
 // Adds the revisions that follow the log's end, if there is memory to keep them all, and raises the floor to the last.
 fn append_all<N: LogFacts>(
+    alloc: Global,
     pen: &mut Pen<Revision, N>,
     kept: &mut Kept,
     from: u64,
@@ -170,6 +177,7 @@ fn append_all<N: LogFacts>(
     if from != at {
         return Err(HearNo::Passed { at });
     }
-    kept.reserve(revisions.len())?;
-    Ok(commit_all(pen, kept, revisions))
+    let entries = shared(alloc, revisions)?;
+    kept.reserve(entries.len())?;
+    Ok(commit_all(pen, kept, entries))
 }

@@ -1,15 +1,19 @@
 //! What a store keeps of its log.
 
-ghost use Rattle.std.specs.Prelude.{◌≡◌, ℕ, ◌+◌, ◌^◌, ◌≤◌, ◌<◌, [], ◌∷◌, ◌++◌, IfOk, OnOk, OnErr, length, option_copied};
-ghost use Rattle.rev_log.specs.Logs.{Log, end_of};
-ghost use Rattle.rev_log.specs.States.{IsStateAt, row_at};
-ghost use Rattle.up_api.specs.Feeds.{IsPoll, parts_between};
+ghost use Rattle.std.specs.Prelude.{◌≡◌, ℕ, ◌+◌, ◌^◌, ◌≤◌, ◌<◌, [], ◌∷◌, ◌++◌, IfOk, OnOk, OnErr, drop, length, option_copied, take};
+ghost use Rattle.kube_meta.specs.Rows.{row_with};
+ghost use Rattle.rev_log.specs.Logs.{Log, between, end_of};
+ghost use Rattle.rev_log.specs.States.{row_at};
+ghost use Rattle.up_api.specs.Feeds.{IsPoll};
 ghost use Rattle.up_store.specs.Kept.{Keeps, AreBounded, HasRoom};
+ghost use Rattle.up_store.specs.Past.{IsOldState, IsOldHistory};
 
 use crate::parts::part;
-use crate::tables::{Tables, copy, listed};
+use crate::past::{OldHistory, OldState};
+use crate::revisions::SharedRevision;
+use crate::tables::Tables;
 use kube_meta::{Key, Memory, Resource, Row};
-use rev_log::{Revision, make_changes, rows_in_order};
+use obj_tree::Tree;
 use std::alloc::Global;
 use std::collections::VecDeque;
 use up_api::Polled;
@@ -21,7 +25,7 @@ pub struct Kept {
     /// The revision up to which `floor_rows` have followed the log.
     pub from: u64,
     /// The revisions after `from`.
-    pub revisions: VecDeque<Revision>,
+    pub revisions: VecDeque<SharedRevision>,
     pub floor_rows: Tables,
     pub last_rows: Tables,
     /// The revision up to which `last_rows` have followed the log.
@@ -91,7 +95,7 @@ impl Kept {
     }
 
     /// Adds the revision that the log got, for which there is room.
-    pub fn push(&mut self, revision: Revision)
+    pub fn push(&mut self, revision: SharedRevision)
         requires { HasRoom 1 self.old }
         ensures same { self.new ≡ record self.old { revisions = self.new.revisions } }
         ensures items { self.new.revisions.items ≡ self.old.revisions.items ++ revision ∷ [] }
@@ -105,41 +109,102 @@ impl Kept {
         requires { self.now.last_at ≡ self.now.from + length self.now.revisions.items }
         ensures { (log : Log) (floor : ℕ) → Keeps log floor self.now → option_copied result ≡ row_at log resource (end_of log) key.now }
     {
-        self.last_rows.of(resource).get(key)
+        row_in(self.last_rows.of(resource), key)
     }
 
-    /// The rows of the resource at a revision from the floor to the log's end, in the order of their keys. At either
-    /// of them they are read off the table that stands there.
-    pub fn rows_at(&self, alloc: Global, resource: Resource, at: u64) -> Result<Vec<Row>, Memory>
+    /// What the state of the resource at a revision from the floor to the log's end is made of. It costs a count, and
+    /// between the two also one for each revision that is to be made.
+    pub fn old_state(&self, alloc: Global, resource: Resource, at: u64) -> Result<OldState, Memory>
         requires from { self.now.from ≤ at }
         requires reached { at ≤ self.now.from + length self.now.revisions.items }
-        ensures { IfOk result (λ rows. (log : Log) (floor : ℕ) → Keeps log floor self.now → floor ≤ at → IsStateAt log resource at rows.items) }
+        ensures { IfOk result (λ old. (log : Log) (floor : ℕ) → Keeps log floor self.now → floor ≤ at → IsOldState log resource at old) }
     {
         let count = (at - self.from) as usize;
-        if count == 0 {
-            return listed(alloc, self.floor_rows.of(resource));
-        }
         if count == self.revisions.len() && self.last_at == at {
-            return listed(alloc, self.last_rows.of(resource));
+            return self.last_state(alloc, resource);
         }
-        self.rows_after(alloc, resource, count)
+        self.state_after(alloc, resource, count)
     }
 
-    // The rows that this many revisions leave of the floor's.
-    fn rows_after(
+    // What the state at the log's end is made of, once the last rows have followed it.
+    fn last_state(&self, alloc: Global, resource: Resource) -> Result<OldState, Memory>
+        requires { self.now.last_at ≡ self.now.from + length self.now.revisions.items }
+        ensures { IfOk result (λ old. (log : Log) (floor : ℕ) → Keeps log floor self.now → IsOldState log resource (end_of log) old) }
+    {
+        let rows = self.last_rows.of(resource).copy()?;
+        let revisions = Vec::new(alloc);
+        Ok(OldState {
+            resource,
+            rows,
+            revisions,
+        })
+    }
+
+    // What the state after this many revisions upon the floor's rows is made of.
+    fn state_after(
         &self,
         alloc: Global,
         resource: Resource,
         count: usize,
-    ) -> Result<Vec<Row>, Memory>
+    ) -> Result<OldState, Memory>
         requires { count ≤ length self.now.revisions.items }
-        ensures { IfOk result (λ rows. (log : Log) (floor : ℕ) → Keeps log floor self.now → floor ≤ self.now.from + count → IsStateAt log resource (self.now.from + count) rows.items) }
+        ensures { IfOk result (λ old. (log : Log) (floor : ℕ) → Keeps log floor self.now → floor ≤ self.now.from + count → IsOldState log resource (self.now.from + count) old) }
     {
-        let mut rows = copy(self.floor_rows.of(resource))?;
-        for i in 0..count {
-            make_changes(&mut rows, &self.revisions[i], resource)?;
+        let rows = self.floor_rows.of(resource).copy()?;
+        let revisions = self.copied(alloc, 0, count)?;
+        Ok(OldState {
+            resource,
+            rows,
+            revisions,
+        })
+    }
+
+    /// What the history of the resource from a revision on is made of, up to the log's end, which is `upto`. It costs
+    /// what that revision's state does, and a count for each revision after it.
+    pub fn old_history(
+        &self,
+        alloc: Global,
+        resource: Resource,
+        from: u64,
+        upto: u64,
+    ) -> Result<OldHistory, Memory>
+        requires above { self.now.from ≤ from }
+        requires reached { from ≤ self.now.from + length self.now.revisions.items }
+        ensures history { IfOk result (λ old. (log : Log) (floor : ℕ) → Keeps log floor self.now → floor ≤ from → upto ≡ end_of log → IsOldHistory log from resource old) }
+        ensures floor { IfOk result (λ old. old.floor ≡ from) }
+        ensures upto { IfOk result (λ old. old.upto ≡ upto) }
+    {
+        let state = self.old_state(alloc, resource, from)?;
+        let revisions = self.after(alloc, from)?;
+        Ok(OldHistory {
+            floor: from,
+            upto,
+            state,
+            revisions,
+        })
+    }
+
+    // The revisions above `from`, which are shared.
+    fn after(&self, alloc: Global, from: u64) -> Result<Vec<SharedRevision>, Memory>
+        requires above { self.now.from ≤ from }
+        requires reached { from ≤ self.now.from + length self.now.revisions.items }
+        ensures { IfOk result (λ list. (log : Log) (floor : ℕ) → Keeps log floor self.now → list.items ≡ between log from (end_of log)) }
+    {
+        let start = (from - self.from) as usize;
+        self.copied(alloc, start, self.revisions.len())
+    }
+
+    // The revisions from one place up to another, which are shared.
+    fn copied(&self, alloc: Global, start: usize, end: usize) -> Result<Vec<SharedRevision>, Memory>
+        requires order { start ≤ end }
+        requires inside { end ≤ length self.now.revisions.items }
+        ensures { IfOk result (λ list. list.items ≡ drop start (take end self.now.revisions.items)) }
+    {
+        let mut list = Vec::with_capacity(alloc, end - start)?;
+        for i in start..end {
+            list.push(self.revisions[i].again()?)?;
         }
-        rows_in_order(alloc, rows)
+        Ok(list)
     }
 
     /// What a poll behind the revision `from` gives.
@@ -160,7 +225,7 @@ impl Kept {
         let mut wanted = max;
         let start = (from - self.from) as usize;
         for i in start..self.revisions.len() {
-            let Some(found) = part(alloc, resource, &self.revisions[i])? else {
+            let Some(found) = part(alloc, resource, self.revisions[i].get())? else {
                 continue;
             };
             let upto = found.rev;
@@ -182,25 +247,14 @@ impl Kept {
             revisions,
         })
     }
+}
 
-    /// The parts of the revisions above `from` that are of the resource.
-    pub fn parts(
-        &self,
-        alloc: Global,
-        resource: Resource,
-        from: u64,
-    ) -> Result<Vec<Revision>, Memory>
-        requires above { self.now.from ≤ from }
-        requires reached { from ≤ self.now.from + length self.now.revisions.items }
-        ensures { IfOk result (λ parts. (log : Log) (floor : ℕ) → Keeps log floor self.now → parts.items ≡ parts_between log resource from (end_of log)) }
-    {
-        let mut parts = Vec::new(alloc);
-        let start = (from - self.from) as usize;
-        for i in start..self.revisions.len() {
-            if let Some(found) = part(alloc, resource, &self.revisions[i])? {
-                parts.push(found)?;
-            }
-        }
-        Ok(parts)
+// The row of a key.
+fn row_in<'a>(rows: &'a Tree, key: &Key) -> Option<&'a Row>
+    ensures { option_copied result ≡ row_with rows.now key.now }
+{
+    match rows.get(key) {
+        Some(shown) => Some(shown.row()),
+        None => None,
     }
 }

@@ -2,6 +2,7 @@
 //! writes at one revision, and operations on the log. And the store itself.
 #![tactic(auto)]
 
+mod changes;
 mod committing;
 mod crossing;
 mod door;
@@ -9,7 +10,9 @@ mod hearing;
 mod kept;
 mod operations;
 mod parts;
+mod past;
 mod reading;
+mod revisions;
 mod scripted;
 mod store;
 mod tables;
@@ -21,6 +24,7 @@ mod writing;
 pub use door::StoreDoor;
 pub use hearing::HearNo;
 pub use operations::{OpNo, Operate};
+pub use past::{OldHistory, OldState};
 pub use scripted::ScriptedStore;
 pub use store::Store;
 pub use transacting::share_all;

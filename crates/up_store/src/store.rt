@@ -1,11 +1,10 @@
 //! The store.
 
 ghost use Rattle.std.specs.Prelude.{◌≡◌, ◌≤◌, ◌^◌, [], false, IfOk};
+ghost use Rattle.kube_meta.specs.Rows.{AreRising};
 ghost use Rattle.rev_front.specs.Passes.{Covers, IsWhole, empty_log, pass_from, revision};
 ghost use Rattle.rev_log.specs.Logs.{Fits};
-ghost use Rattle.rev_log.specs.States.{row_in_base};
 ghost use Rattle.up_api.specs.Sections.{Learns};
-ghost use Rattle.up_store.specs.Kept.{HoldEach};
 ghost use Rattle.up_store.specs.Replies.{IsCutReply, IsCompactionReply};
 ghost use Rattle.up_store.specs.Stores.{HasMet, KnowsAll, IsCutAnswer, IsCompactionAnswer};
 
@@ -13,7 +12,7 @@ use crate::OpNo;
 use crate::committing::{compact, cut};
 use crate::kept::Kept;
 use crate::tables::Tables;
-use kube_meta::Memory;
+use kube_meta::{Memory, Row};
 use rev_front::{Blank, Pen, start};
 use rev_log::Revision;
 use std::alloc::Global;
@@ -58,32 +57,26 @@ impl<N: LogFacts> Store<N> {
         requires history { 1 ≤ history }
         ensures { IfOk result (λ store. store ≡ record { whole = empty_log N.log.first; history = history; reads = 0 }) }
     {
-        Ok(Store::open(
-            alloc,
-            blank,
-            Tables::new(alloc),
-            Tables::new(alloc),
-            false,
-            history,
-        ))
+        Store::open(alloc, blank, Vec::new(alloc), false, history)
     }
 
-    // The store of a log whose base rows stand in both tables.
+    // The store of a new log that begins with these pods.
     pub(crate) fn open(
         alloc: Global,
         blank: Blank<Revision>,
-        floor_rows: Tables,
-        last_rows: Tables,
+        pods: Vec<Row>,
         mirror: bool,
         history: u64,
-    ) -> Store<N>
+    ) -> Result<Store<N>, Memory>
         requires name { blank ≡ N.log }
-        requires floor { HoldEach floor_rows (row_in_base N.base) }
-        requires last { HoldEach last_rows (row_in_base N.base) }
+        requires base { N.base ≡ pods.items }
+        requires rising { AreRising pods.items }
         requires mirror { mirror ≡ N.mirror }
         requires history { 1 ≤ history }
-        ensures { result ≡ record { whole = empty_log N.log.first; history = history; reads = 0 } }
+        ensures { IfOk result (λ store. store ≡ record { whole = empty_log N.log.first; history = history; reads = 0 }) }
     {
+        let floor_rows = Tables::of_pods(alloc, pods)?;
+        let last_rows = floor_rows.copy()?;
         let pen: Pen<Revision, N> = start(blank);
         let first = pen.revision();
         let kept = Kept {
@@ -93,14 +86,14 @@ impl<N: LogFacts> Store<N> {
             last_rows,
             last_at: first,
         };
-        Store {
+        Ok(Store {
             alloc,
             pen,
             kept,
             mirror,
             history,
             reads: 0,
-        }
+        })
     }
 
     /// A pass that knows the whole log.

@@ -14,6 +14,7 @@ ghost use Rattle.up_store.specs.Writes.{change_of, new_object, IsWritten};
 
 use crate::committing::commit;
 use crate::kept::Kept;
+use crate::revisions::SharedRevision;
 use crate::store::{LAST, meet};
 use crate::transactions::{key_of, resource_of};
 use crate::writing::{change, fault, object, share};
@@ -126,7 +127,7 @@ pub fn prepare_all(
     asks: &[WriteAsk],
     shared: &[Option<Arc<Obj>>],
     at: u64,
-) -> Result<(Vec<Written>, Revision), TxWriteNo>
+) -> Result<(Vec<Written>, SharedRevision), TxWriteNo>
     requires transaction { AreTransaction asks.now }
     requires objects { map object_in shared.now ≡ map new_object asks.now }
     requires bounded { AreBounded kept.old }
@@ -145,8 +146,9 @@ pub fn prepare_all(
     }
     let answers = answers(alloc, kept, asks, shared, at)?;
     let revision = Revision::sorted(at + 1, changes(alloc, asks, shared, at + 1)?);
+    let entry = SharedRevision::new(alloc, revision)?;
     kept.reserve(1)?;
-    Ok((answers, revision))
+    Ok((answers, entry))
 }
 
 // The first write that would be refused by itself. It takes no memory.

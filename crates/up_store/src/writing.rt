@@ -12,6 +12,7 @@ ghost use Rattle.up_store.specs.Writes.{fault_at, stale_at, change_of, new_objec
 
 use crate::committing::commit;
 use crate::kept::Kept;
+use crate::revisions::SharedRevision;
 use crate::store::{LAST, meet};
 use crate::transactions::{key_of, resource_of};
 use crate::{Store, WriteAsk, WriteNo, Written};
@@ -117,7 +118,7 @@ pub fn prepare(
     ask: &WriteAsk,
     shared: Option<Arc<Obj>>,
     at: u64,
-) -> Result<(Written, Revision), WriteNo>
+) -> Result<(Written, SharedRevision), WriteNo>
     requires object { option_map (λ obj. obj.value) shared ≡ new_object ask.now }
     requires bounded { AreBounded kept.old }
     ensures keeps { (log : Log) (floor : ℕ) → Keeps log floor kept.old → Keeps log floor kept.new }
@@ -134,12 +135,13 @@ pub fn prepare(
     }
     let rev = at + 1;
     let revision = Revision::single(alloc, change(ask, rev, shared)?)?;
+    let entry = SharedRevision::new(alloc, revision)?;
     kept.reserve(1)?;
     let written = Written {
         rev,
         row: Row { obj, rev },
     };
-    Ok((written, revision))
+    Ok((written, entry))
 }
 
 /// The object that an accepted write answers which finds this row: the new one, or the removed one.

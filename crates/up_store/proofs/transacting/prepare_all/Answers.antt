@@ -1,6 +1,7 @@
 -- The refusals are the first that hold, and what isn't refused is one revision.
 use Rattle.std.proofs.Common.{◌≡◌, ◌+◌, ◌∙◌, inr, All, sym, subst, arith}
-use Rattle.rev_log.specs.Changes.{AreOfDistinctObjects}
+use Rattle.rev_log.specs.Changes.{AreOfDistinctObjects, RevisionData}
+use Rattle.up_store.specs.Transacting.{IsRevisionOf}
 use Rattle.up_store.proofs.TransactLemmas.{tx-faulty, tx-last, tx-unrefused, tx-prepared, changes-distinct, changes-numbered}
 use Rattle.up_store.proofs.transacting.prepare_all.Goals as goal
 
@@ -24,5 +25,6 @@ returns-clause-prepared c = λ log floor keeps end.
     record {
       unrefused = tx-unrefused log c.args.at c.args.asks.now (sym c.in_default.is ∙ c.refused_item.ensures log floor after end) end c.if-at-ge-LAST.false;
       written_are = c.in_ok-answers.ensures log floor after end;
-      revision_is = tx-prepared log c.args.at c.args.asks.now c.in_ok-changes.field-0.items c.sorted-revision.result c.in_ok-changes.ensures c.sorted-revision.ensures.rev c.sorted-revision.ensures.changes c.sorted-revision.ensures.form end;
+      revision_is = subst (λ (r : RevisionData). IsRevisionOf log c.args.asks.now r) (sym c.in_ok-entry.ensures)
+          (tx-prepared log c.args.at c.args.asks.now c.in_ok-changes.field-0.items c.sorted-revision.result c.in_ok-changes.ensures c.sorted-revision.ensures.rev c.sorted-revision.ensures.changes c.sorted-revision.ensures.form end);
     }

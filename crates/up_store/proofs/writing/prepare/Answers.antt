@@ -39,5 +39,5 @@ returns-clause-prepared c = λ log floor keeps end.
     record {
       unrefused = unrefused log c.args.at c.args.ask.now (option_copied c.row_of-row.result) found end c.in_ok-obj.ensures.unrefused c.if-at-ge-LAST.false;
       written_is = record { number = omega (arith, end); row_number = refl; object = c.in_ok-obj.ensures.object ∙ ap (written_object c.args.ask.now) found };
-      revision_is = single-is log c.args.at c.args.ask.now c.in_ok-change.field-0 c.in_ok-revision.revision c.in_ok-revision.ensures c.in_ok-change.ensures end;
+      revision_is = c.in_ok-entry.ensures ∙ single-is log c.args.at c.args.ask.now c.in_ok-change.field-0 c.in_ok-revision.revision c.in_ok-revision.ensures c.in_ok-change.ensures end;
     }

@@ -10,7 +10,7 @@ pub loop-i-preserved-in_default : goal.loop-i-preserved-in_default
 loop-i-preserved-in_default c =
     let inside : c.loop-i.i < length c.args.self.now.revisions.items = omega (arith, c.args.self.now.revisions.ok.0, c.loop-i-test.true, c.len-i-end.ensures) in
     let order : c.args.from - c.args.self.now.from ≤ c.loop-i.i = omega arith in
-    let found : None ≡ part_of c.args.resource c.index.result.now = sym c.in_default.is ∙ c.in_ok-found.ensures in
+    let found : None ≡ part_of c.args.resource c.index.result.now = sym c.in_default.is ∙ c.in_ok-found.ensures ∙ ap (part_of c.args.resource) c.get.ensures in
     record {
       parts = c.loop-i.invariant.parts ∙ part-none c.args.resource (c.args.from - c.args.self.now.from) c.loop-i.i c.args.self.now.revisions.items c.index.result.now order inside c.index.ensures found;
       wanted = c.loop-i.invariant.wanted;
@@ -21,7 +21,7 @@ pub loop-i-preserved : goal.loop-i-preserved
 loop-i-preserved c =
     let inside : c.loop-i.i < length c.args.self.now.revisions.items = omega (arith, c.args.self.now.revisions.ok.0, c.loop-i-test.true, c.len-i-end.ensures) in
     let order : c.args.from - c.args.self.now.from ≤ c.loop-i.i = omega arith in
-    let found : Some c.in-Some.found ≡ part_of c.args.resource c.index.result.now = sym c.in-Some.is ∙ c.in_ok-found.ensures in
+    let found : Some c.in-Some.found ≡ part_of c.args.resource c.index.result.now = sym c.in-Some.is ∙ c.in_ok-found.ensures ∙ ap (part_of c.args.resource) c.get.ensures in
     let items : c.push.new.self.items ≡ c.loop-i.revisions.items ++ c.in-Some.found ∷ [] = c.in_ok-push.ensures.items in
     let count : c.len-count.result ≡ length c.in-Some.found.changes = c.len-count.ensures ∙ c.found.inside.changes.ok.0 ∙ ap (λ r. length r.changes) c.found.view_is in
     let sum : changes_in c.push.new.self.items ≡ changes_in c.loop-i.revisions.items + length c.in-Some.found.changes =
@@ -37,7 +37,7 @@ pub returns-then-count-wanted : goal.returns-then-count-wanted
 returns-then-count-wanted c = λ log floor keeps.
     let inside : c.loop-i.i < length c.args.self.now.revisions.items = omega (arith, c.args.self.now.revisions.ok.0, c.loop-i-test.true, c.len-i-end.ensures) in
     let order : c.args.from - c.args.self.now.from ≤ c.loop-i.i = omega arith in
-    let found : Some c.in-Some.found ≡ part_of c.args.resource c.index.result.now = sym c.in-Some.is ∙ c.in_ok-found.ensures in
+    let found : Some c.in-Some.found ≡ part_of c.args.resource c.index.result.now = sym c.in-Some.is ∙ c.in_ok-found.ensures ∙ ap (part_of c.args.resource) c.get.ensures in
     let count : c.len-count.result ≡ length c.in-Some.found.changes = c.len-count.ensures ∙ c.found.inside.changes.ok.0 ∙ ap (λ r. length r.changes) c.found.view_is in
     let number : c.found.inside.rev ≡ c.in-Some.found.rev = ap (λ r. r.rev) c.found.view_is in
     let polled : IsPoll (log) c.args.resource c.args.from c.args.max (record { from = c.args.from; upto = c.in-Some.found.rev; revisions = c.push.new.self.items }) =

@@ -1,15 +1,14 @@
--- The history is that of the store's own log, which the pass knows.
-use Rattle.std.proofs.Common.{◌≡◌, ap, ◌∙◌, arith}
-use Rattle.rev_front.specs.Passes.{revision}
-use Rattle.up_store.specs.Stores.{log_in}
-use Rattle.up_store.proofs.StoreLemmas.{history-of}
+-- The history is made of what is copied.
+use Rattle.std.proofs.Common.{◌∙◌}
+use Rattle.up_api.specs.Sections.{log_of}
 use Rattle.up_store.proofs.reading.StoreUpstream.history.Goals as goal
 
 pub returns-clause-history : goal.returns-clause-history
 returns-clause-history g c =
-    let floor : c.floor-floor.result ≡ c.self.inside.pen.floor = c.floor-floor.ensures ∙ ap (λ w. w.floor) c.meet.ensures.same in
-    let upto : c.revision-upto.result ≡ revision c.self.inside.pen = c.revision-upto.ensures.answer ∙ ap revision c.meet.ensures.same in
-    history-of g.N.LogFacts.base c.self.inside.pen c.args.told.now c.meet.new.told c.self.inside.kept c.args.resource c.floor-floor.result c.revision-upto.result c.in_ok-rows.rows.items c.in_ok-revisions.revisions.items
-    c.meet.ensures.met c.self.invariant.keeps floor upto
-    (c.in_ok-rows.ensures (log_in g.N.LogFacts.base c.self.inside.pen) c.self.inside.pen.floor c.self.invariant.keeps (omega (arith, floor)))
-    (c.in_ok-revisions.ensures (log_in g.N.LogFacts.base c.self.inside.pen) c.self.inside.pen.floor c.self.invariant.keeps)
+    c.in_ok-made.ensures.history (log_of g.N.LogFacts.base c.old_history.new.told) c.old_history.new.told.floor c.args.resource c.in_ok-old.ensures.history
+
+pub returns-clause-floor : goal.returns-clause-floor
+returns-clause-floor g c = c.in_ok-made.ensures.floor ∙ c.in_ok-old.ensures.floor
+
+pub returns-clause-upto : goal.returns-clause-upto
+returns-clause-upto g c = c.in_ok-made.ensures.upto ∙ c.in_ok-old.ensures.upto

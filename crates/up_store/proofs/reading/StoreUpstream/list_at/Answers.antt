@@ -1,14 +1,26 @@
--- The rows are those of the store's own log, which the pass knows.
-use Rattle.std.proofs.Common.{◌≡◌, sym, subst, ap, ◌∙◌, arith}
-use Rattle.rev_log.specs.Logs.{Log}
-use Rattle.rev_log.specs.States.{IsStateAt}
-use Rattle.up_store.specs.Stores.{log_in}
-use Rattle.up_store.proofs.StoreLemmas.{met-log}
+-- The rows are made of what is copied, and a refusal is that of the copy.
+use Rattle.std.specs.Global.{Vec}
+use Rattle.std.proofs.lemmas.Result.{err_from_is_err_and}
+use Rattle.kube_meta.specs.Rows.{RowData}
+use Rattle.up_api.specs.Sections.{log_of}
+use Rattle.up_store.specs.declared.past.OldState.{OldState}
+use Rattle.up_store.proofs.StoreLemmas.{section-refused, known-refused}
 use Rattle.up_store.proofs.reading.StoreUpstream.list_at.Goals as goal
 
+pub returns-in_err-old-clause-section : goal.returns-in_err-old-clause-section
+returns-in_err-old-clause-section g c =
+    let p = err_from_is_err_and c.from_residual.result c.from_residual.ensures.1 in
+    rw (p.1, p.2) (section-refused OldState (Vec RowData) c.in_err-old.field-0.0 c.args.told.now c.old_state.new.told c.in_err-old.ensures.section)
+
+pub returns-in_err-old-clause-refused : goal.returns-in_err-old-clause-refused
+returns-in_err-old-clause-refused g c =
+    let p = err_from_is_err_and c.from_residual.result c.from_residual.ensures.1 in
+    rw (p.1, p.2) c.in_err-old.ensures.refused
+
+pub returns-in_err-old-clause-knows : goal.returns-in_err-old-clause-knows
+returns-in_err-old-clause-knows g c =
+    let p = err_from_is_err_and c.from_residual.result c.from_residual.ensures.1 in
+    rw (p.1, p.2) (known-refused OldState (Vec RowData) c.in_err-old.field-0.0 c.args.self.now.whole c.args.told.now c.old_state.new.told c.in_err-old.ensures.knows)
+
 pub returns-clause-rows : goal.returns-clause-rows
-returns-clause-rows g c =
-    let floor : c.floor-floor.result ≡ c.self.inside.pen.floor = c.floor-floor.ensures ∙ ap (λ w. w.floor) c.meet.ensures.same in
-    subst (λ (log : Log). IsStateAt log c.args.resource c.args.at c.in_ok-rows_at.field-0.items)
-    (sym (met-log g.N.LogFacts.base c.self.inside.pen c.args.told.now c.meet.new.told c.meet.ensures.met))
-    (c.in_ok-rows_at.ensures (log_in g.N.LogFacts.base c.self.inside.pen) c.self.inside.pen.floor c.self.invariant.keeps (omega (arith, floor, c.if-at-floor.false)))
+returns-clause-rows g c = c.in_ok-rows.ensures (log_of g.N.LogFacts.base c.old_state.new.told) c.args.resource c.args.at c.in_ok-old.ensures.state

@@ -1,0 +1,23 @@
+-- At the log's end the last rows are what stands there, and elsewhere the floor's are gone on from.
+use Rattle.std.proofs.Common.{◌≡◌, ◌+◌, ◌-◌, length, ◌∙◌, subst, arith}
+use Rattle.rev_log.specs.Logs.{end_of}
+use Rattle.rev_log.proofs.StateLemmas.{if_ok}
+use Rattle.up_store.specs.Past.{IsOldState}
+use Rattle.up_store.proofs.KeptLemmas.{kept-length}
+use Rattle.up_store.proofs.kept.Kept.old_state.Goals as goal
+
+pub last_state-requires : goal.last_state-requires
+last_state-requires c =
+    let len : c.len.result ≡ length c.args.self.now.revisions.items = c.len.ensures ∙ c.args.self.now.revisions.ok.0 in
+    omega (arith, len, c.if-count-len.true, c.if-self-at.true, c.requires.from)
+
+pub returns-then-self-at : goal.returns-then-self-at
+returns-then-self-at c = if_ok c.last_state.result (λ old states log floor keeps later.
+    let len : c.len.result ≡ length c.args.self.now.revisions.items = c.len.ensures ∙ c.args.self.now.revisions.ok.0 in
+    let end : end_of log ≡ c.args.at = omega (arith, kept-length log floor c.args.self.now keeps, len, c.if-count-len.true, c.if-self-at.true, c.requires.from) in
+    subst (λ n. IsOldState log c.args.resource n old) end (states log floor keeps)) c.last_state.ensures
+
+pub returns : goal.returns
+returns c = if_ok c.state_after.result (λ old states log floor keeps later.
+    let at : c.args.self.now.from + (c.args.at - c.args.self.now.from) ≡ c.args.at = omega (arith, c.requires.from) in
+    subst (λ n. IsOldState log c.args.resource n old) at (states log floor keeps (omega (arith, later, c.requires.from)))) c.state_after.ensures
