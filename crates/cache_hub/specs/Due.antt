@@ -1,13 +1,14 @@
 -- What lanes have to be told of events.
-use Rattle.std.specs.Prelude.{◌≡◌, ◌==◌, ℕ, true, false, not, ◌&&◌, List, [], ◌∷◌, ◌++◌, ◌⊎◌, filter_map, Option, Some, None, is_some, nat_lt, if◌then◌else◌}
+use Rattle.std.specs.Prelude.{◌≡◌, ◌≢◌, ◌==◌, ℕ, true, false, not, ◌&&◌, List, [], ◌∷◌, ◌++◌, ◌⊎◌, filter_map, Option, Some, None, is_some, nat_lt, if◌then◌else◌}
 use Rattle.std.specs.List.{list_any}
 use Rattle.std.specs.Map.{lookup}
 use Rattle.std.specs.Ordering.{is_eq, nat_cmp}
 use Rattle.select_all.specs.declared.selection.Selection.{Selection}
 use Rattle.select_all.specs.Selecting.{selects}
-use Rattle.select_all.specs.Streams.{EventData, TransitionData, transition_by}
+use Rattle.select_all.specs.Streams.{EventData, TransitionData, transition_by, transitions}
 use Rattle.event_ring.specs.Events.{EventRows}
 use Rattle.rev_log.specs.Logs.{Log}
+use Rattle.watch_lane.specs.Batches.{PieceData}
 use Rattle.watch_lane.specs.Index.{is_listed}
 use Rattle.cache_world.specs.Lanes.{LaneData, unsent}
 use Rattle.cache_hub.specs.OpenLanes.{OpenLaneData, open_at, left_behind}
@@ -72,6 +73,17 @@ IsWaiting log end lines (Some o) = ((o.lane.behind ≡ true) × (lines ≡ [])) 
 -- and so for all lanes
 abbrev pub AreWaiting : Log → ℕ → List (ℕ × List TransitionData) → List (ℕ × OpenLaneData) → Type 0
 AreWaiting log end waiting lanes = (id : ℕ) → IsWaiting log end (lines_at waiting id) (open_at lanes id)
+
+-- a piece of a log: all that comes to its selection behind where it begins and up to an end, and there is some
+pub record IsPiece (log : Log) (end : ℕ) (piece : PieceData) : Type 0 where
+  pub upto : piece.to ≡ end
+  pub lines_are : piece.lines ≡ transitions log piece.selection piece.from end
+  pub some : piece.lines ≢ []
+
+-- and so of a piece that may be there
+abbrev pub IsPieceIn : Log → ℕ → Option PieceData → Type 0
+IsPieceIn log end None = Unit {0}
+IsPieceIn log end (Some piece) = IsPiece log end piece
 
 -- a line, if there is one, as a list
 abbrev pub one : Option TransitionData → List TransitionData

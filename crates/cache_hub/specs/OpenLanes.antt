@@ -5,7 +5,7 @@ use Rattle.std.specs.Ordering.{is_eq, nat_cmp}
 use Rattle.kube_meta.specs.declared.resources.Resource.{Resource}
 use Rattle.rev_log.specs.Logs.{Log}
 use Rattle.select_all.specs.declared.selection.Selection.{Selection}
-use Rattle.watch_lane.specs.Batches.{BatchData as NotedBatch}
+use Rattle.watch_lane.specs.Batches.{PieceData, BatchData as NotedBatch}
 use Rattle.cache_world.specs.Lanes.{LaneData, BatchData, IsInStep, MissesNothing, pumped_lane, queued, rebuilt_lane, opened_lane, caught_lane}
 
 -- a lane, how many batches its queue has room for, and all that were put into it, the oldest first
@@ -17,6 +17,10 @@ pub record OpenLaneData : Type 0 where
 -- a batch without its pass
 abbrev pub batch_of : NotedBatch → BatchData
 batch_of batch = record { selection = batch.selection; from = batch.from; to = batch.to; sent = batch.lines }
+
+-- a piece as such a batch
+abbrev pub batch_from : PieceData → BatchData
+batch_from piece = record { selection = piece.selection; from = piece.from; to = piece.to; sent = piece.lines }
 
 -- the lane under a number
 abbrev pub open_at : List (ℕ × OpenLaneData) → ℕ → Option OpenLaneData

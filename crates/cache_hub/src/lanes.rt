@@ -1,6 +1,6 @@
 //! The lanes of a cache.
 
-ghost use Rattle.std.specs.Prelude.{◌≡◌, ◌≤◌, ◌↔◌, ℕ, Bool, true, [], ◌∷◌, ◌++◌, length, None, Some, option_map, unwrap_or, IfOk, IsTrue, OnOk, OnErr};
+ghost use Rattle.std.specs.Prelude.{◌≡◌, ◌≤◌, ◌↔◌, ℕ, Bool, true, [], ◌∷◌, ◌++◌, length, None, Some, option_map, unwrap_or, IfOk, IfSome, IsTrue, OnOk, OnErr};
 ghost use Rattle.std.specs.List.Sorted.{IsStrictlyIncreasing};
 ghost use Rattle.rev_front.specs.Passes.{end_from};
 ghost use Rattle.up_api.specs.Sections.{log_of};
@@ -10,7 +10,7 @@ ghost use Rattle.cache_hub.specs.OpenLanes.{OpenLaneData, GetsAll, GoesAlong, La
 use crate::calling::{hand_over_all, hang, strike};
 use crate::due::{Waiting, put_line};
 use crate::open_lane::{OpenLane, object};
-use crate::telling::tell_each;
+use crate::telling::{tell_each, tell_every};
 use bells::Bell;
 use event_ring::Event;
 use kube_meta::Memory;
@@ -18,6 +18,7 @@ use select_all::Selection;
 use std::alloc::Global;
 use std::collections::BTreeMap;
 use std::marker::Model;
+use std::slice;
 use std::sync::Arc;
 use up_api::{LogFacts, Pass};
 use watch_lane::{LaneIndex, LaneOut, Line, lane};
@@ -192,7 +193,7 @@ impl<N: LogFacts> Lanes<N> {
     }
 
     /// Tells the lanes of events up to `end`: each one that an event concerns and that isn't behind gets one batch,
-    /// or is behind then. The others aren't visited, but where memory for the search has run out.
+    /// or is behind then.
     pub fn tell(&mut self, events: &[Event], end: u64, told: &mut Pass<N>)
         requires within { end ≤ end_from told.old.first told.old.seen }
         requires ready { AreReady (log_of N.base told.old) end events.now self.old.all }
@@ -201,11 +202,58 @@ impl<N: LogFacts> Lanes<N> {
         ensures room { self.new.room ≡ self.old.room }
     {
         if let [event] = events {
-            if let Ok(ids) = self.touched(event) {
-                return self.tell_each(&ids, event, end, told);
-            }
+            return self.tell_one(event, end, told);
         }
         self.tell_all(events, end, told);
+    }
+
+    // Tells the lanes of one event: those that it may concern, and no other one is visited; or all, where these are
+    // most of the lanes or there is no memory for their numbers.
+    fn tell_one(&mut self, event: &Event, end: u64, told: &mut Pass<N>)
+        requires within { end ≤ end_from told.old.first told.old.seen }
+        requires ready { AreReady (log_of N.base told.old) end (event.now ∷ []) self.old.all }
+        ensures told { told.new ≡ told.old }
+        ensures lanes { AreTold (log_of N.base told.old) end self.old.all self.new.all }
+        ensures room { self.new.room ≡ self.old.room }
+    {
+        if let Some(ids) = self.found(event) {
+            return self.tell_each(&ids, event, end, told);
+        }
+        match told.split() {
+            Ok(own) => self.tell_every(event, end, own),
+            Err(_) => self.miss(slice::from_ref(event)),
+        }
+    }
+
+    // The lanes that an event may concern, unless these are most of the lanes or there is no memory for their numbers.
+    fn found(&self, event: &Event) -> Option<Vec<u64>>
+        ensures rising { IfSome result (λ ids. IsStrictlyIncreasing ids.items) }
+        ensures others { IfSome result (λ ids. AreUntold self.now.all event.entry.now ids.items) }
+    {
+        if self.index.is_wide() {
+            return None;
+        }
+        match self.touched(event) {
+            Ok(ids) => Some(ids),
+            Err(Memory) => None,
+        }
+    }
+
+    // Tells all lanes of one event, in one walk.
+    fn tell_every(&mut self, event: &Event, end: u64, own: Pass<N>)
+        requires within { end ≤ end_from own.first own.seen }
+        requires ready { AreReady (log_of N.base own) end (event.now ∷ []) self.old.all }
+        ensures lanes { AreTold (log_of N.base own) end self.old.all self.new.all }
+        ensures room { self.new.room ≡ self.old.room }
+    {
+        tell_every(
+            &mut self.lanes,
+            self.alloc,
+            event,
+            end,
+            own,
+            &mut self.called,
+        );
     }
 
     // Tells the lanes of one event, lane by lane.
@@ -360,7 +408,7 @@ fn send_to<N: LogFacts>(
     ensures lane { (falls : Bool) × SetsLane lanes.old.entries lanes.new.entries id (option_map (told_lane (log_of N.base told.old) end falls) (open_at lanes.old.entries id)) }
 {
     if let Some(lane) = lanes.get_mut(&id) {
-        lane.take(alloc, lines, end, told, called);
+        let _piece = lane.take(alloc, lines, end, told, called);
     }
 }
 

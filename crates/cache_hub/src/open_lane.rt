@@ -3,10 +3,12 @@
 ghost use Rattle.std.specs.Prelude.{◌≡◌, ◌≢◌, ◌≤◌, ◌⊎◌, ◌↔◌, Bool, false, Some, [], ◌∷◌, ◌++◌, map, IfOk, IsTrue, is_some, option_map, option_copied};
 ghost use Rattle.std.specs.List.{list_any};
 ghost use Rattle.rev_front.specs.Passes.{end_from};
+ghost use Rattle.select_all.specs.Streams.{transitions};
 ghost use Rattle.up_api.specs.Sections.{log_of};
-ghost use Rattle.cache_world.specs.Lanes.{unsent, opened_lane, batch_between};
-ghost use Rattle.cache_hub.specs.Due.{IsReady, IsWaiting, all_due, due, missed, transition_of};
-ghost use Rattle.cache_hub.specs.OpenLanes.{GetsAll, GoesAlong, batch_of, told_lane, left_behind, caught_up};
+ghost use Rattle.cache_world.specs.Lanes.{unsent, opened_lane};
+ghost use Rattle.watch_lane.specs.Batches.{Begins};
+ghost use Rattle.cache_hub.specs.Due.{IsPiece, IsPieceIn, IsReady, IsWaiting, all_due, due, missed, transition_of};
+ghost use Rattle.cache_hub.specs.OpenLanes.{GetsAll, GoesAlong, batch_from, batch_of, told_lane, left_behind, caught_up};
 
 use crate::sleeper::Sleeper;
 use bells::Bell;
@@ -18,7 +20,7 @@ use std::alloc::Global;
 use std::marker::Model;
 use std::sync::Arc;
 use up_api::{LogFacts, Pass};
-use watch_lane::{Batch, LaneIn, Line};
+use watch_lane::{Batch, LaneIn, Line, Piece};
 
 /// A watcher's selection, the revision up to which it was told everything, whether it is behind and so gets nothing
 /// until it has caught up, the end of its queue, and whom to call, if anybody may rest at the lane.
@@ -91,22 +93,63 @@ impl<N: LogFacts> OpenLane<N> {
     }
 
     /// Is told of an event, all that came up to `end`: where it concerns the lane, that gets a batch, or is behind.
+    /// `last` is the last piece that was made of the event for a lane. A lane that goes on with it is told it too, and
+    /// nothing is made for that lane; for any other one a piece is made, which is the last one then.
     pub fn tell(
+        &mut self,
+        alloc: Global,
+        event: &Event,
+        end: u64,
+        last: &mut Option<Arc<Piece>>,
+        told: &mut Pass<N>,
+        called: &mut Vec<u64>,
+    )
+        requires within { end ≤ end_from told.old.first told.old.seen }
+        requires ready { IsReady (log_of N.base told.old) end (event.now ∷ []) self.old }
+        requires last { IsPieceIn (log_of N.base told.old) end (option_map (λ p. p.value) last.old) }
+        ensures told { told.new ≡ told.old }
+        ensures last { IsPieceIn (log_of N.base told.old) end (option_map (λ p. p.value) last.new) }
+        ensures sent { (falls : Bool) × (self.new ≡ told_lane (log_of N.base told.old) end falls self.old) }
+    {
+        if let Some(piece) = &*last
+            && self.goes_on_with(piece)
+        {
+            return self.hand(piece, end, told, called);
+        }
+        let own = self.tell_anew(alloc, event, end, told, called);
+        if own.is_some() {
+            *last = own;
+        }
+    }
+
+    // Whether it gets what comes, and goes on with this piece.
+    fn goes_on_with(&self, piece: &Piece) -> bool
+        ensures { IsTrue result ↔ ((self.now.lane.behind ≡ false) × Begins piece.now self.now.lane.selection self.now.lane.mark) }
+    {
+        !self.behind && piece.begins(&self.selection, self.mark)
+    }
+
+    // Is told of an event by a piece of its own, which is the answer.
+    fn tell_anew(
         &mut self,
         alloc: Global,
         event: &Event,
         end: u64,
         told: &mut Pass<N>,
         called: &mut Vec<u64>,
-    )
+    ) -> Option<Arc<Piece>>
         requires within { end ≤ end_from told.old.first told.old.seen }
         requires ready { IsReady (log_of N.base told.old) end (event.now ∷ []) self.old }
         ensures told { told.new ≡ told.old }
+        ensures piece { IsPieceIn (log_of N.base told.old) end (option_map (λ p. p.value) result) }
         ensures sent { (falls : Bool) × (self.new ≡ told_lane (log_of N.base told.old) end falls self.old) }
     {
         match self.lines(alloc, event) {
             Ok(lines) => self.take(alloc, lines, end, told, called),
-            Err(Memory) => self.miss_one(event, called),
+            Err(Memory) => {
+                self.miss_one(event, called);
+                None
+            }
         }
     }
 
@@ -121,7 +164,7 @@ impl<N: LogFacts> OpenLane<N> {
         Ok(lines)
     }
 
-    /// Sends what waits for the lane, if anything does.
+    /// Sends what waits for the lane, if anything does. The answer is the piece that was made of it.
     pub fn take(
         &mut self,
         alloc: Global,
@@ -129,19 +172,20 @@ impl<N: LogFacts> OpenLane<N> {
         end: u64,
         told: &mut Pass<N>,
         called: &mut Vec<u64>,
-    )
+    ) -> Option<Arc<Piece>>
         requires within { end ≤ end_from told.old.first told.old.seen }
         requires waiting { IsWaiting (log_of N.base told.old) end lines.items (Some self.old) }
         ensures told { told.new ≡ told.old }
+        ensures piece { IsPieceIn (log_of N.base told.old) end (option_map (λ p. p.value) result) }
         ensures sent { (falls : Bool) × (self.new ≡ told_lane (log_of N.base told.old) end falls self.old) }
     {
-        if !lines.is_empty() {
-            self.send(alloc, lines, end, told, called);
+        if lines.is_empty() {
+            return None;
         }
+        self.send(alloc, lines, end, told, called)
     }
 
-    // Sends what came up to `end` as one batch. Where the queue is full, or there is no memory for the batch, the
-    // lane is behind.
+    // Sends what came up to `end` as one piece. Where there is no memory for it, the lane is behind.
     fn send(
         &mut self,
         alloc: Global,
@@ -149,37 +193,54 @@ impl<N: LogFacts> OpenLane<N> {
         end: u64,
         told: &mut Pass<N>,
         called: &mut Vec<u64>,
-    )
+    ) -> Option<Arc<Piece>>
         requires within { end ≤ end_from told.old.first told.old.seen }
         requires in_step { self.old.lane.behind ≡ false }
         requires lines { lines.items ≡ unsent (log_of N.base told.old) end self.old.lane }
         requires some { lines.items ≢ [] }
         ensures told { told.new ≡ told.old }
+        ensures piece { IsPieceIn (log_of N.base told.old) end (option_map (λ p. p.value) result) }
         ensures sent { (falls : Bool) × (self.new ≡ told_lane (log_of N.base told.old) end falls self.old) }
     {
-        match self.batch(alloc, lines, end, told) {
-            Ok(batch) => self.push(batch, end, called),
-            Err(Memory) => self.fall_behind(called),
+        match self.piece(alloc, lines, end) {
+            Ok(piece) => {
+                self.hand(&piece, end, told, called);
+                Some(piece)
+            }
+            Err(Memory) => {
+                self.fall_behind(called);
+                None
+            }
         }
     }
 
-    // The batch from the mark to the end.
-    fn batch(
-        &self,
-        alloc: Global,
-        lines: Vec<Line>,
-        end: u64,
-        told: &mut Pass<N>,
-    ) -> Result<Batch<N>, Memory>
-        requires within { end ≤ end_from told.old.first told.old.seen }
-        requires lines { lines.items ≡ unsent (log_of N.base told.old) end self.now.lane }
-        requires some { lines.items ≢ [] }
-        ensures told { told.new ≡ told.old }
-        ensures batch { IfOk result (λ batch. batch_of batch ≡ batch_between (log_of N.base told.old) self.now.lane.selection self.now.lane.mark end) }
+    // The piece of these lines, from the mark to the end.
+    fn piece(&self, alloc: Global, lines: Vec<Line>, end: u64) -> Result<Arc<Piece>, Memory>
+        ensures { IfOk result (λ piece. piece.value ≡ record { from = self.now.lane.mark; to = end; selection = self.now.lane.selection; lines = lines.items }) }
     {
         let selection = self.selection.copy(alloc)?;
-        let note = told.split()?;
-        Ok(Batch::new(self.mark, end, selection, lines, note))
+        let piece = Piece {
+            from: self.mark,
+            to: end,
+            selection,
+            lines,
+        };
+        Ok(Arc::new(alloc, piece)?)
+    }
+
+    // Hands a piece over as a batch. Where the queue is full, or there is no memory for the batch, the lane is behind.
+    fn hand(&mut self, piece: &Arc<Piece>, end: u64, told: &mut Pass<N>, called: &mut Vec<u64>)
+        requires within { end ≤ end_from told.old.first told.old.seen }
+        requires in_step { self.old.lane.behind ≡ false }
+        requires piece { IsPiece (log_of N.base told.old) end piece.now.value }
+        requires begins { Begins piece.now.value self.old.lane.selection self.old.lane.mark }
+        ensures told { told.new ≡ told.old }
+        ensures sent { (falls : Bool) × (self.new ≡ told_lane (log_of N.base told.old) end falls self.old) }
+    {
+        match batch_for(piece, told) {
+            Ok(batch) => self.push(batch, end, called),
+            Err(Memory) => self.fall_behind(called),
+        }
     }
 
     // Pushes a batch that goes to `end`, which is the mark then; or, where the queue is full, the lane is behind. All
@@ -295,6 +356,19 @@ impl<N: LogFacts> OpenLane<N> {
             self.set_behind(false);
         }
     }
+}
+
+// The batch of a piece, which is shared once more, with a pass of its own.
+fn batch_for<N: LogFacts>(piece: &Arc<Piece>, told: &mut Pass<N>) -> Result<Batch<N>, Memory>
+    requires within { piece.now.value.to ≤ end_from told.old.first told.old.seen }
+    requires lines_are { piece.now.value.lines ≡ transitions (log_of N.base told.old) piece.now.value.selection piece.now.value.from piece.now.value.to }
+    requires some { piece.now.value.lines ≢ [] }
+    ensures told { told.new ≡ told.old }
+    ensures batch { IfOk result (λ batch. batch_of batch ≡ batch_from piece.now.value) }
+{
+    let shared = Arc::try_clone(piece)?;
+    let note = told.split()?;
+    Ok(Batch::new(shared, note))
 }
 
 /// The line that tells a watch of an event, if it concerns it: the object now, or where that isn't selected the one

@@ -84,6 +84,12 @@ impl LaneIndex {
         }
     }
 
+    /// Whether at least half of the lanes ask for no name, value or namespace, and so are always answered. No contract
+    /// speaks of it.
+    pub fn is_wide(&self) -> bool {
+        self.lanes.len() <= self.places.others.len().saturating_mul(2)
+    }
+
     /// The lanes that a change of an object from `old` to `new` may concern, in rising order. There is
     /// no object before it is created and after it is removed.
     pub fn touched(&self, old: Option<&Obj>, new: Option<&Obj>) -> Result<Vec<u64>, Memory>

@@ -5,9 +5,11 @@
 mod batch;
 mod index;
 mod merge;
+mod piece;
 mod places;
 mod queue;
 
-pub use batch::{Batch, Line};
+pub use batch::Batch;
 pub use index::LaneIndex;
+pub use piece::{Line, Piece, lines_of};
 pub use queue::{LaneIn, LaneOut, lane};

@@ -2,7 +2,7 @@ use Rattle.std.proofs.Common.{true, ◌∷◌, [], ◌∙◌}
 use Rattle.up_api.specs.Sections.{log_of}
 use Rattle.cache_hub.proofs.WaitingLemmas.{is_waiting}
 use Rattle.cache_hub.proofs.SendLemmas.{missed_is}
-use Rattle.cache_hub.proofs.open_lane.OpenLane.tell.Goals as goal
+use Rattle.cache_hub.proofs.open_lane.OpenLane.tell_anew.Goals as goal
 
 pub take-requires-clause-waiting : goal.take-requires-clause-waiting
 take-requires-clause-waiting g c =
