@@ -1,5 +1,5 @@
 -- The page of a state's selected rows.
-use Rattle.std.proofs.Common.{◌≡◌, ℕ, Bool, List, [], ◌∷◌, length, Option, Some, None, inl, inr, refl, ap, sym, ◌∙◌}
+use Rattle.std.proofs.Common.{◌≡◌, ℕ, Bool, true, List, [], ◌∷◌, length, Option, Some, None, inl, inr, refl, ap, sym, ◌∙◌}
 use Rattle.std.specs.Prelude.{◌↔◌, filter}
 use Rattle.std.proofs.lemmas.Bool.{cases_Bool}
 use Rattle.kube_meta.specs.Rows.{RowData, behind, is_behind}
@@ -7,8 +7,9 @@ use Rattle.select_all.specs.declared.selection.Selection.{Selection}
 use Rattle.select_all.specs.Listings.{listing}
 use Rattle.select_all.specs.Selecting.{selects}
 use Rattle.list_rules.specs.declared.ask.ListAsk.{ListAsk}
-use Rattle.list_rules.specs.Pages.{page_of, left_of, remaining_of}
+use Rattle.list_rules.specs.Pages.{page_of, left_of, remaining_of, is_unrestricted}
 use Rattle.client_api.specs.Lists.{IsCut}
+use Rattle.cache_answers.proofs.WalkLemmas.{listing_free, within_all}
 
 filters-swap : {X : Type 0} (f g : X → Bool) (xs : List X) → filter f (filter g xs) ≡ filter g (filter f xs)
 filters-swap f g [] = refl
@@ -42,3 +43,11 @@ cut_of_walk ask state asked kept rest left in_question first count none told =
       none_left = (λ e. sym count_is ∙ none.0 e, λ e. none.1 (count_is ∙ e));
       told = told ∙ ap (remaining_of s) count_is;
     }
+
+-- ---- all of a state
+
+-- those behind no key that a selection without a namespace or a requirement has are all
+pub all_listed : (ask : ListAsk) (rows : List RowData) → ask.after ≡ None → ask.selection.ns ≡ None → is_unrestricted ask.selection ≡ true →
+    behind ask.after (listing ask.selection rows) ≡ rows
+all_listed ask rows after ns free =
+    ap (λ (o : Option (List ℕ)). behind o (listing ask.selection rows)) after ∙ listing_free ask.selection rows free (within_all ask.selection rows ns)

@@ -1,5 +1,5 @@
 -- Over rows, the selected ones of them.
-use Rattle.std.proofs.Common.{◌≡◌, ℕ, zero, suc, ◌+◌, ◌<◌, true, false, List, [], ◌∷◌, ◌++◌, map, length, take, append_assoc, Option, Some, None, inl, inr, refl, ap, sym, ◌∙◌, arith}
+use Rattle.std.proofs.Common.{◌≡◌, ℕ, zero, suc, ◌+◌, ◌<◌, true, false, List, [], ◌∷◌, ◌++◌, map, length, take, append_assoc, Option, Some, None, inl, inr, refl, ap, sym, ◌∙◌, subst, arith}
 use Rattle.std.specs.Prelude.{◌==◌}
 use Rattle.std.specs.List.{list_all}
 use Rattle.std.proofs.lemmas.Bool.{cases_Bool, and_parts, eqb-true, true≢false}
@@ -7,8 +7,11 @@ use Rattle.std.proofs.lemmas.List.{map-append, length-map, length-append}
 use Rattle.std.proofs.Math.Seq.{take-append_seam}
 use Rattle.kube_meta.specs.Keys.{is_in}
 use Rattle.kube_meta.specs.Rows.{RowData, key_of, within}
-use Rattle.kube_meta.specs.Words.{has_bits, word_of}
+use Rattle.kube_meta.specs.Words.{fits}
 use Rattle.kube_meta.specs.declared.objects.Obj.{Obj}
+use Rattle.kube_meta.specs.declared.words.Mask.{Mask}
+use Rattle.obj_tree.specs.Words.{from_fit}
+use Rattle.obj_tree.proofs.WordLemmas.{fit_fewer}
 use Rattle.select_all.specs.declared.selection.Selection.{Selection}
 use Rattle.select_all.specs.Listings.{listing}
 use Rattle.select_all.specs.Masks.{IsMaskOf}
@@ -47,11 +50,50 @@ within_all s (row ∷ rows) none = rw (ap (λ (o : Option (List ℕ)). is_within
 -- ---- masks
 
 -- what lacks a bit of the mask isn't selected
-pub not_had : (s : Selection) (mask : ℕ) (obj : Obj) → IsMaskOf s mask → has_bits (word_of obj) mask ≡ false → selects s obj ≡ false
+not_had : (s : Selection) (mask : Mask) (obj : Obj) → IsMaskOf s mask → fits mask obj ≡ false → selects s obj ≡ false
 not_had s mask obj is lacks = elim (cases_Bool (selects s obj)) [
   | inl chosen ↦ absurd (true≢false (sym (is obj chosen) ∙ lacks))
   | inr out ↦ out
 ]
+
+-- of rows from the first one on that fits, those are selected that are selected of all
+listing_fit : (s : Selection) (mask : Mask) (rows : List RowData) → IsMaskOf s mask → listing s (from_fit mask rows) ≡ listing s rows
+listing_fit s mask [] is = refl
+listing_fit s mask (row ∷ rows) is = elim (cases_Bool (fits mask row.obj)) [
+  | inl does ↦ rw does refl
+  | inr not ↦
+      let out : selects s row.obj ≡ false = not_had s mask row.obj is not in
+      rw (not, out) (listing_fit s mask rows is)
+]
+
+within_fit : (s : Selection) (mask : Mask) (rows : List RowData) → AreWithin s rows → AreWithin s (from_fit mask rows)
+within_fit s mask [] are = refl
+within_fit s mask (row ∷ rows) are = elim (cases_Bool (fits mask row.obj)) [
+  | inl does ↦ rw does are
+  | inr not ↦ rw not (within_fit s mask rows (and_parts (is_within s.ns (key_of row)) (list_all (λ row. is_within s.ns (key_of row)) rows) are).1)
+]
+
+-- what is next, of rows from the first one on that fits
+module _ (s : Selection) (mask : Mask) (before after : List RowData) (row : RowData) (is : IsMaskOf s mask) (next : from_fit mask before ≡ row ∷ after) where
+  next_listing : listing s before ≡ listing s (row ∷ after)
+  next_listing = sym (listing_fit s mask before is) ∙ ap (listing s) next
+
+  pub next_chosen : selects s row.obj ≡ true → listing s before ≡ row ∷ listing s after
+  next_chosen chosen = next_listing ∙ rw chosen refl
+
+  pub next_left_out : selects s row.obj ≡ false → listing s before ≡ listing s after
+  next_left_out out = next_listing ∙ rw out refl
+
+  pub next_within : AreWithin s before → AreWithin s after
+  next_within are =
+      let here : AreWithin s (row ∷ after) = subst (AreWithin s) next (within_fit s mask before are) in
+      (and_parts (is_within s.ns (key_of row)) (list_all (λ row. is_within s.ns (key_of row)) after) here).1
+
+  pub next_fewer : length after < length before
+  next_fewer = omega (arith, fit_fewer mask before, ap length next)
+
+pub none_next : (s : Selection) (mask : Mask) (before : List RowData) → IsMaskOf s mask → from_fit mask before ≡ [] → listing s before ≡ []
+none_next s mask before is none = sym (listing_fit s mask before is) ∙ ap (listing s) none
 
 -- ---- the first ones
 
@@ -93,8 +135,11 @@ no_items : {A : Type 0} (xs : List A) → (length xs == 0) ≡ true → xs ≡ [
 no_items [] none = refl
 no_items (x ∷ xs) none = absurd (omega (arith, eqb-true (length (x ∷ xs)) 0 none))
 
+pub listing_free : (s : Selection) (rows : List RowData) → is_unrestricted s ≡ true → AreWithin s rows → listing s rows ≡ rows
+listing_free s rows free are =
+    let none = and_parts (length s.labels == 0) (length s.fields == 0) free in
+    listing_all s rows (no_items s.labels none.0) (no_items s.fields none.1) are
+
 -- and the rows are counted
 pub left_counted : (s : Selection) (rows : List RowData) (count : ℕ) → is_unrestricted s ≡ true → AreWithin s rows → count ≡ length rows → count ≡ length (listing s rows)
-left_counted s rows count free are many =
-    let none = and_parts (length s.labels == 0) (length s.fields == 0) free in
-    many ∙ sym (ap length (listing_all s rows (no_items s.labels none.0) (no_items s.fields none.1) are))
+left_counted s rows count free are many = many ∙ sym (ap length (listing_free s rows free are))

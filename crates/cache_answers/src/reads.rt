@@ -1,13 +1,14 @@
 //! What reads answer, from the objects of a resource at a revision.
 
-ghost use Rattle.std.specs.Prelude.{◌≡◌, IfOk, map};
-ghost use Rattle.kube_meta.specs.Rows.{AreRising, behind};
+ghost use Rattle.std.specs.Prelude.{◌≡◌, ℕ, List, None, IfOk, IsTrue, length, map};
+ghost use Rattle.kube_meta.specs.Rows.{RowData, AreRising, behind};
+ghost use Rattle.list_rules.specs.Pages.{page_of, next_of};
 ghost use Rattle.select_all.specs.Listings.{listing};
 ghost use Rattle.client_api.specs.Lists.{page_at};
 ghost use Rattle.cache_answers.specs.Reads.{IsFound, revision_alone};
 
-use crate::walks::{first, in_question, left};
-use client_api::{Got, ListNo, Listed, page_before};
+use crate::walks::{first, in_question, is_unrestricted, left};
+use client_api::{Got, Items, ListNo, Listed, page_before};
 use encode_once::Shown;
 use kube_meta::{Key, Memory, Row};
 use list_rules::ListAsk;
@@ -40,7 +41,45 @@ pub fn found(state: &Snapshot, key: &Key, at: u64) -> Result<Got, ListNo>
 }
 
 /// The page of the ask, from the objects of its resource at a revision.
-pub fn listed(alloc: Global, ask: &ListAsk, rev: u64, state: &Snapshot) -> Result<Listed, Memory>
+pub fn listed(alloc: Global, ask: &ListAsk, rev: u64, state: Snapshot) -> Result<Listed, Memory>
+    ensures { IfOk result (λ l. l ≡ page_at ask.now rev (behind ask.now.after (listing ask.now.selection state))) }
+{
+    if has_all(ask, &state) {
+        return Ok(Listed {
+            rev,
+            items: Items::All(state),
+            more: None,
+        });
+    }
+    picked(alloc, ask, rev, &state)
+}
+
+// Whether the page of the ask is known to have all objects of a state, so that it is the last one.
+fn has_all(ask: &ListAsk, state: &Snapshot) -> bool
+    ensures { IsTrue result → (rev : ℕ) → page_at ask.now rev (behind ask.now.after (listing ask.now.selection state.now)) ≡ record { rev = rev; rows = state.now; more = None } }
+{
+    is_of_all(ask) && is_within(ask.limit, state.len())
+}
+
+// Whether the ask begins with the first object and has neither a namespace nor a requirement.
+fn is_of_all(ask: &ListAsk) -> bool
+    ensures { IsTrue result → (rows : List RowData) → behind ask.now.after (listing ask.now.selection rows) ≡ rows }
+{
+    match (&ask.after, &ask.selection.ns) {
+        (None, None) => is_unrestricted(&ask.selection),
+        _ => false,
+    }
+}
+
+// Whether so many objects are within a limit, if there is one.
+fn is_within(limit: u64, count: usize) -> bool
+    ensures { IsTrue result → (rows : List RowData) → length rows ≡ count → (page_of limit rows ≡ rows) × (next_of limit rows ≡ None) }
+{
+    limit == 0 || count as u64 <= limit
+}
+
+// The page of the ask, whose objects are shared one by one.
+fn picked(alloc: Global, ask: &ListAsk, rev: u64, state: &Snapshot) -> Result<Listed, Memory>
     ensures { IfOk result (λ l. l ≡ page_at ask.now rev (behind ask.now.after (listing ask.now.selection state.now))) }
 {
     let selection = &ask.selection;

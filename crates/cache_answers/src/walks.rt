@@ -9,7 +9,7 @@ ghost use Rattle.list_rules.specs.Pages.{page_of, left_of, remaining_of, is_unre
 ghost use Rattle.cache_answers.specs.Walks.{AreWithin};
 
 use encode_once::Shown;
-use kube_meta::{Key, Memory};
+use kube_meta::{Key, Mask, Memory};
 use obj_tree::{Rows, Snapshot};
 use select_all::Selection;
 use std::alloc::Global;
@@ -71,16 +71,17 @@ pub(crate) fn left(selection: &Selection, rows: Rows<'_>) -> u64
 }
 
 // Whether neither selector has a requirement.
-fn is_unrestricted(selection: &Selection) -> bool
+pub(crate) fn is_unrestricted(selection: &Selection) -> bool
     ensures { result ≡ is_unrestricted selection.now }
 {
     selection.labels.is_empty() && selection.fields.is_empty()
 }
 
-// The next selected one of the rows, which are those behind it then.
+// The next selected one of the rows, which are those behind it then. No object is looked at whose words lack a bit
+// of the mask.
 fn next_selected<'a>(
     selection: &Selection,
-    mask: u64,
+    mask: Mask,
     rows: &mut Rows<'a>,
 ) -> Option<&'a Arc<Shown>>
     requires { IsMaskOf selection.now mask }
@@ -88,18 +89,17 @@ fn next_selected<'a>(
         (λ shown. listing selection.now rows.old ≡ shown.now.value ∷ listing selection.now rows.new) }
     ensures within { AreWithin selection.now rows.old → AreWithin selection.now rows.new }
 {
-    while let Some(shown) = rows.next() {
-        if is_selected(selection, mask, shown) {
+    while let Some(shown) = rows.next_with(mask) {
+        if is_selected(selection, shown) {
             return Some(shown);
         }
     }
     None
 }
 
-// Whether the selection has the object, which isn't looked at where its word lacks a bit of the mask.
-fn is_selected(selection: &Selection, mask: u64, shown: &Arc<Shown>) -> bool
-    requires { IsMaskOf selection.now mask }
+// Whether the selection has the object.
+fn is_selected(selection: &Selection, shown: &Arc<Shown>) -> bool
     ensures { result ≡ selects selection.now shown.now.value.obj }
 {
-    shown.has(mask) && selection.selects(&shown.row().obj)
+    selection.selects(&shown.row().obj)
 }

@@ -17,6 +17,7 @@ use Rattle.select_all.specs.Listings.{IsListing}
 use Rattle.select_all.specs.Streams.{TransitionData, transitions}
 use Rattle.select_all.proofs.ListingLaws.{listings_are_one, listings_are_kept}
 use Rattle.select_all.proofs.StreamLaws.{no_transitions}
+use Rattle.select_all.specs.Meanings.{IsAtLeast}
 use Rattle.list_rules.specs.declared.ask.ListAsk.{ListAsk}
 use Rattle.list_rules.specs.Pages.{page_of, next_of}
 use Rattle.watch_rules.specs.declared.ask.WatchAsk.{WatchAsk}
@@ -29,7 +30,7 @@ use Rattle.client_api.specs.Facts.{Watched, HasLoaded}
 use Rattle.client_api.specs.Fresh.{Meets}
 use Rattle.client_api.specs.Lists.{IsListed, more_of}
 use Rattle.client_api.specs.Turns.{IsWatchTurn, GivesEvents, IsQuiet}
-use Rattle.client_api.specs.Laws.{IsPageOf, ListsAgree, StartsTell, TurnsTell, LoadsAreEnds, OnwardsJoin, LooksLoad, LoadsAreFresh, IsAtLeast, turn_lines, position_after, IsLasting}
+use Rattle.client_api.specs.Laws.{IsPageOf, ListsAgree, StartsTell, TurnsTell, LoadsAreEnds, OnwardsJoin, LooksLoad, LoadsAreFresh, turn_lines, position_after, IsLasting}
 
 -- ---- what is known
 

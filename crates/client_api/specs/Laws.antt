@@ -6,8 +6,8 @@ use Rattle.rev_log.specs.Changes.{RevisionData}
 use Rattle.rev_log.specs.Logs.{Fits}
 use Rattle.up_api.specs.Sections.{log_of, Learns}
 use Rattle.select_all.specs.declared.selection.Meaning.{Meaning}
-use Rattle.select_all.specs.declared.selection.Meaning.TheVariants.{MostRecent, Any, NotOlder, Exact}
 use Rattle.select_all.specs.Listings.{IsListing}
+use Rattle.select_all.specs.Meanings.{IsAtLeast}
 use Rattle.list_rules.specs.declared.ask.ListAsk.{ListAsk}
 use Rattle.list_rules.specs.Pages.{IsPage, left_of}
 use Rattle.watch_rules.specs.declared.ask.WatchAsk.{WatchAsk}
@@ -33,13 +33,6 @@ OnwardsJoin =
 -- a load of this call was made, and its last one gave this
 abbrev pub LooksLoad : Type 0
 LooksLoad = (p m q : Pass RevisionData) (n : ℕ) → m ≡ looked p n → p.shown ≤ n → Learns m q → HasLoaded p q × (q.last ≡ n)
-
--- a revision is at least the one that a meaning names, which isn't that of one revision alone
-abbrev pub IsAtLeast : Meaning → ℕ → Type 0
-IsAtLeast MostRecent at = Unit {0}
-IsAtLeast Any at = Unit {0}
-IsAtLeast (NotOlder asked) at = asked ≤ at
-IsAtLeast (Exact asked) at = ⊥
 
 -- what is seen and isn't older than a load of this call is fresh for each meaning that isn't of one revision alone
 abbrev pub LoadsAreFresh : Type 0

@@ -1,4 +1,5 @@
 pub mod Answers
+pub mod Items
 pub mod Facts
 pub mod Told
 pub mod Fresh

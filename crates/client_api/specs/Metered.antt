@@ -1,5 +1,5 @@
 -- What a client tells a monitor, between what was known before and what is known afterwards.
-use Rattle.std.specs.Prelude.{◌≡◌, ℕ, ◌≤◌, List, length, IfSome, Result, Ok, Err}
+use Rattle.std.specs.Prelude.{◌≡◌, ◌≤◌, List, length, IfSome, Result, Ok, Err}
 use Rattle.std.specs.declared.alloc.AllocError.{AllocError}
 use Rattle.kube_meta.specs.Rows.{RowData}
 use Rattle.kube_meta.specs.declared.resources.Resource.{Resource}

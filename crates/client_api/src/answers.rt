@@ -1,6 +1,7 @@
 //! The answers to reads.
 
 use crate::Line;
+use crate::items::Items;
 use encode_once::Shown;
 use json_obj::More;
 use kube_meta::Memory;
@@ -23,21 +24,21 @@ impl Model for Got {
 }
 
 /// The objects of a selection as they stand at the revision `rev`, or a page of them. Contracts see their rows.
-#[derive(Debug, Drop)]
+#[derive(Drop)]
 pub struct Listed {
     pub rev: u64,
-    pub items: Vec<Arc<Shown>>,
+    pub items: Items,
     /// Where the next page begins, if this one isn't the last.
     pub more: Option<More>,
 }
 
 impl Model for Listed {
-    ghost use Rattle.std.specs.Prelude.{map};
     ghost use Rattle.client_api.specs.Answers.{ListedData};
+    ghost use Rattle.client_api.specs.Items.{rows_of};
 
     ghost Value = { ListedData };
 
-    ghost view = { λ l. record { rev = l.rev; rows = map (λ shown. shown.value) l.items.items; more = l.more } };
+    ghost view = { λ l. record { rev = l.rev; rows = rows_of l.items; more = l.more } };
 }
 
 /// Where a watch begins: the revision, and the objects that stood there, where these are sent. Contracts see their

@@ -8,11 +8,13 @@
 mod answers;
 mod calling;
 mod client;
+mod items;
 mod laws;
 mod pages;
 
 pub use answers::{Begun, Got, ListNo, Listed, Took};
 pub use client::Client;
+pub use items::{ItemRows, Items};
 pub use laws::{
     lists_agree, loads_are_ends, loads_are_fresh, looks_load, onwards_join, starts_tell, turns_tell,
 };

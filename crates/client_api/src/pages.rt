@@ -8,6 +8,7 @@ ghost use Rattle.client_api.specs.Lists.{IsCut, more_of, page_at};
 ghost use Rattle.client_api.specs.Refusals.{refusal_above};
 
 use crate::answers::{ListNo, Listed};
+use crate::items::Items;
 use encode_once::Shown;
 use json_obj::More;
 use kube_meta::{Key, Memory};
@@ -54,7 +55,7 @@ pub fn page_before(
     let more = more(alloc, ask, rev, rows.as_slice(), left)?;
     Ok(Listed {
         rev,
-        items: rows,
+        items: Items::Picked(rows),
         more,
     })
 }

@@ -1,9 +1,9 @@
 -- The items of a list, one after the other.
-use Rattle.std.proofs.Common.{◌≡◌, ℕ, suc, ◌+◌, ◌<◌, List, [], ◌∷◌, ◌++◌, length, map, take, drop, get_or, refl, sym, ap, subst, ◌∙◌, length-append, arith, None, Some}
+use Rattle.std.proofs.Common.{◌≡◌, ℕ, ◌+◌, List, [], ◌∷◌, ◌++◌, length, map, refl, sym, ap, subst, ◌∙◌, length-append, append_assoc, arith, None, Some}
 use Rattle.std.specs.List.{flat_map}
 use Rattle.std.specs.Option.{SomeIff, IfSome}
 use Rattle.std.specs.Prelude.{Option}
-use Rattle.edge_io.proofs.PieceLemmas.{AppendedSome-inside, flat_map-at}
+use Rattle.edge_io.proofs.PieceLemmas.{AppendedSome-inside}
 use Rattle.edge_io.specs.Counts.{Rose}
 use Rattle.edge_io.specs.Sent.{IsWrittenOut, IsBrokenOff}
 use Rattle.edge_io.proofs.SentLemmas.{bytes_of}
@@ -22,36 +22,40 @@ sum_is P None v n p e = tt
 sum_is P (Some x) v n p e = p.1 ∙ e
 
 -- the items after the first, each with its comma
-later_items-rows : {X : Type 0} (form : Form) (row : X → RowData) (later : List X)
-    → later_items (map (shown_row form) (map row later)) ≡ flat_map (λ x. 44 ∷ shown_row form (row x)) later
-later_items-rows form row [] = refl
-later_items-rows form row (x ∷ later) = ap (λ t. 44 ∷ (shown_row form (row x) ++ t)) (later_items-rows form row later)
+later_items-rows : (form : Form) (later : List RowData) → later_items (map (shown_row form) later) ≡ flat_map (λ row. 44 ∷ shown_row form row) later
+later_items-rows form [] = refl
+later_items-rows form (row ∷ later) = ap (λ t. 44 ∷ (shown_row form row ++ t)) (later_items-rows form later)
 
 -- all of them: the first, and then the others
-module _ {X : Type 0} (form : Form) (row : X → RowData) (items : List X) (first : X) (later : List X) (are : items ≡ first ∷ later)
-    (text : List ℕ) (shows : text ≡ shown_row form (row first)) where
-  pub rows_text-cons : rows_text form (map row items) ≡ text ++ flat_map (λ x. 44 ∷ shown_row form (row x)) later
+module _ (form : Form) (rows : List RowData) (first : RowData) (later : List RowData) (are : rows ≡ first ∷ later)
+    (text : List ℕ) (shows : text ≡ shown_row form first) where
+  pub rows_text-cons : rows_text form rows ≡ text ++ flat_map (λ row. 44 ∷ shown_row form row) later
   rows_text-cons =
-      ap (λ l. rows_text form (map row l)) are
-      ∙ ap (λ t. shown_row form (row first) ++ t) (later_items-rows form row later)
-      ∙ ap (λ t. t ++ flat_map (λ x. 44 ∷ shown_row form (row x)) later) (sym shows)
+      ap (rows_text form) are
+      ∙ ap (λ t. shown_row form first ++ t) (later_items-rows form later)
+      ∙ ap (λ t. t ++ flat_map (λ row. 44 ∷ shown_row form row) later) (sym shows)
 
-  pub rows_text-length : (a b : ℕ) → a ≡ length text → b ≡ length (flat_map (λ x. 44 ∷ shown_row form (row x)) later)
-      → a + b ≡ length (rows_text form (map row items))
+  pub rows_text-length : (a b : ℕ) → a ≡ length text → b ≡ length (flat_map (λ row. 44 ∷ shown_row form row) later)
+      → a + b ≡ length (rows_text form rows)
   rows_text-length a b counted others =
-      let whole = ap length rows_text-cons ∙ length-append text (flat_map (λ x. 44 ∷ shown_row form (row x)) later) in
+      let whole = ap length rows_text-cons ∙ length-append text (flat_map (λ row. 44 ∷ shown_row form row) later) in
       omega (arith, whole)
 
--- where one item is broken off, all are
-pub item-broken : {X : Type 0} (f : X → List ℕ) (items : List X) (i : ℕ) (item : X) (a b c : Option (List ℕ)) (k l m : ℕ) (text : List ℕ)
-    → i < length items → item ≡ get_or items i item → text ≡ f item
-    → IsWrittenOut (flat_map f (take i items)) (bytes_of a b k l) → IsBrokenOff text (bytes_of b c l m) → IsBrokenOff (flat_map f items) (bytes_of a c k m)
-item-broken f items i item a b c k l m text h is shows before p = (
-  AppendedSome-inside a b c (flat_map f (take i items)) text (flat_map f (drop (suc i) items)) (flat_map f items) before.0 p.0
-      (flat_map-at f items i item h
-      ∙ ap (λ t. flat_map f (take i items) ++ (t ++ flat_map f (drop (suc i) items))) (sym (ap f is) ∙ sym shows)),
-  subst (λ n. Rose n m) before.1 p.1,
-)
+-- an item follows what is done: what is done then, and what is left, make the same
+module _ (f : RowData → List ℕ) (row : RowData) (before after : List RowData) (next : before ≡ row ∷ after) (text : List ℕ) (shows : text ≡ f row) where
+  items-left : flat_map f before ≡ text ++ flat_map f after
+  items-left = ap (flat_map f) next ∙ ap (λ t. t ++ flat_map f after) (sym shows)
+
+  pub items-written : (done all : List ℕ) → done ++ flat_map f before ≡ all → (done ++ text) ++ flat_map f after ≡ all
+  items-written done all so_far = append_assoc done text (flat_map f after) ∙ ap (λ t. done ++ t) (sym items-left) ∙ so_far
+
+  -- where the item is broken off, all are
+  pub items-broken : (done all : List ℕ) (a b c : Option (List ℕ)) (k l m : ℕ) → done ++ flat_map f before ≡ all
+      → IsWrittenOut done (bytes_of a b k l) → IsBrokenOff text (bytes_of b c l m) → IsBrokenOff all (bytes_of a c k m)
+  items-broken done all a b c k l m so_far written p = (
+    AppendedSome-inside a b c done text (flat_map f after) all written.0 p.0 (sym so_far ∙ ap (λ t. done ++ t) items-left),
+    subst (λ n. Rose n m) written.1 p.1,
+  )
 
 -- a list, from what stands before its items and what stands after them
 pub listed_text : (form : Form) (resource : Resource) (listed : ListedData) (front back : List ℕ)

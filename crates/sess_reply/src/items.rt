@@ -1,12 +1,14 @@
 //! The items of a list, written as the pieces that their objects are kept in: nothing is copied or joined.
 
-ghost use Rattle.std.specs.Prelude.{◌≡◌, [], ◌∷◌, ◌++◌, length, map, IfSome};
+ghost use Rattle.std.specs.Prelude.{◌≡◌, [], ◌∷◌, ◌++◌, length, IfSome};
 ghost use Rattle.std.specs.List.{flat_map};
 ghost use Rattle.edge_io.specs.Sent.{Writes, sent_through};
+ghost use Rattle.client_api.specs.Items.{rows_of, rows_left};
 ghost use Rattle.sess_reply.specs.Contents.{shown_row};
 ghost use Rattle.sess_reply.specs.Items.{rows_text, between};
 
 use crate::body::length_in;
+use client_api::{ItemRows, Items};
 use edge_io::{Failed, Sink};
 use encode_once::Shown;
 use http_send::parts;
@@ -33,14 +35,9 @@ fn later_pieces<'a>(form: Form, shown: &'a Arc<Shown>) -> [&'a [u8]; 6]
 // ---- how long they are, where a number of 64 bits holds it
 
 /// How long the body of a list is: its JSON and the line feed.
-pub(crate) fn list_length(
-    form: Form,
-    front: &[&[u8]],
-    items: &[Arc<Shown>],
-    back: &[&[u8]],
-) -> Option<u64>
+pub(crate) fn list_length(form: Form, front: &[&[u8]], items: &Items, back: &[&[u8]]) -> Option<u64>
     ensures { IfSome result (λ n. n ≡ length (between (flat_map (λ piece. piece.now) front.now) form
-        (map (λ shown. shown.value) items.now) (flat_map (λ piece. piece.now) back.now) ++ 10 ∷ [])) }
+        (rows_of items.now) (flat_map (λ piece. piece.now) back.now) ++ 10 ∷ [])) }
 {
     let front = length_in(front)?;
     let items = items_length(form, items)?;
@@ -48,18 +45,19 @@ pub(crate) fn list_length(
     front.checked_add(items)?.checked_add(back)?.checked_add(1)
 }
 
-fn items_length(form: Form, items: &[Arc<Shown>]) -> Option<u64>
-    ensures { IfSome result (λ n. n ≡ length (rows_text form (map (λ shown. shown.value) items.now))) }
+fn items_length(form: Form, items: &Items) -> Option<u64>
+    ensures { IfSome result (λ n. n ≡ length (rows_text form (rows_of items.now))) }
 {
-    let Some((first, later)) = items.split_first() else {
+    let mut rows = items.rows();
+    let Some(first) = rows.next() else {
         return Some(0);
     };
     let first = length_in(&item_pieces(form, first))?;
-    first.checked_add(later_length(form, later)?)
+    first.checked_add(later_length(form, rows)?)
 }
 
-fn later_length(form: Form, later: &[Arc<Shown>]) -> Option<u64>
-    ensures { IfSome result (λ n. n ≡ length (flat_map (λ shown. 44 ∷ shown_row form shown.value) later.now)) }
+fn later_length(form: Form, later: ItemRows<'_>) -> Option<u64>
+    ensures { IfSome result (λ n. n ≡ length (flat_map (λ row. 44 ∷ shown_row form row) (rows_left later.entry))) }
 {
     let mut total = 0u64;
     for shown in later {
@@ -75,11 +73,11 @@ pub(crate) fn write_list<K: Sink>(
     sink: &mut K,
     form: Form,
     front: &[&[u8]],
-    items: &[Arc<Shown>],
+    items: &Items,
     back: &[&[u8]],
 ) -> Result<(), Failed>
     ensures { Writes result (between (flat_map (λ piece. piece.now) front.now) form
-        (map (λ shown. shown.value) items.now) (flat_map (λ piece. piece.now) back.now))
+        (rows_of items.now) (flat_map (λ piece. piece.now) back.now))
         (sent_through K.written K.settled K.faults sink.old sink.new) }
 {
     parts(sink, front)?;
@@ -90,29 +88,30 @@ pub(crate) fn write_list<K: Sink>(
 fn write_rest<K: Sink>(
     sink: &mut K,
     form: Form,
-    items: &[Arc<Shown>],
+    items: &Items,
     back: &[&[u8]],
 ) -> Result<(), Failed>
-    ensures { Writes result (rows_text form (map (λ shown. shown.value) items.now) ++ flat_map (λ piece. piece.now) back.now)
+    ensures { Writes result (rows_text form (rows_of items.now) ++ flat_map (λ piece. piece.now) back.now)
         (sent_through K.written K.settled K.faults sink.old sink.new) }
 {
     write_items(sink, form, items)?;
     parts(sink, back)
 }
 
-fn write_items<K: Sink>(sink: &mut K, form: Form, items: &[Arc<Shown>]) -> Result<(), Failed>
-    ensures { Writes result (rows_text form (map (λ shown. shown.value) items.now))
+fn write_items<K: Sink>(sink: &mut K, form: Form, items: &Items) -> Result<(), Failed>
+    ensures { Writes result (rows_text form (rows_of items.now))
         (sent_through K.written K.settled K.faults sink.old sink.new) }
 {
-    let Some((first, later)) = items.split_first() else {
+    let mut rows = items.rows();
+    let Some(first) = rows.next() else {
         return Ok(());
     };
     parts(sink, &item_pieces(form, first))?;
-    write_later(sink, form, later)
+    write_later(sink, form, rows)
 }
 
-fn write_later<K: Sink>(sink: &mut K, form: Form, later: &[Arc<Shown>]) -> Result<(), Failed>
-    ensures { Writes result (flat_map (λ shown. 44 ∷ shown_row form shown.value) later.now)
+fn write_later<K: Sink>(sink: &mut K, form: Form, later: ItemRows<'_>) -> Result<(), Failed>
+    ensures { Writes result (flat_map (λ row. 44 ∷ shown_row form row) (rows_left later.entry))
         (sent_through K.written K.settled K.faults sink.old sink.new) }
 {
     for shown in later {

@@ -1,8 +1,9 @@
 //! Lists, written as the pieces that their objects are kept in: no object is copied, and the length is summed before
 //! the head is written.
 
-ghost use Rattle.std.specs.Prelude.{◌≡◌, [], ◌∷◌, ◌++◌, decimal, false, map, option_map};
+ghost use Rattle.std.specs.Prelude.{◌≡◌, [], ◌∷◌, ◌++◌, decimal, false, option_map};
 ghost use Rattle.std.specs.List.{flat_map};
+ghost use Rattle.client_api.specs.Items.{rows_of};
 ghost use Rattle.edge_io.specs.Sent.{sent_through};
 ghost use Rattle.http_send.specs.Replies.{reply_text};
 ghost use Rattle.json_obj.specs.Replies.{list_back};
@@ -15,16 +16,14 @@ ghost use Rattle.sess_reply.specs.Sending.{Sends};
 use crate::Broken;
 use crate::body::end_reply;
 use crate::items::{list_length, write_list};
-use client_api::Listed;
+use client_api::{Items, Listed};
 use edge_io::Sink;
-use encode_once::Shown;
 use http_send::begin_reply;
 use itoa::Buffer;
 use json_obj::{More, quoted};
 use kube_meta::Resource;
 use meta_view::{Form, shown_list_back, shown_list_front, shown_list_more};
 use std::alloc::Global;
-use std::sync::Arc;
 
 /// Replies with a list of the resource in a form.
 pub(crate) fn send_list<K: Sink>(
@@ -67,7 +66,7 @@ fn send_page<K: Sink>(
     ensures { Sends result (content_text close (said 200 (listed_json form resource listed.now))) (sent_through K.written K.settled K.faults sink.old sink.new) }
 {
     let front = shown_list_front(form, resource);
-    send_items(sink, form, close, &front, listed.items.as_slice(), back)
+    send_items(sink, form, close, &front, &listed.items, back)
 }
 
 // The digits of how many items are left, where that is told.
@@ -86,10 +85,10 @@ fn send_items<K: Sink>(
     form: Form,
     close: bool,
     front: &[&[u8]],
-    items: &[Arc<Shown>],
+    items: &Items,
     back: &[&[u8]],
 ) -> Result<(), Broken>
-    ensures { Sends result (reply_text 200 false close (between (flat_map (λ piece. piece.now) front.now) form (map (λ shown. shown.value) items.now) (flat_map (λ piece. piece.now) back.now) ++ 10 ∷ []))
+    ensures { Sends result (reply_text 200 false close (between (flat_map (λ piece. piece.now) front.now) form (rows_of items.now) (flat_map (λ piece. piece.now) back.now) ++ 10 ∷ []))
         (sent_through K.written K.settled K.faults sink.old sink.new) }
 {
     let Some(length) = list_length(form, front, items, back) else {
@@ -104,10 +103,10 @@ fn write_body<K: Sink>(
     sink: &mut K,
     form: Form,
     front: &[&[u8]],
-    items: &[Arc<Shown>],
+    items: &Items,
     back: &[&[u8]],
 ) -> Result<(), Broken>
-    ensures { Sends result (between (flat_map (λ piece. piece.now) front.now) form (map (λ shown. shown.value) items.now) (flat_map (λ piece. piece.now) back.now) ++ 10 ∷ [])
+    ensures { Sends result (between (flat_map (λ piece. piece.now) front.now) form (rows_of items.now) (flat_map (λ piece. piece.now) back.now) ++ 10 ∷ [])
         (sent_through K.written K.settled K.faults sink.old sink.new) }
 {
     write_list(sink, form, front, items, back)?;

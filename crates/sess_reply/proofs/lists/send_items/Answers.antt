@@ -1,6 +1,7 @@
-use Rattle.std.proofs.Common.{[], ◌∷◌, ◌++◌, false, length, map}
+use Rattle.std.proofs.Common.{[], ◌∷◌, ◌++◌, false, length}
 use Rattle.std.specs.List.{flat_map}
 use Rattle.http_send.specs.Replies.{reply_head_text}
+use Rattle.client_api.specs.Items.{rows_of}
 use Rattle.edge_io.proofs.SentLemmas.{broken-first}
 use Rattle.sess_reply.specs.Items.{between}
 use Rattle.sess_reply.proofs.SendLemmas.{sends-broken, sends-behind}
@@ -8,7 +9,7 @@ use Rattle.sess_reply.proofs.lists.send_items.Goals as goal
 
 pub returns-in_err-begin_reply : goal.returns-in_err-begin_reply
 returns-in_err-begin_reply g c =
-    let body = between (flat_map (λ piece. piece.now) c.args.front.now) c.args.form (map (λ shown. shown.value) c.args.items.now)
+    let body = between (flat_map (λ piece. piece.now) c.args.front.now) c.args.form (rows_of c.args.items.now)
     (flat_map (λ piece. piece.now) c.args.back.now) ++ 10 ∷ [] in
     let head = rw c.in-Some.ensures at c.in_err-begin_reply.ensures in
     sends-broken c.from_residual.result _ _ c.from_residual.ensures.1
@@ -16,7 +17,7 @@ returns-in_err-begin_reply g c =
 
 pub returns : goal.returns
 returns g c =
-    let body = between (flat_map (λ piece. piece.now) c.args.front.now) c.args.form (map (λ shown. shown.value) c.args.items.now)
+    let body = between (flat_map (λ piece. piece.now) c.args.front.now) c.args.form (rows_of c.args.items.now)
     (flat_map (λ piece. piece.now) c.args.back.now) ++ 10 ∷ [] in
     let head = rw c.in-Some.ensures at c.in_ok-begin_reply.ensures in
     sends-behind c.write_body.result _ _ _ _ _ _ _ _ _ (reply_head_text 200 false c.args.close (length body)) body head c.write_body.ensures
