@@ -1,3 +1,1 @@
-pub mod CacheLemmas
-pub mod FollowLemmas
-pub mod StandLemmas
+pub mod SoleLemmas

@@ -3,10 +3,9 @@
 //! takes no lock and has no lanes.
 #![tactic(auto)]
 
-mod cached_log;
-mod caches;
 mod client;
-mod resource_cache;
-mod watching;
+mod making;
+mod sole;
+mod telling;
 
 pub use client::LocalClient;

@@ -1,5 +1,1 @@
-pub mod KnowingLemmas
-pub mod CacheLemmas
-pub mod StandLemmas
-pub mod WatchLemmas
-pub mod MeasureLemmas
+pub mod LaneLemmas

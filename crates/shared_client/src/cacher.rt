@@ -7,12 +7,11 @@ ghost use Rattle.rev_log.specs.Logs.{Fits};
 ghost use Rattle.up_api.specs.Sections.{Learns};
 ghost use Rattle.up_api.specs.Settings.{AreInRange};
 
-use crate::cache_state::CacheState;
 use crate::client::SharedClient;
-use crate::resources::{OfConfigMaps, OfDeployments, OfPods, OfResource};
 use bells::Bell;
 use cache_answers::both;
-use kube_meta::Memory;
+use cached_client::{CacheState, OfConfigMaps, OfDeployments, OfPods, OfResource};
+use kube_meta::{Memory, Resource};
 use std::alloc::Global;
 use std::sync::{Arc, Mutex, Wait};
 use up_api::{LogFacts, Pass, Settings};
@@ -121,8 +120,8 @@ impl<N: LogFacts, R: Wait + Copy> Cacher<N, R> {
         self.deployments.lock(&self.rt).tick(ms);
     }
 
-    /// Builds each cache anew, and answers the compaction floor from which the last one was built. After want of memory
-    /// each is the old one or the new one.
+    /// Builds each cache anew, and answers the compaction floor from which the last one was built. After want of
+    /// memory each is the old one or the new one.
     pub fn restart(&self, told: &mut Pass<N>) -> Result<u64, Memory>
         ensures learns { Learns told.old told.new }
         ensures floor { IfOk result (λ floor. (told.old.floor ≤ floor) × (floor ≤ told.new.floor)) }
@@ -139,6 +138,15 @@ impl<N: LogFacts, R: Wait + Copy> Cacher<N, R> {
         self.pods.lock(&self.rt).rebuild(door, told)?;
         self.config_maps.lock(&self.rt).rebuild(door, told)?;
         self.deployments.lock(&self.rt).rebuild(door, told)
+    }
+
+    /// Closes a lane of a resource's cache, if it is open.
+    pub(crate) fn close_lane(&self, resource: Resource, id: u64) {
+        match resource {
+            Resource::Pods => self.pods.lock(&self.rt).close(id),
+            Resource::ConfigMaps => self.config_maps.lock(&self.rt).close(id),
+            Resource::Deployments => self.deployments.lock(&self.rt).close(id),
+        }
     }
 }
 

@@ -1,45 +1,36 @@
 //! The shared client.
 
-ghost use Rattle.std.specs.Prelude.{◌≡◌, ◌≤◌, None, IfOk, IfErr};
+ghost use Rattle.std.specs.Prelude.{◌≡◌, ◌≤◌, None, IfOk};
 ghost use Rattle.rev_front.specs.Passes.{IsPass, Whole, pass_from};
 ghost use Rattle.rev_log.specs.Changes.{RevisionData};
 ghost use Rattle.rev_log.specs.Logs.{Fits};
-ghost use Rattle.rev_log.specs.States.{IsStateAt};
-ghost use Rattle.up_api.specs.Sections.{log_of};
 ghost use Rattle.up_store.specs.Replies.{IsOperationReply};
 ghost use Rattle.up_store.specs.declared.operations.Operate.TheVariants as operations;
 ghost use Rattle.client_api.specs.Facts.{IsOnward};
-ghost use Rattle.client_api.specs.Fresh.{IsFresh};
-ghost use Rattle.shared_client.specs.Serving.{IsRefused};
 
 use crate::cacher::Cacher;
-use crate::measuring::measure;
-use crate::reads::reach;
-use crate::watching::{Watch, begin, stand, turn};
+use crate::lanes::WatchLane;
+use crate::shared::SharedCaches;
 use bells::Bell;
-use cache_answers::{both, found, listed};
+use cache_answers::both;
+use cached_client::{Watch, begin, close, get, list, measure, stand, turn};
 use client_api::{Begun, Client, Got, ListNo, Listed, Took};
-use kube_meta::{Memory, Resource};
+use kube_meta::Memory;
 use list_rules::{GetAsk, ListAsk};
 use metrics::Metrics;
-use obj_tree::Snapshot;
-use select_all::Meaning;
 use std::sync::{Arc, Wait};
 use up_api::{LogFacts, Pass};
 use up_store::{OpNo, Operate, StoreDoor, Transaction, TxWriteNo, WriteAsk, WriteNo, Written};
 use watch_rules::WatchAsk;
 
-/// One of many clients of a log. It answers from the caches of its `Cacher`, which it shares with the others, and has a
-/// pass and a door to the store of its own, and the bell that ends the rests of its watches, if there is one.
+/// One of many clients of a log. It answers from the caches of its `Cacher`, which it shares with the others, and has
+/// a pass and a door to the store of its own, and the bell that ends the rests of its watches, if there is one.
 ///
 /// Its lane is closed when its watch ends, and when it is let go.
-#[derive(Drop)]
 pub struct SharedClient<'a, N: LogFacts, R: Wait + Copy> {
-    cacher: &'a Cacher<N, R>,
-    door: StoreDoor<N, R>,
-    bell: Option<Arc<Bell>>,
+    caches: SharedCaches<'a, N, R>,
     pub(crate) told: Pass<N>,
-    pub(crate) watch: Option<Watch<'a, N, R>>,
+    pub(crate) watch: Option<Watch<WatchLane<N>>>,
     pub(crate) heard: u64,
 }
 
@@ -53,9 +44,11 @@ impl<'a, N: LogFacts, R: Wait + Copy> SharedClient<'a, N, R> {
         let (door, told) = both(cacher.door.again(), cacher.door.pass())?;
         let _known = told.shown();
         Ok(SharedClient {
-            cacher,
-            door,
-            bell: None,
+            caches: SharedCaches {
+                cacher,
+                door,
+                bell: None,
+            },
             told,
             watch: None,
             heard: 0,
@@ -69,30 +62,21 @@ impl<'a, N: LogFacts, R: Wait + Copy> SharedClient<'a, N, R> {
         ensures heard { result.heard ≡ self.entry.heard }
         ensures told { result.told ≡ self.entry.told }
     {
-        let SharedClient {
-            cacher,
-            door,
-            bell: _,
-            told,
-            watch,
-            heard,
-        } = self;
-        SharedClient {
-            cacher,
-            door,
-            bell,
-            told,
-            watch,
-            heard,
-        }
+        let mut client = self;
+        client.caches.ring_by(bell);
+        client
     }
 }
 
-// The same bell once more.
-fn shared(bell: &Option<Arc<Bell>>) -> Result<Option<Arc<Bell>>, Memory> {
-    match bell {
-        Some(bell) => Ok(Some(Arc::try_clone(bell)?)),
-        None => Ok(None),
+impl<N: LogFacts, R: Wait + Copy> Drop for SharedClient<'_, N, R> {
+    fn drop(self) {
+        let SharedClient {
+            caches,
+            told: _,
+            watch,
+            heard: _,
+        } = self;
+        close(&caches, watch);
     }
 }
 
@@ -116,43 +100,28 @@ impl<N: LogFacts, R: Wait + Copy> Client for SharedClient<'_, N, R> {
     ghost times = { λ _ _. None };
 
     fn write(&mut self, ask: &WriteAsk) -> Result<Written, WriteNo> {
-        let answer = self.door.write(ask, &mut self.told);
+        let answer = self.caches.door.write(ask, &mut self.told);
         let _known = self.told.shown();
         answer
     }
 
     fn transact(&mut self, ask: &Transaction) -> Result<Vec<Written>, TxWriteNo> {
-        let answer = self.door.transact(ask, &mut self.told);
+        let answer = self.caches.door.transact(ask, &mut self.told);
         let _known = self.told.shown();
         answer
     }
 
     fn get(&mut self, ask: &GetAsk) -> Result<Got, ListNo> {
-        let (at, state) = read(
-            self.cacher,
-            &mut self.door,
-            &mut self.told,
-            ask.resource,
-            ask.meaning,
-        )?;
-        found(&state, &ask.key, at)
+        get(&mut self.caches, &mut self.told, ask)
     }
 
     fn list(&mut self, ask: &ListAsk) -> Result<Listed, ListNo> {
-        let (at, state) = read(
-            self.cacher,
-            &mut self.door,
-            &mut self.told,
-            ask.selection.resource,
-            ask.meaning,
-        )?;
-        Ok(listed(self.cacher.alloc, ask, at, &state)?)
+        list(&mut self.caches, &mut self.told, ask)
     }
 
     fn watch(&mut self, ask: &WatchAsk) -> Result<Begun, ListNo> {
-        let bell = shared(&self.bell)?;
-        let (begun, watch) = begin(self.cacher, &mut self.door, &mut self.told, ask, bell)?;
-        self.watch = Some(watch);
+        let (begun, watch) = begin(&mut self.caches, &mut self.told, ask)?;
+        close(&self.caches, self.watch.replace(watch));
         Ok(begun)
     }
 
@@ -160,25 +129,25 @@ impl<N: LogFacts, R: Wait + Copy> Client for SharedClient<'_, N, R> {
         let Some(watch) = &mut self.watch else {
             unreachable!()
         };
-        let took = turn(&mut self.door, &mut self.told, watch, max, self.heard)?;
-        stand(&mut self.watch, &took);
+        let took = turn(&mut self.caches, &mut self.told, watch, max, self.heard)?;
+        stand(&self.caches, &mut self.watch, &took);
         Ok(took)
     }
 
     fn end_watch(&mut self) {
-        self.watch = None;
+        close(&self.caches, self.watch.take());
     }
 
     fn operate(&mut self, ask: Operate) -> Result<u64, OpNo> {
         match ask {
-            Operate::Cut => cut(&self.door, &mut self.told),
-            Operate::Compact { at } => compact(&self.door, &mut self.told, at),
-            Operate::Restart => restart(self.cacher, &mut self.told),
+            Operate::Cut => cut(&self.caches.door, &mut self.told),
+            Operate::Compact { at } => compact(&self.caches.door, &mut self.told, at),
+            Operate::Restart => restart(self.caches.cacher, &mut self.told),
         }
     }
 
     fn metrics(&mut self) -> Result<Metrics, Memory> {
-        measure(self.cacher, &mut self.door, &mut self.told)
+        measure(&mut self.caches, &mut self.told)
     }
 
     fn is_ready(&self) -> bool {
@@ -188,29 +157,6 @@ impl<N: LogFacts, R: Wait + Copy> Client for SharedClient<'_, N, R> {
     fn tick(&mut self, ms: u64) {
         self.heard = self.heard.max(ms);
     }
-}
-
-// The objects of a resource at a revision that will do for the meaning. What has to be loaded is loaded before the
-// cache is locked.
-fn read<N: LogFacts, R: Wait + Copy>(
-    cacher: &Cacher<N, R>,
-    door: &mut StoreDoor<N, R>,
-    told: &mut Pass<N>,
-    resource: Resource,
-    meaning: Meaning,
-) -> Result<(u64, Snapshot), ListNo>
-    ensures onward { IsOnward told.old told.new }
-    ensures state { IfOk result (λ r. IsStateAt (log_of N.base told.new) resource r.0 r.1) }
-    ensures fresh { IfOk result (λ r. IsFresh told.old meaning r.0 told.new) }
-    ensures refused { IfErr result (IsRefused told.old meaning told.new) }
-{
-    if let Some(no) = reach(told, meaning) {
-        let _known = told.shown();
-        return Err(no);
-    }
-    let answer = cacher.serve(resource, door, told, meaning);
-    let _known = told.shown();
-    answer
 }
 
 // Cuts all feeds.

@@ -1,5 +1,4 @@
 use Rattle.std.proofs.Common.{ℕ, List, length, sym, ap, subst, ◌∙◌, arith, rules}
-use Rattle.std.proofs.lemmas.List.{length-map}
 use Rattle.client_api.specs.Answers.{ListedData}
 use Rattle.load_gen.specs.Replies.{AreReplies, AreCounted}
 use Rattle.load_gen.proofs.LoadLemmas.{tallied}
@@ -17,5 +16,5 @@ returns c =
           let found = c.in_ok-codes.ensures codes (subst (AreReplies codes) (sym c.bytes.ensures) replies) in
           subst (λ (x : List ℕ). AreCounted x counts.ok counts.refused) (c.as_slice.ensures.value ∙ found) c.in-Some.ensures;
       revision = ap (λ (x : ListedData). x.rev) c.list.view_is;
-      items = omega (arith, simp length-map at rows, c.len.ensures, c.list.inside.items.ok.0);
+      items = omega (arith, rows, c.len.ensures);
     })

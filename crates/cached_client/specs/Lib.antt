@@ -1,0 +1,5 @@
+pub mod Knowing
+pub mod CacheStates
+pub mod Serving
+pub mod Watching
+pub mod Caches

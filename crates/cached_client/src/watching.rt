@@ -1,0 +1,289 @@
+//! Watches: where they begin, and what their turns give.
+
+ghost use Rattle.std.specs.Prelude.{◌≡◌, ◌≤◌, [], IfOk, IfErr, Err, nat_le, option_and_then};
+ghost use Rattle.rev_front.specs.Passes.{IsPass, end_from};
+ghost use Rattle.rev_log.specs.Logs.{Fits};
+ghost use Rattle.up_api.specs.Sections.{Learns};
+ghost use Rattle.select_all.specs.Listings.{listing};
+ghost use Rattle.client_api.specs.declared.answers.Took.TheVariants.{Quiet};
+ghost use Rattle.client_api.specs.Caches.{StartsWithin, TakesWithin};
+ghost use Rattle.client_api.specs.Facts.{IsOnward};
+ghost use Rattle.client_api.specs.Starts.{IsWatchAnswer, IsWatchStart};
+ghost use Rattle.client_api.specs.Turns.{IsWatchTurn, watch_after};
+ghost use Rattle.cache_answers.specs.Turns.{moved_to};
+ghost use Rattle.cached_client.specs.Caches.{KnowsOwn, LoadsBetween, ReadsFor};
+ghost use Rattle.cached_client.specs.Watching.{BeginsAtEnd, IsStartLost, none_of};
+
+use crate::answering::load;
+use crate::caches::Caches;
+use cache_answers::{bare, opened, unreached};
+use cache_hub::CatchNo;
+use client_api::{Begun, ListNo, Took};
+use kube_meta::Memory;
+use select_all::Selection;
+use std::marker::Model;
+use up_api::{LogFacts, Pass};
+use watch_rules::{Start, WatchAsk};
+
+/// A watch, up to where it is told, and what its caches have of it.
+#[derive(Drop)]
+pub struct Watch<L> {
+    pub selection: Selection,
+    pub position: u64,
+    pub lane: L,
+}
+
+impl<L> Model for Watch<L> {
+    ghost use Rattle.client_api.specs.Facts.{Watched};
+
+    ghost Value = { Watched };
+
+    ghost view = { λ w. record { selection = w.selection; position = w.position } };
+}
+
+/// Where a watch begins, and the watch.
+#[tactic(auto, using(crate::proofs::CallLemmas::loads_on, crate::proofs::CallLemmas::reads_since))]
+pub fn begin<N: LogFacts, C: Caches<N>>(
+    caches: &mut C,
+    told: &mut Pass<N>,
+    ask: &WatchAsk,
+) -> Result<(Begun, Watch<C::Lane>), ListNo>
+    ensures facts { C.facts caches.new ≡ C.facts caches.old }
+    ensures onward { IsOnward told.old told.new }
+    ensures loads { LoadsBetween told.old told.new }
+    ensures knows { KnowsOwn (C.facts caches.new) told.new }
+    ensures started { IfOk result (λ r. IsWatchStart N.base told.old ask.now r.0 told.new) }
+    ensures watch { IfOk result (λ r. r.1 ≡ record { selection = ask.now.selection; position = r.0.at }) }
+    ensures refused { IfErr result (λ no. IsWatchAnswer N.base (C.facts caches.old).window told.old ask.now (Err no) told.new) }
+    ensures reads { ReadsFor ask.now.selection.resource told.old told.new (C.cached caches.old) (C.cached caches.new) }
+    ensures within { C.alone → IfOk result (λ r. StartsWithin ask.now.start r.0 ((C.cached caches.new).ends ask.now.selection.resource)) }
+{
+    let loaded = load(caches, told);
+    if let Some(no) = unreached(ask.start, loaded) {
+        return Err(no);
+    }
+    match ask.start {
+        Start::FromState(_) => begin_from_state(caches, told, &ask.selection),
+        Start::FromHere(_) => begin_from_here(caches, told, &ask.selection),
+        Start::FromRevision(asked) => begin_from(caches, told, &ask.selection, asked),
+    }
+}
+
+// With the objects at the end of the cache.
+#[tactic(auto, using(crate::proofs::CallLemmas::knew))]
+fn begin_from_state<N: LogFacts, C: Caches<N>>(
+    caches: &mut C,
+    told: &mut Pass<N>,
+    wanted: &Selection,
+) -> Result<(Begun, Watch<C::Lane>), ListNo>
+    requires knew { KnowsOwn (C.facts caches.old) told.old }
+    ensures facts { C.facts caches.new ≡ C.facts caches.old }
+    ensures learns { Learns told.old told.new }
+    ensures lawful { IsPass Fits told.new }
+    ensures knows { KnowsOwn (C.facts caches.new) told.new }
+    ensures begun { IfOk result (λ r. BeginsAtEnd N.base wanted.now told.old.shown (listing wanted.now) r.0 told.new) }
+    ensures watch { IfOk result (λ r. r.1 ≡ record { selection = wanted.now; position = r.0.at }) }
+    ensures refused { IfErr result (λ no. no ≡ ListNo.Memory) }
+    ensures reads { ReadsFor wanted.now.resource told.old told.new (C.cached caches.old) (C.cached caches.new) }
+    ensures within { C.alone → IfOk result (λ r. r.0.at ≤ (C.cached caches.new).ends wanted.now.resource) }
+{
+    let started = caches.start_at_end(told, wanted);
+    caches.settle(told);
+    let _known = told.shown();
+    let (position, state, lane) = started?;
+    match opened(caches.alloc(), wanted, position, &state) {
+        Ok(begun) => {
+            let watch = watch_at(caches, wanted, position, lane)?;
+            Ok((begun, watch))
+        }
+        Err(_) => {
+            caches.close(lane);
+            Err(ListNo::Memory)
+        }
+    }
+}
+
+// At the end of the cache.
+#[tactic(auto, using(crate::proofs::CallLemmas::knew))]
+fn begin_from_here<N: LogFacts, C: Caches<N>>(
+    caches: &mut C,
+    told: &mut Pass<N>,
+    wanted: &Selection,
+) -> Result<(Begun, Watch<C::Lane>), ListNo>
+    requires knew { KnowsOwn (C.facts caches.old) told.old }
+    ensures facts { C.facts caches.new ≡ C.facts caches.old }
+    ensures learns { Learns told.old told.new }
+    ensures lawful { IsPass Fits told.new }
+    ensures knows { KnowsOwn (C.facts caches.new) told.new }
+    ensures begun { IfOk result (λ r. BeginsAtEnd N.base wanted.now told.old.shown none_of r.0 told.new) }
+    ensures watch { IfOk result (λ r. r.1 ≡ record { selection = wanted.now; position = r.0.at }) }
+    ensures refused { IfErr result (λ no. no ≡ ListNo.Memory) }
+    ensures reads { ReadsFor wanted.now.resource told.old told.new (C.cached caches.old) (C.cached caches.new) }
+    ensures within { C.alone → IfOk result (λ r. r.0.at ≤ (C.cached caches.new).ends wanted.now.resource) }
+{
+    let started = caches.start_at_end(told, wanted);
+    caches.settle(told);
+    let _known = told.shown();
+    let (position, _, lane) = started?;
+    let watch = watch_at(caches, wanted, position, lane)?;
+    Ok((bare(caches.alloc(), position), watch))
+}
+
+// At a revision.
+#[tactic(auto, using(crate::proofs::CallLemmas::knew))]
+fn begin_from<N: LogFacts, C: Caches<N>>(
+    caches: &mut C,
+    told: &mut Pass<N>,
+    wanted: &Selection,
+    position: u64,
+) -> Result<(Begun, Watch<C::Lane>), ListNo>
+    requires knew { KnowsOwn (C.facts caches.old) told.old }
+    ensures facts { C.facts caches.new ≡ C.facts caches.old }
+    ensures learns { Learns told.old told.new }
+    ensures lawful { IsPass Fits told.new }
+    ensures knows { KnowsOwn (C.facts caches.new) told.new }
+    ensures begun { IfOk result (λ r. r.0 ≡ record { at = position; rows = [] }) }
+    ensures watch { IfOk result (λ r. r.1 ≡ record { selection = wanted.now; position = position }) }
+    ensures refused { IfErr result (IsStartLost N.base (C.facts caches.old).window wanted.now position told.new) }
+    ensures reads { ReadsFor wanted.now.resource told.old told.new (C.cached caches.old) (C.cached caches.new) }
+{
+    let started = caches.start_from(told, wanted, position);
+    caches.settle(told);
+    let _known = told.shown();
+    match started {
+        Ok(lane) => {
+            let watch = watch_at(caches, wanted, position, lane)?;
+            Ok((bare(caches.alloc(), position), watch))
+        }
+        Err(CatchNo::Lost { at, floor }) => Err(ListNo::Expired { asked: at, floor }),
+        Err(CatchNo::Memory) => Err(ListNo::Memory),
+    }
+}
+
+// A watch that stands at a revision. What the caches have of it is closed where there is no memory for the watch.
+fn watch_at<N: LogFacts, C: Caches<N>>(
+    caches: &C,
+    wanted: &Selection,
+    position: u64,
+    lane: C::Lane,
+) -> Result<Watch<C::Lane>, Memory>
+    ensures { IfOk result (λ watch. watch ≡ record { selection = wanted.now; position = position }) }
+{
+    match wanted.copy(caches.alloc()) {
+        Ok(selection) => Ok(Watch {
+            selection,
+            position,
+            lane,
+        }),
+        Err(refused) => {
+            caches.close(lane);
+            Err(refused)
+        }
+    }
+}
+
+/// A turn of a watch. What was sent to it comes first; where nothing was, the revision that the log has reached is
+/// loaded. Where it is at the watch's position the turn is quiet, if the watch may rest there; else the caches are
+/// asked.
+#[tactic(auto, using(crate::proofs::CallLemmas::loads_none))]
+pub fn turn<N: LogFacts, C: Caches<N>>(
+    caches: &mut C,
+    told: &mut Pass<N>,
+    watch: &mut Watch<C::Lane>,
+    max: usize,
+    ms: u64,
+) -> Result<Took, Memory>
+    requires max { 1 ≤ max }
+    ensures facts { C.facts caches.new ≡ C.facts caches.old }
+    ensures onward { IsOnward told.old told.new }
+    ensures loads { LoadsBetween told.old told.new }
+    ensures knows { KnowsOwn (C.facts caches.new) told.new }
+    ensures watch { watch.new ≡ watch.old }
+    ensures turn { IfOk result (λ took. IsWatchTurn N.base (C.facts caches.old).window told.old watch.old took told.new) }
+    ensures reads { ReadsFor watch.old.selection.resource told.old told.new (C.cached caches.old) (C.cached caches.new) }
+    ensures within { C.alone → IfOk result (λ took. TakesWithin took ((C.cached caches.new).ends watch.old.selection.resource)) }
+{
+    let sent = caches.sent(told, &mut watch.lane, &watch.selection, watch.position);
+    let _known = told.shown();
+    match sent {
+        Some(took) => took,
+        None => caught_up(caches, told, watch, max, ms),
+    }
+}
+
+// A turn to which nothing was sent.
+#[tactic(auto, using(crate::proofs::CallLemmas::loads_on, crate::proofs::CallLemmas::knew, crate::proofs::CallLemmas::reads_since))]
+fn caught_up<N: LogFacts, C: Caches<N>>(
+    caches: &mut C,
+    told: &mut Pass<N>,
+    watch: &mut Watch<C::Lane>,
+    max: usize,
+    ms: u64,
+) -> Result<Took, Memory>
+    requires max { 1 ≤ max }
+    ensures facts { C.facts caches.new ≡ C.facts caches.old }
+    ensures onward { IsOnward told.old told.new }
+    ensures loads { LoadsBetween told.old told.new }
+    ensures knows { KnowsOwn (C.facts caches.new) told.new }
+    ensures watch { watch.new ≡ watch.old }
+    ensures turn { IfOk result (λ took. IsWatchTurn N.base (C.facts caches.old).window told.old watch.old took told.new) }
+    ensures reads { ReadsFor watch.old.selection.resource told.old told.new (C.cached caches.old) (C.cached caches.new) }
+    ensures within { C.alone → IfOk result (λ took. TakesWithin took ((C.cached caches.new).ends watch.old.selection.resource)) }
+{
+    let loaded = load(caches, told);
+    if caches.may_rest(&watch.lane) && loaded <= watch.position && loaded <= told.end() {
+        return Ok(quiet(told, watch.position));
+    }
+    let took = caches.turn(
+        told,
+        &mut watch.lane,
+        &watch.selection,
+        watch.position,
+        max,
+        ms,
+    );
+    caches.settle(told);
+    let _known = told.shown();
+    took
+}
+
+// A turn at which the watch stays where it is.
+fn quiet<N: LogFacts>(told: &Pass<N>, position: u64) -> Took
+    ensures { result ≡ Quiet position (nat_le position (end_from told.now.first told.now.seen)) }
+{
+    Took::Quiet {
+        upto: position,
+        reached: position <= told.end(),
+    }
+}
+
+/// Closes what the caches have of a watch, if there is one.
+pub fn close<N: LogFacts, C: Caches<N>>(caches: &C, watch: Option<Watch<C::Lane>>) {
+    if let Some(watch) = watch {
+        let Watch {
+            selection: _,
+            position: _,
+            lane,
+        } = watch;
+        caches.close(lane);
+    }
+}
+
+/// Leaves the watch where a turn leaves it.
+pub fn stand<N: LogFacts, C: Caches<N>>(caches: &C, watch: &mut Option<Watch<C::Lane>>, took: &Took)
+    ensures { watch.new ≡ option_and_then (watch_after took.now) watch.old }
+{
+    match took {
+        Took::Events { upto, .. } | Took::Quiet { upto, .. } => move_to(watch, *upto),
+        Took::Lost { .. } => close(caches, watch.take()),
+    }
+}
+
+// Moves the watch to a revision.
+fn move_to<L>(watch: &mut Option<Watch<L>>, upto: u64)
+    ensures { watch.new ≡ moved_to upto watch.old }
+{
+    if let Some(watch) = watch {
+        watch.position = upto;
+    }
+}

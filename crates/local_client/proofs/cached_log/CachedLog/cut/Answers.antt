@@ -1,5 +1,0 @@
-use Rattle.local_client.proofs.CacheLemmas.{follow_later}
-use Rattle.local_client.proofs.cached_log.CachedLog.cut.Goals as goal
-
-pub invariant_of-self : goal.invariant_of-self
-invariant_of-self g c = follow_later g.N.LogFacts.base c.self.inside.told c.drop_feeds-answer.new.told c.self.inside.caches c.drop_feeds-answer.ensures.learns.extends c.self.inside.caches.pods.hub.cache.ring.window c.self.invariant

@@ -1,5 +1,0 @@
-use Rattle.shared_client.proofs.CacheLemmas.{follows_lanes}
-use Rattle.shared_client.proofs.cache_state.CacheState.close.Goals as goal
-
-pub invariant_of-self : goal.invariant_of-self
-invariant_of-self g c = follows_lanes g.N.LogFacts.base g.N.LogFacts.window g.One.OfResource.resource (record { hub = c.self.inside.hub; reflector = c.self.inside.reflector; pass = c.self.inside.pass }) c.close_lane.new.self c.self.invariant c.close_lane.ensures.same c.close_lane.ensures.stands

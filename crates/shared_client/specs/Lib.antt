@@ -1,4 +1,0 @@
-pub mod Knowing
-pub mod CacheStates
-pub mod Serving
-pub mod Watching
