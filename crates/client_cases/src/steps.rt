@@ -6,7 +6,7 @@ use crate::pods::{creation, removal, replacement};
 use crate::seat::Seat;
 use crate::texts::{tell_lines, tell_rows};
 use case_rows::{Wording, number, split};
-use client_api::{Begun, Client, Got, ListNo, Listed, Took};
+use client_api::{Begun, Client, Got, ItemRows, ListNo, Listed, Took};
 use kube_meta::Memory;
 use std::alloc::Global;
 use up_store::{OpNo, Operate, WriteAsk, WriteNo, Written};
@@ -194,7 +194,7 @@ fn tell_listed(listed: &Listed, counts: bool, told: &mut Wording) {
     if counts {
         told.show(&listed.items.len());
     } else {
-        tell_rows(listed.items.as_slice(), told);
+        tell_rows(listed.items.rows(), listed.items.len(), told);
     }
 }
 
@@ -218,7 +218,8 @@ fn tell_begun(begun: &Result<Begun, ListNo>, told: &mut Wording) {
             told.add("at ");
             told.show(&begun.at);
             told.add(": ");
-            tell_rows(begun.initial.as_slice(), told);
+            let initial = begun.initial.as_slice();
+            tell_rows(ItemRows::Picked(initial), initial.len(), told);
         }
         Err(no) => told.debug(no),
     }

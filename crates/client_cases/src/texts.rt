@@ -1,28 +1,35 @@
 //! Answers in words.
 
 use case_rows::{Wording, tell_row};
-use client_api::Line;
-use encode_once::Shown;
-use std::sync::Arc;
+use client_api::{ItemRows, Line};
 
 /// Of more objects or lines than this the first and the last are shown.
 const FEW: usize = 10;
 
-/// Each object as `[p-1 2]`. Of many the first and the last are shown, and how many there are.
-pub fn tell_rows(rows: &[Arc<Shown>], told: &mut Wording) {
-    match (rows.first(), rows.last()) {
-        (Some(first), Some(last)) if rows.len() > FEW => {
-            tell_row(first.row(), told);
-            told.add("..");
-            tell_row(last.row(), told);
-            tell_count(rows.len(), told);
-        }
-        (Some(_), _) => {
-            for shown in rows {
-                tell_row(shown.row(), told);
-            }
-        }
-        _ => told.add("nothing"),
+/// Each of so many objects as `[p-1 2]`. Of many the first and the last are shown, and how many there are.
+pub fn tell_rows(rows: ItemRows<'_>, count: usize, told: &mut Wording) {
+    if count == 0 {
+        told.add("nothing");
+    }
+    if count > FEW {
+        tell_ends(rows, told);
+        tell_count(count, told);
+        return;
+    }
+    for shown in rows {
+        tell_row(shown.row(), told);
+    }
+}
+
+// The first and the last object.
+fn tell_ends(rows: ItemRows<'_>, told: &mut Wording) {
+    let mut rows = rows;
+    if let Some(first) = rows.next() {
+        tell_row(first.row(), told);
+    }
+    told.add("..");
+    if let Some(last) = rows.last() {
+        tell_row(last.row(), told);
     }
 }
 

@@ -157,7 +157,7 @@ impl Told {
     // That a list has just the objects that were told, at the revision up to which they were.
     fn expect_state(&mut self, listed: &Listed) {
         let mut is_right = listed.rev == self.at && listed.items.len() == self.rows.len();
-        for shown in listed.items.as_slice() {
+        for shown in listed.items.rows() {
             is_right = is_right && self.has(shown);
         }
         self.expect(is_right);

@@ -156,15 +156,16 @@ fn take<N: LogFacts>(stage: &mut Stage<N>, number: u64, told: &mut Wording) {
         told.add("nothing");
         return;
     };
-    if batch.from != watch.position || !batch.selection.same(&watch.selection) {
-        told.add("dropped ");
+    let piece = &batch.piece;
+    if piece.begins(&watch.selection, watch.position) {
+        watch.position = piece.to;
     } else {
-        watch.position = batch.to;
+        told.add("dropped ");
     }
-    told.show(&batch.from);
-    tell_number(" to ", batch.to, told);
+    told.show(&piece.from);
+    tell_number(" to ", piece.to, told);
     told.add(": ");
-    tell_lines(&batch.lines, told);
+    tell_lines(&piece.lines, told);
 }
 
 fn catch<N: LogFacts>(stage: &mut Stage<N>, number: u64, many: u64, told: &mut Wording) {
