@@ -1,5 +1,5 @@
-//! A cache and its lanes beside plain collections of std, at 100,000 objects, and lists of a store, at 1,000 and at
-//! 100,000.
+//! A cache and its lanes beside plain collections of std, at 100,000 objects, and lists and pages of a store, at 1,000
+//! and at 100,000.
 
 ghost use Rattle.std.specs.Prelude.{◌≡◌, ◌≤◌, [], false};
 
@@ -11,7 +11,7 @@ mod times;
 
 use crate::hub::beside::Bench;
 use crate::hub::scene::Scene;
-use crate::hub::times::{FEW, KINDS, NODES, report_changes, report_lists};
+use crate::hub::times::{FEW, KINDS, NODES, report_changes, report_reads};
 use rev_front::{Blank, blank};
 use rev_log::Revision;
 use std::alloc::Global;
@@ -19,12 +19,12 @@ use std::io;
 use std::marker::Brand;
 use up_api::LogFacts;
 
-/// What is printed of a cache: counts, times of lists, times with lanes of several kinds, or times with lanes of nodes
-/// and of lists.
+/// What is printed of a cache: counts, times of reads, times with lanes of several kinds, or times with lanes of nodes
+/// and of reads.
 #[derive(Clone, Copy)]
 enum Task {
     Counts,
-    Lists,
+    Reads,
     Kinds,
     Nodes,
 }
@@ -33,13 +33,13 @@ impl Task {
     fn is_timed(self) -> bool {
         match self {
             Task::Counts => false,
-            Task::Lists | Task::Kinds | Task::Nodes => true,
+            Task::Reads | Task::Kinds | Task::Nodes => true,
         }
     }
 
     fn objects(self) -> usize {
         match self {
-            Task::Counts | Task::Lists | Task::Kinds => 1_000,
+            Task::Counts | Task::Reads | Task::Kinds => 1_000,
             Task::Nodes => 100_000,
         }
     }
@@ -51,7 +51,7 @@ impl Task {
     {
         match self {
             Task::Kinds => 16,
-            Task::Counts | Task::Lists | Task::Nodes => 256,
+            Task::Counts | Task::Reads | Task::Nodes => 256,
         }
     }
 }
@@ -59,7 +59,7 @@ impl Task {
 /// Runs a small cache and a plain one beside each other, and counts what they have and how often their objects are
 /// held; or times them.
 pub fn run(rt: &HostRuntime, alloc: Global, timed: bool) -> io::Result<()> {
-    for task in [Task::Counts, Task::Lists, Task::Kinds, Task::Nodes] {
+    for task in [Task::Counts, Task::Reads, Task::Kinds, Task::Nodes] {
         if task.is_timed() == timed {
             run_over::<Brand>(rt, alloc, blank(alloc, 1)?, task)?;
         }
@@ -85,11 +85,11 @@ fn run_over<N: LogFacts>(
 fn run_on<N: LogFacts>(rt: &HostRuntime, bench: &mut Bench<N>, task: Task) -> io::Result<()> {
     match task {
         Task::Counts => check(rt, bench),
-        Task::Lists => report_lists(rt, bench),
+        Task::Reads => report_reads(rt, bench),
         Task::Kinds => report_changes(rt, bench, &KINDS, 20, 10),
         Task::Nodes => {
             report_changes(rt, bench, &NODES, 3, 10_000)?;
-            report_lists(rt, bench)
+            report_reads(rt, bench)
         }
     }
 }

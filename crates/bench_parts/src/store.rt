@@ -1,5 +1,6 @@
 //! The tree of a cache's objects beside a plain map of std.
 
+mod looks;
 mod rows;
 mod sides;
 mod tree;
@@ -14,15 +15,20 @@ use std::alloc::Global;
 use std::io;
 use std::sync::Arc;
 
-/// Compares a tree with a map, and counts who holds its objects; or times both, at 1,000 and at 100,000 objects.
+/// Compares a tree with a map, counts who holds its objects, and looks for some; or times all that, at 1,000 and at
+/// 100,000 objects.
 pub fn run(rt: &HostRuntime, alloc: Global, timed: bool) -> io::Result<()> {
     if timed {
         time(rt, &mut Sides::new(alloc, 1_000)?, 50)?;
-        time(rt, &mut Sides::new(alloc, 100_000)?, 5)
+        time(rt, &mut Sides::new(alloc, 100_000)?, 5)?;
+        looks::run(rt, alloc, timed)
     } else {
         print_agreement(rt, &mut Sides::new(alloc, 1_000)?)?;
         let held = holders(alloc, &rows(alloc, 1_000)?)?;
-        println!(rt; "store: a list, a tree and a snapshot of 1000 objects hold them {held} times")
+        println!(rt;
+            "store: a list, a tree and a snapshot of 1000 objects hold them {held} times"
+        )?;
+        looks::run(rt, alloc, timed)
     }
 }
 

@@ -4,10 +4,12 @@ use crate::hub::plain::Plain;
 use crate::hub::scene::{Scene, WINDOW};
 use crate::hub::things::{Asked, Kind, change, config_map, pods_for};
 use bench_parts::{Laps, Pair, Race, ZERO};
+use encode_once::Shown;
 use kube_meta::{Memory, Row};
 use std::alloc::Global;
 use std::sync::Arc;
 use up_api::LogFacts;
+use up_store::WriteAsk;
 use watch_lane::LaneOut;
 
 /// How many objects a cache has, how many it had before, how many lines came since, and how many objects a plain cache
@@ -29,10 +31,21 @@ pub struct Lanes {
     pub name: &'static str,
 }
 
-/// A cache, a plain one with the same objects, and lanes of the first; and so many revisions before its end the store
-/// is asked for lists.
+/// How many objects a page has.
+const PAGE: usize = 500;
+
+/// What a store is asked for: all objects, or the first page of them.
+#[derive(Clone, Copy)]
+pub enum Read {
+    List,
+    Page,
+}
+
+/// A cache, a plain one with the same objects, and lanes of the first; and what the store is asked for, so many
+/// revisions before its end.
 #[derive(Drop)]
 pub struct Bench<N: LogFacts> {
+    pub read: Read,
     pub behind: u64,
     alloc: Global,
     scene: Scene<N>,
@@ -45,6 +58,7 @@ impl<N: LogFacts> Bench<N> {
     pub fn new(alloc: Global, scene: Scene<N>) -> Result<Bench<N>, Memory> {
         let plain = Plain::over(alloc, WINDOW, &scene.hub.snapshot()?)?;
         Ok(Bench {
+            read: Read::List,
             behind: 0,
             alloc,
             scene,
@@ -91,6 +105,30 @@ impl<N: LogFacts> Bench<N> {
         Ok(pair.plus(Pair { step, plain }))
     }
 
+    /// Makes so many writes while a state is made of 2,000 revisions before, and as many alone. Each is followed by the
+    /// floor of the store, which takes in what that revision wrote.
+    pub fn writes(&mut self, rt: &HostRuntime, many: usize) -> Result<Pair, Memory> {
+        let mut pair = ZERO;
+        for number in 0..many {
+            let ask = change(self.alloc, number, self.plain.len())?;
+            let mut laps = Laps::begin(rt);
+            let old = self.scene.old(2_000);
+            self.follow(&ask);
+            let step = laps.lap(rt);
+            drop(old);
+            laps = Laps::begin(rt);
+            self.follow(&ask);
+            let plain = laps.lap(rt);
+            pair = pair.plus(Pair { step, plain });
+        }
+        Ok(pair)
+    }
+
+    fn follow(&mut self, ask: &WriteAsk) {
+        self.scene.write(ask);
+        self.scene.compact(2_000);
+    }
+
     /// Takes all batches out of the lanes. The answer is how many lines they had.
     pub fn drain(&mut self) -> usize {
         let mut lines = 0usize;
@@ -99,7 +137,7 @@ impl<N: LogFacts> Bench<N> {
                 let Some(batch) = lane.ready() else {
                     break;
                 };
-                lines = lines.saturating_add(batch.lines.len());
+                lines = lines.saturating_add(batch.len());
             }
         }
         lines
@@ -119,9 +157,9 @@ impl<N: LogFacts> Bench<N> {
 
     /// How often the store, the cache and two lists hold the objects of the lists. One list is of the log's end, and
     /// is read off the rows there; the other is of the revision before, which changed no pod, and is made of the rows
-    /// at the floor and of the changes after it. An object that is shared is held five times: by the rows at the end;
-    /// by the rows at the floor or by the change after it that wrote the object; by what the cache's tree and events
-    /// show, which they share; and by each list. No contract can say this. The plain cache is emptied before.
+    /// at the floor and of the changes after it. An object that is shared is held four times: by what the store shows,
+    /// at the floor and at the end; by what the cache's tree and events show; and by each list. One that was written
+    /// after the floor is held by its change too. No contract can say this. The plain cache is emptied before.
     pub fn holders(&mut self) -> Result<usize, Memory> {
         self.plain = Plain::new(self.alloc, WINDOW);
         self.scene.compact(100);
@@ -139,6 +177,21 @@ impl<N: LogFacts> Bench<N> {
     pub fn compact(&mut self, behind: u64) {
         self.scene.compact(behind);
     }
+
+    fn page(&mut self) -> Result<Vec<Arc<Shown>>, Memory> {
+        let mut page = Vec::new(self.alloc);
+        let Some(old) = self.scene.old(self.behind) else {
+            return Ok(page);
+        };
+        let state = old.made()?;
+        for shown in state.range(None) {
+            if page.len() == PAGE {
+                break;
+            }
+            page.push(Arc::try_clone(shown)?)?;
+        }
+        Ok(page)
+    }
 }
 
 fn holders_of(rows: &[Row]) -> usize {
@@ -149,19 +202,29 @@ fn holders_of(rows: &[Row]) -> usize {
     held
 }
 
-/// Lists of the store so many revisions before its end, beside those of a plain map. Each is let go of.
+/// What the store is asked for, beside the same of a plain map. Each answer is let go of.
 impl<N: LogFacts> Race for Bench<N> {
     #[inline(never)]
     fn step(&mut self) -> u64 {
-        match self.scene.list(self.behind) {
-            Some(rows) => rows.len() as u64,
-            None => 0,
+        match self.read {
+            Read::List => match self.scene.list(self.behind) {
+                Some(rows) => rows.len() as u64,
+                None => 0,
+            },
+            Read::Page => match self.page() {
+                Ok(rows) => rows.len() as u64,
+                Err(_) => 0,
+            },
         }
     }
 
     #[inline(never)]
     fn plain(&mut self) -> u64 {
-        match self.plain.list() {
+        let limit = match self.read {
+            Read::List => usize::MAX,
+            Read::Page => PAGE,
+        };
+        match self.plain.first(limit) {
             Ok(rows) => rows.len() as u64,
             Err(_) => 0,
         }

@@ -141,11 +141,14 @@ impl Plain {
         }
     }
 
-    /// All objects in the order of their keys, each shared.
+    /// So many objects at most, the first ones in the order of their keys, each shared.
     #[inline(never)]
-    pub fn list(&self) -> Result<Vec<Arc<Shown>>, Memory> {
+    pub fn first(&self, limit: usize) -> Result<Vec<Arc<Shown>>, Memory> {
         let mut list = Vec::new(self.alloc);
         for shown in self.map.values() {
+            if list.len() == limit {
+                break;
+            }
             list.push(Arc::try_clone(shown)?)?;
         }
         Ok(list)

@@ -14,7 +14,7 @@ use select_all::Selection;
 use std::alloc::Global;
 use std::marker::Model;
 use up_api::{Feed, LogFacts, Pass, Polled, Settings, Upstream};
-use up_store::{Store, WriteAsk};
+use up_store::{OldState, Store, WriteAsk};
 use watch_lane::LaneOut;
 
 /// How many changes the cache keeps.
@@ -99,6 +99,14 @@ impl<N: LogFacts> Scene<N> {
     pub fn list(&mut self, behind: u64) -> Option<Vec<Row>> {
         let at = self.store.revision().saturating_sub(behind);
         self.store.list_at(Resource::Pods, at, &mut self.told).ok()
+    }
+
+    /// What the store's pods so many revisions before the log's end are made of, unless they are refused.
+    pub fn old(&mut self, behind: u64) -> Option<OldState> {
+        let at = self.store.revision().saturating_sub(behind);
+        self.store
+            .old_state(Resource::Pods, at, &mut self.told)
+            .ok()
     }
 
     /// The cache takes in the next change, which is answered with the nanoseconds that it took.

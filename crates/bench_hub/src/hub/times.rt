@@ -1,6 +1,6 @@
 //! What is timed, and printed.
 
-use crate::hub::beside::{Bench, Lanes};
+use crate::hub::beside::{Bench, Lanes, Read};
 use crate::hub::things::Kind;
 use bench_parts::{NONE, Race, print_pair, time_race};
 use std::io;
@@ -79,20 +79,32 @@ pub fn report_changes<N: LogFacts>(
     Ok(())
 }
 
-/// Times lists of a store that keeps 2,000 revisions: at its floor, half way and at its end. Half way a list is made by
-/// 1,000 changes of a copy of the floor's rows. Prints the best of each.
-pub fn report_lists<N: LogFacts>(rt: &HostRuntime, bench: &mut Bench<N>) -> io::Result<()> {
+/// Times lists and pages of a store that keeps 2,000 revisions: at its floor, half way and at its end. Half way they
+/// are made by 1,000 changes of a copy of the floor's rows. Prints the best of each, and then what writes take while
+/// such a copy of the floor's rows is held, beside writes alone.
+pub fn report_reads<N: LogFacts>(rt: &HostRuntime, bench: &mut Bench<N>) -> io::Result<()> {
     let _times = bench.changes(rt, 2_000)?;
     let _lines = bench.drain();
     bench.compact(2_000);
-    for (behind, name) in [
-        (2_000u64, "list at the floor, each row"),
-        (1_000, "list half way, each row"),
-        (0, "list at the end, each row"),
+    for (behind, list, page) in [
+        (2_000u64, "list at the floor, each row", "page at the floor"),
+        (1_000, "list half way, each row", "page half way"),
+        (0, "list at the end, each row", "page at the end"),
     ] {
         bench.behind = behind;
+        bench.read = Read::List;
         let rows = bench.plain();
-        time_race(rt, name, bench, 20, rows)?;
+        time_race(rt, list, bench, 20, rows)?;
+        bench.read = Read::Page;
+        time_race(rt, page, bench, 20, 1)?;
     }
-    Ok(())
+    report_writes(rt, bench)
+}
+
+fn report_writes<N: LogFacts>(rt: &HostRuntime, bench: &mut Bench<N>) -> io::Result<()> {
+    let mut best = NONE;
+    for _ in 0..20 {
+        best = best.best(bench.writes(rt, 100)?);
+    }
+    print_pair(rt, "write beside a page at the floor", best, 100)
 }

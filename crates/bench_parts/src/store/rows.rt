@@ -10,8 +10,8 @@ use std::sync::Arc;
 /// The plain map beside a tree.
 pub type Map = BTreeMap<Key, Arc<Shown>>;
 
-// The names are good ones, so all that can be missing is memory.
-fn key(alloc: Global, number: usize) -> Result<Key, Memory> {
+/// A key of its own for each number. The names are good ones, so all that can be missing is memory.
+pub fn key(alloc: Global, number: usize) -> Result<Key, Memory> {
     let space = format!(in alloc; "team-{}", 1_000 + number / 1_000)?;
     let name = format!(in alloc; "web-6d4b75cb6d-{}", 1_000_000usize.wrapping_add(number))?;
     Key::new(Text::from_string(space), Text::from_string(name)).or(Err(Memory))
