@@ -13,7 +13,7 @@ serve:
 
 # The proved, optimised program, at bin/watchcache. The first time all that it stands on is proved.
 build:
-	@[ -x crates/watchcache/out/watchcache ] || echo "proving and building: the first time half an hour on four processors"
+	@[ -x crates/watchcache/out/watchcache ] || echo "proving and building: the first time half an hour to an hour on four processors"
 	@cd crates/watchcache && rt run -- session </dev/null
 	@mkdir -p bin && cp crates/watchcache/out/watchcache bin/watchcache
 	@echo "bin/watchcache is the proved program: bin/watchcache serve listens on port 8001 of 127.0.0.1"
