@@ -1,6 +1,6 @@
 -- A map of rows by their keys, and what steps make of it.
 use Rattle.std.proofs.Common.{◌≡◌, ℕ, true, false, cond, List, [], ◌∷◌, map, length, Option, Some, None, IfSome, All, bytes_eq, refl, sym, ap, ◌∙◌, subst, inl, inr, Result, Ok, Err, OnOk, OnErr, ◌+◌, ◌<◌, ◌≤◌, get_or, take, fold, zero, suc, is_some, arith}
-use Rattle.std.specs.BTreeMap.{BTreeMap, IsOrdered, IsEmpty, Updates, get, is_at, values}
+use Rattle.std.specs.BTreeMap.{BTreeMap, IsOrdered, Updates, get, is_at, values}
 use Rattle.std.specs.Map.{lookup, values_of, keys_of}
 use Rattle.std.specs.Cmp.Lexicographic.{slice_cmp}
 use Rattle.std.specs.Ordering.{nat_cmp}
@@ -33,14 +33,6 @@ Holds-same m f g same holds = record {
   ordered = holds.ordered;
   reads = λ key. holds.reads key ∙ same key;
   keyed = λ key. subst (λ row. IfSome row (λ r. key_of r ≡ key)) (same key) (holds.keyed key);
-}
-
--- an empty map holds nothing
-pub Holds-empty : (m : BTreeMap (List ℕ) RowData) → IsEmpty m → IsOrdered (slice_cmp nat_cmp) m → Holds m (λ key. None)
-Holds-empty m empty ordered = record {
-  ordered = ordered;
-  reads = λ key. rw empty refl;
-  keyed = λ key. tt;
 }
 
 -- the key that a step is at, and every other one
@@ -132,10 +124,6 @@ none_from : {A : Type 0} (o : Option A) → is_some o ≡ false → o ≡ None
 none_from None e = refl
 none_from (Some x) e = absurd (false≢true (sym e))
 
-or_some : {A : Type 0} (o other : Option A) → is_some o ≡ true → option_or o other ≡ o
-or_some None other e = absurd (false≢true e)
-or_some (Some x) other e = refl
-
 -- where no row has the key, this row becomes the one
 pub Follows-put_first : (m n : BTreeMap (List ℕ) RowData) (row : RowData) → is_some (get (slice_cmp nat_cmp) m (key_of row)) ≡ false → Follows m n (λ key old. cond (bytes_eq key (key_of row)) (Some row) old) → Follows m n (λ key old. option_or old (cond (bytes_eq key (key_of row)) (Some row) None))
 Follows-put_first m n row missing put = Follows-same m n (λ key old. cond (bytes_eq key (key_of row)) (Some row) old) (λ key old. option_or old (cond (bytes_eq key (key_of row)) (Some row) None)) same put
@@ -146,19 +134,6 @@ Follows-put_first m n row missing put = Follows-same m n (λ key old. cond (byte
           let key_is : key ≡ key_of row = (bytes_eq-Decides key (key_of row)).0 here in
           let none : stands key ≡ None = rw key_is (sym (holds.reads (key_of row)) ∙ none_from _ missing) in
           rw (here, none) refl
-      | inr other ↦ rw other (sym (or_none (stands key)))
-    ]
-
--- where some row has the key, all stays
-pub Follows-kept_first : (m : BTreeMap (List ℕ) RowData) (row : RowData) → is_some (get (slice_cmp nat_cmp) m (key_of row)) ≡ true → Follows m m (λ key old. option_or old (cond (bytes_eq key (key_of row)) (Some row) None))
-Follows-kept_first m row found stands holds = Holds-same m stands (λ key. option_or (stands key) (cond (bytes_eq key (key_of row)) (Some row) None)) same holds
-  where
-    same : (key : List ℕ) → stands key ≡ option_or (stands key) (cond (bytes_eq key (key_of row)) (Some row) None)
-    same key = elim (cases_Bool (bytes_eq key (key_of row))) [
-      | inl here ↦
-          let key_is : key ≡ key_of row = (bytes_eq-Decides key (key_of row)).0 here in
-          let some : is_some (stands key) ≡ true = rw key_is (ap is_some (sym (holds.reads (key_of row))) ∙ found) in
-          sym (or_some (stands key) _ some)
       | inr other ↦ rw other (sym (or_none (stands key)))
     ]
 

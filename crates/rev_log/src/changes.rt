@@ -100,7 +100,7 @@ impl Revision {
         ensures { IfOk result (λ revision. revision ≡ record { rev = change.rev; changes = change ∷ [] }) }
     {
         let rev = change.rev;
-        let mut changes = Vec::new(alloc);
+        let mut changes = Vec::with_capacity(alloc, 1)?;
         changes.push(change)?;
         Ok(Revision { rev, changes })
     }
