@@ -320,13 +320,6 @@ from_edge key edge row less = by (stand edge (key_of row))
     by (same e) = all_of (is_from edge row) (is_behind key row) (ap (λ (k : List ℕ). is_lt (slice_cmp nat_cmp key k)) (sym e) ∙ less)
     by (higher more) = rw more refl
 
-pub from_none : (edge : List ℕ) (row : RowData) → is_from edge row ≡ (is_from edge row && true)
-from_none edge row = by (is_from edge row)
-  where
-    by : (a : Bool) → a ≡ (a && true)
-    by true = refl
-    by false = refl
-
 -- they stand between two edges
 pub in_namespace : (ns key : List ℕ) → is_in ns key ≡ (not (is_lt (slice_cmp nat_cmp key (ns ++ 47 ∷ []))) && is_lt (slice_cmp nat_cmp key (ns ++ 48 ∷ [])))
 in_namespace [] [] = refl

@@ -9,3 +9,4 @@ pub mod SpanLemmas
 pub mod WordLemmas
 pub mod EdgeLemmas
 pub mod NodeLemmas
+pub mod MarkLemmas

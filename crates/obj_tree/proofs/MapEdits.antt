@@ -12,7 +12,6 @@ use Rattle.obj_tree.specs.Places.{IsPlace}
 use Rattle.obj_tree.specs.declared.search.Place.{Place}
 use Rattle.obj_tree.proofs.MapLemmas.{are_rising, Cut, cut_gap, gap_row, cut_row, row_row, all_append, put_stays_rising, removal_stays_rising}
 use Rattle.obj_tree.proofs.PageLemmas.{joined_at, joined_replaced, joined_divided, sized-drop, sized_at, full_drop, full_from, touches_page, full_page, full_more, full_big, touches_more, touches_big}
-use Rattle.obj_tree.proofs.SearchLemmas.{first_row}
 use Rattle.obj_tree.proofs.EditLemmas.{sized_with}
 
 -- ---- a page that a row was put into, whole or in two
@@ -110,13 +109,6 @@ module _ (pages : List (List RowData)) (key : List ℕ) (at : ℕ) (for_key : Is
 
   pub row_some : (n : ℕ) (row : RowData) → IsRowAt page key n → row_with (joined pages) key ≡ Some (get_or page n row)
   row_some n row is = rw (row_is n row is.inside) (row_row (front n) (back (suc n)) (get_or page n row) key (is.has_key row) (front_below n is.before))
-
--- then it isn't absent
-pub some_row : (pages : List (List RowData)) (key : List ℕ) (at : ℕ) → IsPageFor pages key at → (n : ℕ) → IsRowAt (page_at pages at) key n → row_with (joined pages) key ≡ None → ⊥
-some_row pages key at for_key n is none =
-    let row = first_row (page_at pages at) (omega (arith, is.inside)) in
-    let some : Some (get_or (page_at pages at) n row) ≡ None = sym (row_some pages key at for_key n row is) ∙ none in
-    cc
 
 -- ---- a put
 
@@ -234,6 +226,3 @@ first_taken pages first rest n d same inside = rw (same, add-one) (taken first (
 
 pub within_first : (pages nodes : List (List RowData)) (first : List RowData) (rest : List (List RowData)) (n : ℕ) → pages ≡ first ∷ rest → IsWithin n pages nodes → n < length first
 within_first pages nodes first rest n same within = subst (λ (p : List (List RowData)). IsWithin n p nodes) same within
-
-pub none_paged : IsPaged []
-none_paged = record { sized = tt; full = tt; rising = are_rising [] tt }

@@ -244,14 +244,6 @@ touches_at (page ∷ pages) (suc n) others inside full = touches_at pages n othe
 
 -- ---- how many pages
 
-pub few_pages : (pages : List (List RowData)) → AreSized pages → AreFull pages → 16 * length pages ≤ length (joined pages) + 16
-few_pages [] sized full = omega arith
-few_pages (page ∷ []) sized full = omega arith
-few_pages (page ∷ next ∷ pages) sized full =
-    let both : 32 < length page + length next = full.0 in
-    let rest = few_pages pages sized.2.2 full.1.1 in
-    omega (arith, rest, length-append page (next ++ joined pages), length-append next (joined pages))
-
 pub many_pages : (pages : List (List RowData)) → AreSized pages → length (joined pages) ≤ 64 * length pages
 many_pages [] sized = omega arith
 many_pages (page ∷ pages) sized =

@@ -161,8 +161,5 @@ pub within_start : (pages nodes : List (List RowData)) → HoldEach 1 pages → 
 within_start [] nodes some more = absurd (omega arith)
 within_start (page ∷ pages) nodes some more = omega (arith, some.0)
 
-pub within_page : (pages nodes : List (List RowData)) (first : List RowData) (rest : List (List RowData)) (n : ℕ) → pages ≡ first ∷ rest → n < length first → IsWithin n pages nodes
-within_page pages nodes first rest n same inside = subst (λ (p : List (List RowData)). IsWithin n p nodes) (sym same) inside
-
 pub within_none : (pages nodes : List (List RowData)) → pages ≡ [] → nodes ≡ [] → IsWithin 0 pages nodes
 within_none pages nodes none no_nodes = subst (λ (p : List (List RowData)). IsWithin 0 p nodes) (sym none) (refl, no_nodes)

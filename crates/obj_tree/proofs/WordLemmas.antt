@@ -11,7 +11,7 @@ use Rattle.kube_meta.specs.declared.words.Mask.{Mask}
 use Rattle.kube_meta.proofs.WordLemmas.{has_left, has_right, has_self, fits_by, labels_lack, fields_lack}
 use Rattle.obj_tree.specs.Pages.{joined, IsWithin}
 use Rattle.obj_tree.proofs.SpanLemmas.{map_take}
-use Rattle.obj_tree.specs.Words.{from_fit, eight_at, IsFirstWith, AreUnfit, Passes}
+use Rattle.obj_tree.specs.Words.{from_fit, four_at, IsFirstWith, AreUnfit, Passes}
 
 -- ---- edits of a list beside those of what it is made of
 
@@ -68,36 +68,36 @@ module _ {X : Type 0} where
 pub with_room : {A E X : Type 0} (r : Result A E) (new more less : X) → new ≡ (if is_ok r then more else less) → is_ok r ≡ true → new ≡ more
 with_room r new more less is ok = is ∙ ap (λ (b : Bool). if b then more else less) ok
 
--- ---- eights of words
+-- ---- fours of words
 
--- a word is added to its eight, which has its bits then, and every eight has what it had
-module _ (eights : List ℕ) (at word : ℕ) (eight_long : length eights ≡ 8) where
-  inside_eights : eight_at at < length eights
-  inside_eights = omega (arith, eight_long, mod_below (at / 8) 8 (lit< tt))
+-- a word is added to its four, which has its bits then, and every four has what it had
+module _ (fours : List ℕ) (at word : ℕ) (four_long : length fours ≡ 16) where
+  inside_fours : four_at at < length fours
+  inside_fours = omega (arith, four_long, mod_below (at / 4) 16 (lit< tt))
 
-  pub added_has : has_bits (get_or (set eights (eight_at at) (bit_or (get_or eights (eight_at at) 0) word)) (eight_at at) 0) word ≡ true
+  pub added_has : has_bits (get_or (set fours (four_at at) (bit_or (get_or fours (four_at at) 0) word)) (four_at at) 0) word ≡ true
   added_has =
-      let more = bit_or (get_or eights (eight_at at) 0) word in
-      subst (λ (w : ℕ). has_bits w word ≡ true) (sym (get_or-set_same eights (eight_at at) more 0 inside_eights)) (has_right (get_or eights (eight_at at) 0) word word (has_self word))
+      let more = bit_or (get_or fours (four_at at) 0) word in
+      subst (λ (w : ℕ). has_bits w word ≡ true) (sym (get_or-set_same fours (four_at at) more 0 inside_fours)) (has_right (get_or fours (four_at at) 0) word word (has_self word))
 
-  pub added_keeps : (eight mask : ℕ) → has_bits (get_or eights eight 0) mask ≡ true → has_bits (get_or (set eights (eight_at at) (bit_or (get_or eights (eight_at at) 0) word)) eight 0) mask ≡ true
-  added_keeps eight mask had = elim (cases_eq eight (eight_at at)) [
+  pub added_keeps : (four mask : ℕ) → has_bits (get_or fours four 0) mask ≡ true → has_bits (get_or (set fours (four_at at) (bit_or (get_or fours (four_at at) 0) word)) four 0) mask ≡ true
+  added_keeps four mask had = elim (cases_eq four (four_at at)) [
     | inl same ↦
-        let more = bit_or (get_or eights (eight_at at) 0) word in
-        let old : has_bits (get_or eights (eight_at at) 0) mask ≡ true = subst (λ (n : ℕ). has_bits (get_or eights n 0) mask ≡ true) same had in
-        let new : has_bits (get_or (set eights (eight_at at) more) (eight_at at) 0) mask ≡ true =
-        subst (λ (w : ℕ). has_bits w mask ≡ true) (sym (get_or-set_same eights (eight_at at) more 0 inside_eights)) (has_left (get_or eights (eight_at at) 0) word mask old) in
-        subst (λ (n : ℕ). has_bits (get_or (set eights (eight_at at) more) n 0) mask ≡ true) (sym same) new
+        let more = bit_or (get_or fours (four_at at) 0) word in
+        let old : has_bits (get_or fours (four_at at) 0) mask ≡ true = subst (λ (n : ℕ). has_bits (get_or fours n 0) mask ≡ true) same had in
+        let new : has_bits (get_or (set fours (four_at at) more) (four_at at) 0) mask ≡ true =
+        subst (λ (w : ℕ). has_bits w mask ≡ true) (sym (get_or-set_same fours (four_at at) more 0 inside_fours)) (has_left (get_or fours (four_at at) 0) word mask old) in
+        subst (λ (n : ℕ). has_bits (get_or (set fours (four_at at) more) n 0) mask ≡ true) (sym same) new
     | inr other ↦
-        subst (λ (w : ℕ). has_bits w mask ≡ true) (sym (get_or-set_other eights (eight_at at) eight (bit_or (get_or eights (eight_at at) 0) word) 0 other)) had
+        subst (λ (w : ℕ). has_bits w mask ≡ true) (sym (get_or-set_other fours (four_at at) four (bit_or (get_or fours (four_at at) 0) word) 0 other)) had
   ]
 
--- up to the end of an eight
-pub same_eight : (at k : ℕ) → at ≤ k → k < at + (8 - at % 8) → eight_at k ≡ eight_at at
-same_eight at k from lt = ap (λ (n : ℕ). n % 8) (quotient at k from lt)
+-- up to the end of a four
+pub same_four : (at k : ℕ) → at ≤ k → k < at + (4 - at % 4) → four_at k ≡ four_at at
+same_four at k from lt = ap (λ (n : ℕ). n % 16) (quotient at k from lt)
   where
-    quotient : (at k : ℕ) → at ≤ k → k < at + (8 - at % 8) → k / 8 ≡ at / 8
-    quotient at k from lt = omega (arith, div-add-mod' at 8, div-add-mod' k 8, mod_below at 8 (lit< tt), mod_below k 8 (lit< tt))
+    quotient : (at k : ℕ) → at ≤ k → k < at + (4 - at % 4) → k / 4 ≡ at / 4
+    quotient at k from lt = omega (arith, div-add-mod' at 4, div-add-mod' k 4, mod_below at 4 (lit< tt), mod_below k 4 (lit< tt))
 
 -- ---- rows that are passed over
 

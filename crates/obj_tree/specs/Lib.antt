@@ -5,3 +5,4 @@ pub mod Prefixes
 pub mod Laws
 pub mod Edges
 pub mod Words
+pub mod Marks

@@ -31,13 +31,13 @@ pub record Passes (mask : Mask) (rows rest : List RowData) : Type 0 where
 
 -- ---- words that stand next to each other
 
--- which of the eights the word at a place is in
-abbrev pub eight_at : ℕ → ℕ
-eight_at at = at / 8 % 8
+-- which of the fours the word at a place is in
+abbrev pub four_at : ℕ → ℕ
+four_at at = at / 4 % 16
 
--- each eight has the bits of its words
-abbrev pub HaveEights : List ℕ → List ℕ → Type 0
-HaveEights eights words = (k : ℕ) → k < length words → has_bits (slice_index eights (eight_at k)) (slice_index words k) ≡ true
+-- each four has the bits of its words
+abbrev pub HaveFours : List ℕ → List ℕ → Type 0
+HaveFours fours words = (k : ℕ) → k < length words → has_bits (slice_index fours (four_at k)) (slice_index words k) ≡ true
 
 -- the place of the first word from a place on that has each bit of a mask, or the end
 pub record IsFirstWith (mask : ℕ) (words : List ℕ) (from at : ℕ) : Type 0 where

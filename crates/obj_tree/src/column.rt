@@ -3,7 +3,7 @@
 ghost use Rattle.std.specs.Prelude.{◌≡◌, ◌≤◌, ◌<◌, ◌+◌, ℕ, true, false, length, take, set, slice_index, IfOk, OnOk, OnErr};
 ghost use Rattle.std.specs.List.{insert, remove};
 ghost use Rattle.kube_meta.specs.Words.{has_bits, labels_word, fields_word};
-ghost use Rattle.obj_tree.specs.Words.{labels_of, fields_of, eight_at, HaveEights, IsFirstWith};
+ghost use Rattle.obj_tree.specs.Words.{labels_of, fields_of, four_at, HaveFours, IsFirstWith};
 
 use encode_once::Shown;
 use kube_meta::{Memory, has_bits};
@@ -16,20 +16,20 @@ use std::sync::Arc;
 #[derive(Drop)]
 pub(crate) struct Column {
     words: Vec<u64>,
-    // The bits of each eight words, by which these are passed over at once. They are eight for the 64 rows of a page;
+    // The bits of each four words, by which these are passed over at once. They are sixteen for the 64 rows of a page;
     // where one has more until it is divided, the first of them has the bits of those too.
-    eights: [u64; 8],
+    fours: [u64; 16],
 }
 
 impl Model for Column {
     ghost use Rattle.std.specs.Prelude.{ℕ, List};
-    ghost use Rattle.obj_tree.specs.Words.{HaveEights};
+    ghost use Rattle.obj_tree.specs.Words.{HaveFours};
 
     ghost Value = { List ℕ };
 
     ghost view = { λ c. c.words.items };
 
-    ghost invariant = { λ c. HaveEights c.eights c.words.items };
+    ghost invariant = { λ c. HaveFours c.fours c.words.items };
 }
 
 impl Column {
@@ -37,8 +37,15 @@ impl Column {
     pub(crate) fn of(words: Vec<u64>) -> Column
         ensures { result ≡ words.items }
     {
-        let eights = eights_of(&words);
-        Column { words, eights }
+        let fours = fours_of(&words);
+        Column { words, fours }
+    }
+
+    // The bits of each four words.
+    pub(crate) fn fours(&self) -> &[u64; 16]
+        ensures { HaveFours result.now self.now }
+    {
+        &self.fours
     }
 
     // Puts a word at a place, before those that stand there.
@@ -48,7 +55,7 @@ impl Column {
         ensures err { OnErr result (self.new ≡ self.old) }
     {
         self.words.insert(place, word)?;
-        self.eights = eights_of(&self.words);
+        self.fours = fours_of(&self.words);
         Ok(())
     }
 
@@ -58,7 +65,7 @@ impl Column {
         ensures { self.new ≡ set self.old place word }
     {
         self.words[place] = word;
-        self.eights = eights_of(&self.words);
+        self.fours = fours_of(&self.words);
     }
 
     // Removes the word at a place.
@@ -67,15 +74,16 @@ impl Column {
         ensures { self.new ≡ remove self.old place }
     {
         self.words.remove(place);
-        self.eights = eights_of(&self.words);
+        self.fours = fours_of(&self.words);
     }
 
-    // Leaves so many words at most.
+    // Leaves so many words at most, and takes no more room than these need.
     pub(crate) fn cut(&mut self, len: usize)
         ensures { self.new ≡ take len self.old }
     {
         self.words.truncate(len);
-        self.eights = eights_of(&self.words);
+        self.words.shrink_to_fit();
+        self.fours = fours_of(&self.words);
     }
 
     // The place of the first word from a place on that has each bit of a mask, or the end. Where the mask has no bit
@@ -87,7 +95,7 @@ impl Column {
         if mask == 0 {
             return from;
         }
-        first_with(&self.eights, &self.words, from, mask)
+        first_with(&self.fours, &self.words, from, mask)
     }
 }
 
@@ -136,33 +144,33 @@ pub(crate) fn put_words(
     }
 }
 
-// The bits of each eight words.
-fn eights_of(words: &[u64]) -> [u64; 8]
-    ensures { HaveEights result words.now }
+// The bits of each four words.
+fn fours_of(words: &[u64]) -> [u64; 16]
+    ensures { HaveFours result words.now }
 {
-    let mut eights = [0; 8];
+    let mut fours = [0; 16];
     for (at, word) in words.iter().enumerate() {
-        add(&mut eights, at, *word);
+        add(&mut fours, at, *word);
     }
-    eights
+    fours
 }
 
-// Adds the bits of the word at a place to those of its eight.
-fn add(eights: &mut [u64; 8], at: usize, word: u64)
-    ensures has { has_bits (slice_index eights.new (eight_at at)) word ≡ true }
-    ensures keeps { (eight mask : ℕ) → has_bits (slice_index eights.old eight) mask ≡ true → has_bits (slice_index eights.new eight) mask ≡ true }
+// Adds the bits of the word at a place to those of its four.
+fn add(fours: &mut [u64; 16], at: usize, word: u64)
+    ensures has { has_bits (slice_index fours.new (four_at at)) word ≡ true }
+    ensures keeps { (four mask : ℕ) → has_bits (slice_index fours.old four) mask ≡ true → has_bits (slice_index fours.new four) mask ≡ true }
 {
-    eights[at / 8 % 8] |= word;
+    fours[at / 4 % 16] |= word;
 }
 
-fn first_with(eights: &[u64; 8], words: &[u64], from: usize, mask: u64) -> usize
+fn first_with(fours: &[u64; 16], words: &[u64], from: usize, mask: u64) -> usize
     requires from { from ≤ length words.now }
-    requires eights { HaveEights eights.now words.now }
+    requires fours { HaveFours fours.now words.now }
     ensures { IsFirstWith mask words.now from result }
 {
     let mut at = from;
     while at < words.len() {
-        let over = lacking(eights, words, at, mask);
+        let over = lacking(fours, words, at, mask);
         if over == 0 {
             return at;
         }
@@ -172,18 +180,18 @@ fn first_with(eights: &[u64; 8], words: &[u64], from: usize, mask: u64) -> usize
     at
 }
 
-// How many words from a place on are known to lack a bit of a mask: the rest of an eight that lacks one, or the word
+// How many words from a place on are known to lack a bit of a mask: the rest of a four that lacks one, or the word
 // at the place; none where that has each bit.
-fn lacking(eights: &[u64; 8], words: &[u64], at: usize, mask: u64) -> usize
+fn lacking(fours: &[u64; 16], words: &[u64], at: usize, mask: u64) -> usize
     requires inside { at < length words.now }
-    requires eights { HaveEights eights.now words.now }
+    requires fours { HaveFours fours.now words.now }
     ensures lack { (k : ℕ) → at ≤ k → k < at + result → k < length words.now → has_bits (slice_index words.now k) mask ≡ false }
     ensures has { result ≡ 0 → has_bits (slice_index words.now at) mask ≡ true }
 {
-    if has_bits(eights[at / 8 % 8], mask) {
+    if has_bits(fours[at / 4 % 16], mask) {
         return lack_of(words[at], mask);
     }
-    8 - at % 8
+    4 - at % 4
 }
 
 // None where a word has each bit of a mask, and else one.

@@ -7,6 +7,7 @@ mod column;
 mod edges;
 mod filled;
 mod laws;
+mod mark;
 mod node;
 mod nodes;
 mod page;

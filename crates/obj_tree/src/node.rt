@@ -6,8 +6,10 @@ ghost use Rattle.obj_tree.specs.Edges.{edge_text, AreBefore};
 ghost use Rattle.obj_tree.specs.Maps.{with_row, without};
 ghost use Rattle.obj_tree.specs.Prefixes.{IsPrefix};
 ghost use Rattle.obj_tree.specs.Pages.{values_of, joined, begins_by, HoldEach, AreSized, AreFull, IsPaged, ArePagesOf};
+ghost use Rattle.obj_tree.specs.Marks.{AreMarks};
 
 use crate::edges::{Edge, spot_of};
+use crate::mark::{Mark, marks_of};
 use crate::page::Page;
 use crate::pages;
 use crate::part::Part;
@@ -34,6 +36,9 @@ pub(crate) struct Node {
     // How many rows there are.
     len: usize,
     pages: Vec<Arc<Page>>,
+    // What is kept of each page, by which most of them are passed over without a look. Where there is no memory for
+    // it, less or nothing is kept.
+    marks: Vec<Mark>,
 }
 
 impl Model for Node {
@@ -42,24 +47,31 @@ impl Model for Node {
     ghost use Rattle.kube_meta.specs.Rows.{RowData};
     ghost use Rattle.obj_tree.specs.Prefixes.{IsPrefix};
     ghost use Rattle.obj_tree.specs.Pages.{values_of, joined, IsPaged};
+    ghost use Rattle.obj_tree.specs.Marks.{AreMarks};
 
     ghost Value = { List RowData };
 
     ghost view = { λ n. joined (values_of n.pages.items) };
 
-    ghost invariant = { λ n. IsPaged (values_of n.pages.items) × IsPrefix n.prefix (joined (values_of n.pages.items)) × (n.len ≡ length (joined (values_of n.pages.items))) × (n.len ≤ MAX) };
+    ghost invariant = { λ n. IsPaged (values_of n.pages.items) × IsPrefix n.prefix (joined (values_of n.pages.items)) × (n.len ≡ length (joined (values_of n.pages.items))) × (n.len ≤ MAX) × AreMarks n.marks.items (values_of n.pages.items) };
 }
 
 impl Node {
     // A node of these pages.
-    pub(crate) fn of(pages: Vec<Arc<Page>>) -> Node
+    pub(crate) fn of(alloc: Global, pages: Vec<Arc<Page>>) -> Node
         requires paged { IsPaged (values_of pages.items) }
         requires few { length (joined (values_of pages.items)) ≤ usize.MAX }
         ensures { result ≡ joined (values_of pages.items) }
     {
         let len = rows_in(&pages);
         let prefix = prefix_of(&pages);
-        Node { prefix, len, pages }
+        let marks = marks_of(alloc, &pages);
+        Node {
+            prefix,
+            len,
+            pages,
+            marks,
+        }
     }
 
     // A node of these pages, which are shared.
@@ -69,7 +81,7 @@ impl Node {
         ensures { IfOk result (λ node. node ≡ joined (values_of pages.now)) }
     {
         let copies = copied(alloc, pages)?;
-        Ok(Node::of(copies))
+        Ok(Node::of(alloc, copies))
     }
 
     // A node of one row.
@@ -78,7 +90,7 @@ impl Node {
     {
         let mut pages = Vec::new(alloc);
         pages::put_first(alloc, &mut pages, shown)?;
-        Ok(Node::of(pages))
+        Ok(Node::of(alloc, pages))
     }
 
     // Another node of the same pages, which are shared.
@@ -86,19 +98,22 @@ impl Node {
         ensures { IfOk result (λ node. node ≡ self.now) }
     {
         let pages = copied(alloc, &self.pages)?;
+        let marks = marks_of(alloc, &pages);
         Ok(Node {
             prefix: self.prefix,
             len: self.len,
             pages,
+            marks,
         })
     }
 
-    // The pages.
-    pub(crate) fn pages(&self) -> &[Arc<Page>]
-        ensures rows { joined (values_of result.now) ≡ self.now }
-        ensures some { HoldEach 1 (values_of result.now) }
+    // The pages, and what is kept of them.
+    pub(crate) fn parts(&self) -> (&[Arc<Page>], &[Mark])
+        ensures rows { joined (values_of result.0.now) ≡ self.now }
+        ensures some { HoldEach 1 (values_of result.0.now) }
+        ensures marks { AreMarks result.1.now (values_of result.0.now) }
     {
-        &self.pages
+        (&self.pages, &self.marks)
     }
 
     // How many pages there are.
@@ -128,7 +143,7 @@ impl Node {
         ensures len { IfOk result (λ old. MatchOption old (length self.new ≡ length self.old + 1) (λ _. length self.new ≡ length self.old)) }
         ensures err { OnErr result (self.new ≡ self.old) }
     {
-        let old = pages::put(alloc, &mut self.pages, shown)?;
+        let old = pages::put(alloc, &mut self.pages, &mut self.marks, shown)?;
         self.prefix = prefix_of(&self.pages);
         if old.is_none() {
             self.len += 1;
@@ -143,7 +158,7 @@ impl Node {
         ensures len { IfOk result (λ old. MatchOption old (length self.new ≡ length self.old) (λ _. length self.new + 1 ≡ length self.old)) }
         ensures err { OnErr result (self.new ≡ self.old) }
     {
-        let old = pages::remove(alloc, &mut self.pages, key)?;
+        let old = pages::remove(alloc, &mut self.pages, &mut self.marks, key)?;
         self.prefix = prefix_of(&self.pages);
         if old.is_some() {
             self.len -= 1;
@@ -159,7 +174,7 @@ impl Node {
     {
         let mut pages = copied(alloc, &self.pages)?;
         append(alloc, &mut pages, &next.pages)?;
-        Ok(Node::of(pages))
+        Ok(Node::of(alloc, pages))
     }
 
     // Two nodes of a full one's rows, `None` where it isn't full. The pages are shared.

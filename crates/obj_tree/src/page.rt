@@ -4,10 +4,12 @@ ghost use Rattle.std.specs.Prelude.{◌≡◌, ◌++◌, ◌∷◌, [], ◌≤�
 ghost use Rattle.kube_meta.specs.Rows.{key_of as row_key};
 ghost use Rattle.obj_tree.specs.Prefixes.{IsPrefix};
 ghost use Rattle.obj_tree.specs.Pages.{values_of, begins_by, row_put, row_gone};
+ghost use Rattle.obj_tree.specs.Marks.{IsMark};
 ghost use Rattle.obj_tree.specs.Words.{labels_of, fields_of, AreUnfit};
 
 use crate::column::{Column, fields_of, labels_of, put_words};
 use crate::edges::{Edge, is_before, row_at};
+use crate::mark::Mark;
 use crate::part::Part;
 use encode_once::{KeyPrefix, Shown, Sought};
 use kube_meta::{Key, Mask, Memory};
@@ -54,6 +56,16 @@ impl Page {
         ensures { IsPrefix result.now self.now }
     {
         &self.prefix
+    }
+
+    // What a node keeps of the page.
+    pub(crate) fn mark(&self) -> Mark
+        ensures { IsMark result self.now }
+    {
+        Mark {
+            len: self.rows.len(),
+            fours: *self.fields.fours(),
+        }
     }
 
     // A page of one row.
@@ -230,6 +242,7 @@ impl Page {
         let fields = fields_of(alloc, later)?;
         let labels = labels_of(alloc, later)?;
         let rows = self.rows.split_off(32)?;
+        self.rows.shrink_to_fit();
         self.fields.cut(32);
         self.labels.cut(32);
         *room = Page::made(rows, fields, labels);

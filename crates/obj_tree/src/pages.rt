@@ -3,8 +3,10 @@
 ghost use Rattle.std.specs.Prelude.{◌≡◌, ◌↔◌, ◌+◌, ◌≤◌, ◌<◌, ◌++◌, ◌∷◌, [], None, not, nat_lt, length, take, drop, slice_index_or, IfOk, OnOk, OnErr, MatchOption, IsTrue, option_map};
 ghost use Rattle.kube_meta.specs.Rows.{RowData, key_of as row_key, row_with};
 ghost use Rattle.obj_tree.specs.Maps.{with_row, without};
+ghost use Rattle.obj_tree.specs.Marks.{AreMarks, IsReplacedAt};
 ghost use Rattle.obj_tree.specs.Pages.{values_of, joined, page_at, replaced, row_put, divided, row_gone, AreSized, AreFull, IsPaged, ArePagesOf, FitsBefore, FitsAfter};
 
+use crate::mark::{Mark, follow, marks_of};
 use crate::page::Page;
 use crate::part::Part;
 use crate::search::find;
@@ -13,47 +15,54 @@ use kube_meta::{Key, Memory};
 use std::alloc::Global;
 use std::sync::Arc;
 
-/// Puts a row at its key, and answers the one that stood there.
+/// Puts a row at its key, and answers the one that stood there. `marks` is what is kept of the pages.
 pub(crate) fn put(
     alloc: Global,
     pages: &mut Vec<Arc<Page>>,
+    marks: &mut Vec<Mark>,
     shown: Arc<Shown>,
 ) -> Result<Option<Arc<Shown>>, Memory>
-    requires { IsPaged (values_of pages.old.items) }
+    requires paged { IsPaged (values_of pages.old.items) }
+    requires marks { AreMarks marks.old.items (values_of pages.old.items) }
     ensures rows { OnOk result (joined (values_of pages.new.items) ≡ with_row (joined (values_of pages.old.items)) shown.value) }
     ensures answer { IfOk result (λ old. option_map (λ o. o.value) old ≡ row_with (joined (values_of pages.old.items)) (row_key shown.value)) }
     ensures len { IfOk result (λ old. MatchOption old (length (joined (values_of pages.new.items)) ≡ length (joined (values_of pages.old.items)) + 1) (λ _. length (joined (values_of pages.new.items)) ≡ length (joined (values_of pages.old.items)))) }
     ensures paged { IsPaged (values_of pages.new.items) }
+    ensures marks { AreMarks marks.new.items (values_of pages.new.items) }
     ensures err { OnErr result (values_of pages.new.items ≡ values_of pages.old.items) }
 {
     let Some(place) = find(pages, &shown.sought()) else {
         put_first(alloc, pages, shown)?;
+        *marks = marks_of(alloc, pages);
         return Ok(None);
     };
     match place.row {
         Ok(row) => {
             let old = shared_row(pages, place.page, row)?;
-            put_row(alloc, pages, place.page, row, row + 1, shown)?;
+            put_marked(alloc, pages, marks, place.page, row, row + 1, shown)?;
             Ok(Some(old))
         }
         Err(row) => {
-            put_row(alloc, pages, place.page, row, row, shown)?;
+            put_marked(alloc, pages, marks, place.page, row, row, shown)?;
             Ok(None)
         }
     }
 }
 
-/// Removes the row with a key, and answers it, if there is one.
+/// Removes the row with a key, and answers it, if there is one. `marks` is what is kept of the pages.
 pub(crate) fn remove(
     alloc: Global,
     pages: &mut Vec<Arc<Page>>,
+    marks: &mut Vec<Mark>,
     key: &Key,
 ) -> Result<Option<Arc<Shown>>, Memory>
-    requires { IsPaged (values_of pages.old.items) }
+    requires paged { IsPaged (values_of pages.old.items) }
+    requires marks { AreMarks marks.old.items (values_of pages.old.items) }
     ensures rows { OnOk result (joined (values_of pages.new.items) ≡ without (joined (values_of pages.old.items)) key.now) }
     ensures answer { IfOk result (λ old. option_map (λ o. o.value) old ≡ row_with (joined (values_of pages.old.items)) key.now) }
     ensures len { IfOk result (λ old. MatchOption old (length (joined (values_of pages.new.items)) ≡ length (joined (values_of pages.old.items))) (λ _. length (joined (values_of pages.new.items)) + 1 ≡ length (joined (values_of pages.old.items)))) }
     ensures paged { IsPaged (values_of pages.new.items) }
+    ensures marks { AreMarks marks.new.items (values_of pages.new.items) }
     ensures err { OnErr result (values_of pages.new.items ≡ values_of pages.old.items) }
 {
     let Some(place) = find(pages, &Sought::new(key)) else {
@@ -63,7 +72,7 @@ pub(crate) fn remove(
         return Ok(None);
     };
     let old = shared_row(pages, place.page, row)?;
-    remove_row(alloc, pages, place.page, row)?;
+    remove_marked(alloc, pages, marks, place.page, row)?;
     Ok(Some(old))
 }
 
@@ -88,6 +97,32 @@ pub(crate) fn put_first(
 {
     let page = Arc::new(alloc, Page::one(alloc, shown)?)?;
     pages.push(page)?;
+    Ok(())
+}
+
+// As `put_row`, with what is kept of the pages.
+fn put_marked(
+    alloc: Global,
+    pages: &mut Vec<Arc<Page>>,
+    marks: &mut Vec<Mark>,
+    at: usize,
+    from: usize,
+    to: usize,
+    shown: Arc<Shown>,
+) -> Result<(), Memory>
+    requires inside { at < length pages.old.items }
+    requires order { from ≤ to }
+    requires near { to ≤ from + 1 }
+    requires place { to ≤ length (page_at (values_of pages.old.items) at) }
+    requires sized { AreSized (values_of pages.old.items) }
+    requires marks { AreMarks marks.old.items (values_of pages.old.items) }
+    ensures ok { OnOk result (values_of pages.new.items ≡ replaced (values_of pages.old.items) at (at + 1) (divided (row_put (page_at (values_of pages.old.items) at) from to shown.value))) }
+    ensures err { OnErr result (values_of pages.new.items ≡ values_of pages.old.items) }
+    ensures marks { AreMarks marks.new.items (values_of pages.new.items) }
+{
+    let count = pages.len();
+    put_row(alloc, pages, at, from, to, shown)?;
+    follow(alloc, marks, pages, at, count);
     Ok(())
 }
 
@@ -152,6 +187,29 @@ fn put_in(
     }
 }
 
+// As `remove_row`, with what is kept of the pages.
+fn remove_marked(
+    alloc: Global,
+    pages: &mut Vec<Arc<Page>>,
+    marks: &mut Vec<Mark>,
+    at: usize,
+    place: usize,
+) -> Result<(), Memory>
+    requires inside { at < length pages.old.items }
+    requires place { place < length (page_at (values_of pages.old.items) at) }
+    requires sized { AreSized (values_of pages.old.items) }
+    requires full { AreFull (values_of pages.old.items) }
+    requires marks { AreMarks marks.old.items (values_of pages.old.items) }
+    ensures ok { OnOk result (ArePagesOf (values_of pages.new.items) (joined (replaced (values_of pages.old.items) at (at + 1) (row_gone (page_at (values_of pages.old.items) at) place ∷ [])))) }
+    ensures err { OnErr result (values_of pages.new.items ≡ values_of pages.old.items) }
+    ensures marks { AreMarks marks.new.items (values_of pages.new.items) }
+{
+    let count = pages.len();
+    remove_row(alloc, pages, at, place)?;
+    follow(alloc, marks, pages, at, count);
+    Ok(())
+}
+
 // Removes a row from a page. A page that is left empty goes.
 fn remove_row(
     alloc: Global,
@@ -165,6 +223,7 @@ fn remove_row(
     requires full { AreFull (values_of pages.old.items) }
     ensures ok { OnOk result (ArePagesOf (values_of pages.new.items) (joined (replaced (values_of pages.old.items) at (at + 1) (row_gone (page_at (values_of pages.old.items) at) place ∷ [])))) }
     ensures err { OnErr result (values_of pages.new.items ≡ values_of pages.old.items) }
+    ensures near { OnOk result (length pages.old.items ≤ length pages.new.items → IsReplacedAt (values_of pages.old.items) at (values_of pages.new.items)) }
 {
     let left = pages[at].len() - 1;
     if left == 0 {
@@ -224,6 +283,7 @@ fn put_smaller(
     requires full { AreFull (values_of pages.old.items) }
     ensures ok { OnOk result (ArePagesOf (values_of pages.new.items) (joined (replaced (values_of pages.old.items) at (at + 1) (page ∷ [])))) }
     ensures err { OnErr result (values_of pages.new.items ≡ values_of pages.old.items) }
+    ensures near { OnOk result (length pages.old.items ≤ length pages.new.items → IsReplacedAt (values_of pages.old.items) at (values_of pages.new.items)) }
 {
     if fits_before(pages, at, page.len()) {
         let both = pages[at - 1].joined(alloc, &page)?;

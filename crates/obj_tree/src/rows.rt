@@ -4,9 +4,11 @@ ghost use Rattle.std.specs.Prelude.{◌≡◌, ◌-◌, ◌≤◌, ◌==◌, ◌
 ghost use Rattle.std.specs.Iterator.{YieldsFirstBy, item_count};
 ghost use Rattle.obj_tree.specs.Edges.{rows_before, IsSpot};
 ghost use Rattle.obj_tree.specs.Pages.{values_of, parts_of, joined, page_at, HoldEach, IsWithin};
+ghost use Rattle.obj_tree.specs.Marks.{AreMarks};
 ghost use Rattle.obj_tree.specs.Words.{from_fit, Passes};
 
 use crate::edges::Spot;
+use crate::mark::{Mark, behind, len_of, unfit_of};
 use crate::node::Node;
 use crate::page::Page;
 use crate::part::Part;
@@ -21,6 +23,8 @@ use std::sync::Arc;
 pub struct Rows<'a> {
     // Of a node, the page that is lent from and those behind it.
     pages: &'a [Arc<Page>],
+    // What the node keeps of these pages.
+    marks: &'a [Mark],
     // The nodes behind that one.
     nodes: &'a [Arc<Node>],
     place: usize,
@@ -32,12 +36,13 @@ impl<'a> Model for Rows<'a> {
     ghost use Rattle.std.specs.Prelude.{◌≤◌, ◌++◌, List, length, take, drop};
     ghost use Rattle.kube_meta.specs.Rows.{RowData};
     ghost use Rattle.obj_tree.specs.Pages.{values_of, joined, HoldEach, IsWithin};
+    ghost use Rattle.obj_tree.specs.Marks.{AreMarks};
 
     ghost Value = { List RowData };
 
     ghost view = { λ r. take r.left (drop r.place (joined (values_of r.pages.now ++ values_of r.nodes.now))) };
 
-    ghost invariant = { λ r. HoldEach 1 (values_of r.pages.now) × HoldEach 1 (values_of r.nodes.now) × IsWithin r.place (values_of r.pages.now) (values_of r.nodes.now) × (r.left ≤ length (drop r.place (joined (values_of r.pages.now ++ values_of r.nodes.now)))) };
+    ghost invariant = { λ r. HoldEach 1 (values_of r.pages.now) × HoldEach 1 (values_of r.nodes.now) × IsWithin r.place (values_of r.pages.now) (values_of r.nodes.now) × (r.left ≤ length (drop r.place (joined (values_of r.pages.now ++ values_of r.nodes.now)))) × AreMarks r.marks.now (values_of r.pages.now) };
 }
 
 impl<'a> Rows<'a> {
@@ -49,8 +54,11 @@ impl<'a> Rows<'a> {
         ensures { result ≡ take left (drop place (joined (values_of nodes.now))) }
     {
         match nodes.split_first() {
-            Some((node, rest)) => lent(node.pages(), rest, place, left),
-            None => lent(&[], nodes, place, left),
+            Some((node, rest)) => {
+                let (pages, marks) = node.parts();
+                lent(pages, marks, rest, place, left)
+            }
+            None => lent(&[], &[], nodes, place, left),
         }
     }
 
@@ -99,14 +107,16 @@ impl<'a> Rows<'a> {
     fn passed(&self, mask: Mask) -> Option<Rows<'a>>
         ensures { MatchOption result (from_fit mask self.now ≡ self.now) (λ rest. Passes mask self.now rest) }
     {
-        passed(self.pages, self.nodes, self.place, self.left, mask)
+        passed(
+            self.pages, self.marks, self.nodes, self.place, self.left, mask,
+        )
     }
 
     // The next row and those behind it, if there is one.
     fn first(&self) -> Option<(&'a Arc<Shown>, Rows<'a>)>
         ensures { MatchOption result (self.now ≡ []) (λ first. self.now ≡ first.0.now.value ∷ first.1) }
     {
-        taken(self.pages, self.nodes, self.place, self.left)
+        taken(self.pages, self.marks, self.nodes, self.place, self.left)
     }
 
     /// How many objects are still to come.
@@ -132,14 +142,21 @@ impl<'a> Iterator for Rows<'a> {
     ghost remaining = { item_count (λ s. s) };
 
     fn next(&mut self) -> Option<&'a Arc<Shown>> {
-        let (shown, rest) = taken(self.pages, self.nodes, self.place, self.left)?;
+        let (shown, rest) = taken(self.pages, self.marks, self.nodes, self.place, self.left)?;
         *self = rest;
         Some(shown)
     }
 }
 
 // So many rows of pages and of the nodes behind them, from a place among the pages' rows on.
-fn lent<'a>(pages: &'a [Arc<Page>], nodes: &'a [Arc<Node>], place: usize, left: usize) -> Rows<'a>
+fn lent<'a>(
+    pages: &'a [Arc<Page>],
+    marks: &'a [Mark],
+    nodes: &'a [Arc<Node>],
+    place: usize,
+    left: usize,
+) -> Rows<'a>
+    requires marks { AreMarks marks.now (values_of pages.now) }
     requires some { HoldEach 1 (values_of pages.now) }
     requires behind { HoldEach 1 (values_of nodes.now) }
     requires place { place ≤ length (joined (values_of pages.now)) }
@@ -147,12 +164,14 @@ fn lent<'a>(pages: &'a [Arc<Page>], nodes: &'a [Arc<Node>], place: usize, left: 
     ensures { result ≡ take left (drop place (joined (values_of pages.now ++ values_of nodes.now))) }
 {
     let mut pages = pages;
+    let mut marks = marks;
     let mut place = place;
     while let Some((page, rest)) = pages.split_first() {
-        let len = page.len();
+        let len = len_of(page, marks);
         if place < len {
             return Rows {
                 pages,
+                marks,
                 nodes,
                 place,
                 left,
@@ -160,6 +179,7 @@ fn lent<'a>(pages: &'a [Arc<Page>], nodes: &'a [Arc<Node>], place: usize, left: 
         }
         place -= len;
         pages = rest;
+        marks = behind(marks);
     }
     opened(pages, nodes, left)
 }
@@ -172,14 +192,19 @@ fn opened<'a>(none: &'a [Arc<Page>], nodes: &'a [Arc<Node>], left: usize) -> Row
     ensures { result ≡ take left (joined (values_of nodes.now)) }
 {
     match nodes.split_first() {
-        Some((node, rest)) => Rows {
-            pages: node.pages(),
-            nodes: rest,
-            place: 0,
-            left,
-        },
+        Some((node, rest)) => {
+            let (pages, marks) = node.parts();
+            Rows {
+                pages,
+                marks,
+                nodes: rest,
+                place: 0,
+                left,
+            }
+        }
         None => Rows {
             pages: none,
+            marks: &[],
             nodes,
             place: 0,
             left,
@@ -190,10 +215,12 @@ fn opened<'a>(none: &'a [Arc<Page>], nodes: &'a [Arc<Node>], left: usize) -> Row
 // The row at a place in the first page, and those after it; `None` where no more are to come.
 fn taken<'a>(
     pages: &'a [Arc<Page>],
+    marks: &'a [Mark],
     nodes: &'a [Arc<Node>],
     place: usize,
     left: usize,
 ) -> Option<(&'a Arc<Shown>, Rows<'a>)>
+    requires marks { AreMarks marks.now (values_of pages.now) }
     requires some { HoldEach 1 (values_of pages.now) }
     requires behind { HoldEach 1 (values_of nodes.now) }
     requires place { IsWithin place (values_of pages.now) (values_of nodes.now) }
@@ -203,17 +230,19 @@ fn taken<'a>(
     let left = left.checked_sub(1)?;
     let (page, _) = pages.split_first()?;
     let shown = &page.rows()[place];
-    Some((shown, lent(pages, nodes, place + 1, left)))
+    Some((shown, lent(pages, marks, nodes, place + 1, left)))
 }
 
 // The rows without some of those of the first page that don't fit a mask.
 fn passed<'a>(
     pages: &'a [Arc<Page>],
+    marks: &'a [Mark],
     nodes: &'a [Arc<Node>],
     place: usize,
     left: usize,
     mask: Mask,
 ) -> Option<Rows<'a>>
+    requires marks { AreMarks marks.now (values_of pages.now) }
     requires some { HoldEach 1 (values_of pages.now) }
     requires behind { HoldEach 1 (values_of nodes.now) }
     requires place { IsWithin place (values_of pages.now) (values_of nodes.now) }
@@ -222,12 +251,12 @@ fn passed<'a>(
         (λ rest. Passes mask (take left (drop place (joined (values_of pages.now ++ values_of nodes.now)))) rest) }
 {
     let (page, _) = pages.split_first()?;
-    let unfit = page.unfit(place, mask);
+    let unfit = unfit_of(page, marks, place, mask);
     let over = unfit.min(left);
     if over == 0 {
         return None;
     }
-    Some(lent(pages, nodes, place + over, left - over))
+    Some(lent(pages, marks, nodes, place + over, left - over))
 }
 
 /// How many rows parts hold.

@@ -5,6 +5,7 @@ use Rattle.kube_meta.specs.Rows.{RowData}
 use Rattle.obj_tree.specs.Pages.{values_of, page_at, FitsBefore, FitsAfter}
 use Rattle.obj_tree.proofs.PageLemmas.{indexed}
 use Rattle.obj_tree.proofs.EditLemmas.{with_before, with_next, stays}
+use Rattle.obj_tree.proofs.MarkLemmas.{joined_fewer}
 use Rattle.obj_tree.proofs.pages.put_smaller.Goals as goal
 
 pub returns-then-fits_before-clause-ok : goal.returns-then-fits_before-clause-ok
@@ -46,3 +47,18 @@ returns-clause-ok c =
     true≢false (sym (c.fits_after.ensures.1 (rw c.deref-2.ensures.value told)) ∙ c.if-fits_after.false) in
     let now = stays (values_of items) c.args.at c.args.page (omega (arith, length-map items (λ p. p.value), c.requires.inside)) c.requires.sized c.requires.full c.requires.smaller c.requires.some not_before not_after in
     rw c.in_ok-put_page.ensures.ok now
+
+-- where two became one there are fewer
+pub returns-then-fits_before-clause-near : goal.returns-then-fits_before-clause-near
+returns-then-fits_before-clause-near c = λ more.
+    let items = c.args.pages.now.items in
+    let told : FitsBefore (values_of items) c.args.at c.len.result = rw c.deref.ensures.value at (c.fits_before.ensures.0 c.if-fits_before.true) in
+    let fewer = joined_fewer (values_of items) (values_of c.put_joined.new.pages.items) (c.args.at - 1) c.in_ok-both.both (omega (arith, told.0, c.requires.inside, length-map items (λ p. p.value))) c.in_ok-put_joined.ensures.ok in
+    absurd (omega (arith, more, fewer, length-map items (λ p. p.value), length-map c.put_joined.new.pages.items (λ p. p.value)))
+
+pub returns-then-fits_after-clause-near : goal.returns-then-fits_after-clause-near
+returns-then-fits_after-clause-near c = λ more.
+    let items = c.args.pages.now.items in
+    let told : FitsAfter (values_of items) c.args.at c.len-2.result = rw c.deref-2.ensures.value at (c.fits_after.ensures.0 c.if-fits_after.true) in
+    let fewer = joined_fewer (values_of items) (values_of c.put_joined-then-fits_after.new.pages.items) c.args.at c.in_ok-both-2.both told.0 c.in_ok-put_joined-2.ensures.ok in
+    absurd (omega (arith, more, fewer, length-map items (λ p. p.value), length-map c.put_joined-then-fits_after.new.pages.items (λ p. p.value)))

@@ -15,7 +15,8 @@ returns-in_default-row c =
       rows = nothing_gone pages key place.page c.in_default-row.field-0 found.page_is here;
       answer = sym (gap_none pages key place.page found.page_is c.in_default-row.field-0 here);
       len = refl;
-      paged = c.requires;
+      paged = c.requires.paged;
+      marks = c.requires.marks;
       err = tt;
     }
 
@@ -28,11 +29,12 @@ returns c =
     let here = place_ok pages key place c.in-Ok.row found c.in-Ok.is in
     let row = c.in_ok-old.old.value in
     let old = rw c.deref-2.ensures.value at (c.in_ok-old.ensures row) in
-    let now = c.in_ok-remove_row.ensures.ok in
+    let now = c.in_ok-remove_marked.ensures.ok in
     record {
-      rows = gone_rows pages _ key place.page c.in-Ok.row row c.requires found.page_is here now;
+      rows = gone_rows pages _ key place.page c.in-Ok.row row c.requires.paged found.page_is here now;
       answer = ap Some old ∙ sym (row_some pages key place.page found.page_is c.in-Ok.row row here);
-      len = gone_len pages _ key place.page c.in-Ok.row row c.requires found.page_is here now;
-      paged = gone_paged pages _ key place.page c.in-Ok.row row c.requires found.page_is here now;
+      len = gone_len pages _ key place.page c.in-Ok.row row c.requires.paged found.page_is here now;
+      paged = gone_paged pages _ key place.page c.in-Ok.row row c.requires.paged found.page_is here now;
+      marks = c.in_ok-remove_marked.ensures.marks;
       err = tt;
     }

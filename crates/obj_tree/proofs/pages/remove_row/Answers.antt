@@ -1,4 +1,4 @@
-use Rattle.std.proofs.Common.{◌≡◌, ◌-◌, ◌<◌, length, List, ap, sym, ◌∙◌, subst, arith}
+use Rattle.std.proofs.Common.{◌≡◌, ◌-◌, ◌<◌, length, List, [], ◌∷◌, refl, ap, sym, ◌∙◌, subst, arith}
 use Rattle.std.proofs.lemmas.List.{length-map}
 use Rattle.kube_meta.specs.Rows.{RowData}
 use Rattle.obj_tree.specs.Pages.{values_of, page_at, row_gone, FitsBefore, FitsAfter}
@@ -38,3 +38,8 @@ returns-then-stays-clause-ok c =
     c.stays.ensures.after c.if-stays.true (rw c.deref-2.ensures.value (subst (λ n. FitsAfter (values_of items) c.args.at n) left fits)) in
     let now = stays (values_of items) c.args.at new inside c.requires.sized c.requires.full less (omega (arith, left, c.if-left-eq0.false)) not_before not_after in
     rw (set_page (λ p. p.value) items c.args.at c.remove_in.new.page new c.requires.inside same) now
+
+pub returns-then-stays-clause-near : goal.returns-then-stays-clause-near
+returns-then-stays-clause-near c = λ more.
+    let new = c.remove_in.new.page in
+    (new.value ∷ [], set_page (λ p. p.value) c.args.pages.now.items c.args.at new new.value c.requires.inside refl)

@@ -1,7 +1,7 @@
 use Rattle.std.proofs.Common.{◌≡◌, ℕ, true, List, length, get_or, ap, sym, ◌∙◌, subst, arith}
 use Rattle.kube_meta.specs.Words.{has_bits}
 use Rattle.kube_meta.proofs.WordLemmas.{has_none}
-use Rattle.obj_tree.specs.Words.{HaveEights, IsFirstWith}
+use Rattle.obj_tree.specs.Words.{HaveFours, IsFirstWith}
 use Rattle.obj_tree.proofs.column.Column.first_with.Goals as goal
 
 -- every word has no bits
@@ -16,8 +16,8 @@ returns-then-mask-eq0 c = record {
 pub first_with-requires-clause-from : goal.first_with-requires-clause-from
 first_with-requires-clause-from c = omega (arith, c.requires, ap length (c.deref.ensures.value ∙ c.self.view_is))
 
-pub first_with-requires-clause-eights : goal.first_with-requires-clause-eights
-first_with-requires-clause-eights c = subst (λ (words : List ℕ). HaveEights c.self.inside.eights words) (sym c.deref.ensures.value) c.self.invariant
+pub first_with-requires-clause-fours : goal.first_with-requires-clause-fours
+first_with-requires-clause-fours c = subst (λ (words : List ℕ). HaveFours c.self.inside.fours words) (sym c.deref.ensures.value) c.self.invariant
 
 pub returns : goal.returns
 returns c =

@@ -1,6 +1,6 @@
 use Rattle.std.proofs.Common.{ℕ, List, subst}
-use Rattle.obj_tree.specs.Words.{HaveEights}
+use Rattle.obj_tree.specs.Words.{HaveFours}
 use Rattle.obj_tree.proofs.column.Column.replace.Goals as goal
 
 pub invariant_of-self : goal.invariant_of-self
-invariant_of-self c = subst (λ (words : List ℕ). HaveEights c.eights_of-self-inside.result words) c.deref.ensures.value c.eights_of-self-inside.ensures
+invariant_of-self c = subst (λ (words : List ℕ). HaveFours c.fours_of-self-inside.result words) c.deref.ensures.value c.fours_of-self-inside.ensures

@@ -9,9 +9,9 @@ lent-requires-clause-left c =
     let nodes = values_of c.args.nodes.now in
     let node = c.in-Some.node.now.value in
     let rest = values_of c.in-Some.rest.now in
-    let pages = values_of c.pages.result.now in
+    let pages = values_of c.parts.result.0.now in
     let same : nodes ≡ node ∷ rest = ap values_of c.in-Some.ensures.cases.0 in
-    let first : joined pages ≡ node = c.pages.ensures.rows ∙ c.deref.ensures in
+    let first : joined pages ≡ node = c.parts.ensures.rows ∙ c.deref.ensures in
     let all : joined (pages ++ rest) ≡ joined nodes = joined-append pages rest ∙ ap (λ (r : List RowData). r ++ joined rest) first ∙ sym (ap joined same) in
     omega (arith, c.requires.left, ap (λ (r : List RowData). length (drop c.args.place r)) all)
 
@@ -20,8 +20,8 @@ returns-in-Some c =
     let nodes = values_of c.args.nodes.now in
     let node = c.in-Some.node.now.value in
     let rest = values_of c.in-Some.rest.now in
-    let pages = values_of c.pages.result.now in
+    let pages = values_of c.parts.result.0.now in
     let same : nodes ≡ node ∷ rest = ap values_of c.in-Some.ensures.cases.0 in
-    let first : joined pages ≡ node = c.pages.ensures.rows ∙ c.deref.ensures in
+    let first : joined pages ≡ node = c.parts.ensures.rows ∙ c.deref.ensures in
     let all : joined (pages ++ rest) ≡ joined nodes = joined-append pages rest ∙ ap (λ (r : List RowData). r ++ joined rest) first ∙ sym (ap joined same) in
     c.lent.ensures ∙ ap (λ (r : List RowData). take c.args.left (drop c.args.place r)) all
