@@ -14,10 +14,10 @@ abbrev Made : Resource → RevisionData → List RowData → List RowData → Ty
 Made resource revision old new = AreStepped old new (λ key row. row_next resource key row revision)
 
 -- nothing of it is made, or all
-none : (resource : Resource) (revision : RevisionData) (rows : List RowData) → ArePartlyMade resource revision rows rows
+pub none : (resource : Resource) (revision : RevisionData) (rows : List RowData) → ArePartlyMade resource revision rows rows
 none resource revision rows = (0, stepped-none (λ key. row_after resource key revision.rev) rows revision.changes)
 
-all : (resource : Resource) (revision : RevisionData) (old new : List RowData) → Made resource revision old new → ArePartlyMade resource revision old new
+pub all : (resource : Resource) (revision : RevisionData) (old new : List RowData) → Made resource revision old new → ArePartlyMade resource revision old new
 all resource revision old new made = (
   length revision.changes,
   record {
@@ -26,24 +26,12 @@ all resource revision old new made = (
   },
 )
 
-pub begun_pods : (revision : RevisionData) (old : Tables) (pods : List RowData) → ArePartlyMade Pods revision old.pods pods →
-    HaveBegun revision old (record { pods = pods; config_maps = old.config_maps; deployments = old.deployments })
-begun_pods revision old pods begun Pods = begun
-begun_pods revision old pods begun ConfigMaps = none ConfigMaps revision old.config_maps
-begun_pods revision old pods begun Deployments = none Deployments revision old.deployments
-
-pub begun_config_maps : (revision : RevisionData) (old : Tables) (pods config_maps : List RowData) → Made Pods revision old.pods pods →
-    ArePartlyMade ConfigMaps revision old.config_maps config_maps → HaveBegun revision old (record { pods = pods; config_maps = config_maps; deployments = old.deployments })
-begun_config_maps revision old pods config_maps first begun Pods = all Pods revision old.pods pods first
-begun_config_maps revision old pods config_maps first begun ConfigMaps = begun
-begun_config_maps revision old pods config_maps first begun Deployments = none Deployments revision old.deployments
-
-pub begun_deployments : (revision : RevisionData) (old : Tables) (pods config_maps deployments : List RowData) → Made Pods revision old.pods pods →
-    Made ConfigMaps revision old.config_maps config_maps → ArePartlyMade Deployments revision old.deployments deployments →
+pub begun : (revision : RevisionData) (old : Tables) (pods config_maps deployments : List RowData) → ArePartlyMade Pods revision old.pods pods →
+    ArePartlyMade ConfigMaps revision old.config_maps config_maps → ArePartlyMade Deployments revision old.deployments deployments →
     HaveBegun revision old (record { pods = pods; config_maps = config_maps; deployments = deployments })
-begun_deployments revision old pods config_maps deployments first second begun Pods = all Pods revision old.pods pods first
-begun_deployments revision old pods config_maps deployments first second begun ConfigMaps = all ConfigMaps revision old.config_maps config_maps second
-begun_deployments revision old pods config_maps deployments first second begun Deployments = begun
+begun revision old pods config_maps deployments first second third Pods = first
+begun revision old pods config_maps deployments first second third ConfigMaps = second
+begun revision old pods config_maps deployments first second third Deployments = third
 
 pub made : (revision : RevisionData) (old : Tables) (pods config_maps deployments : List RowData) → Made Pods revision old.pods pods →
     Made ConfigMaps revision old.config_maps config_maps → Made Deployments revision old.deployments deployments →

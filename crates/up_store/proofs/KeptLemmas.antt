@@ -1,9 +1,8 @@
 -- What a store keeps, as its tables follow the log.
-use Rattle.std.proofs.Common.{◌≡◌, ℕ, zero, suc, ◌+◌, ◌-◌, ◌^◌, ◌<◌, ◌≤◌, ◌⊎◌, inl, inr, List, [], ◌∷◌, ◌++◌, length, get_or, take, drop, fold, refl, leb, leb-true, leb-false, sym, ap, ◌∙◌, subst, arith, length-take, length-append}
-use Rattle.std.proofs.Math.ListN.{drop_of_length-le}
+use Rattle.std.proofs.Common.{◌≡◌, ℕ, ◌+◌, ◌-◌, ◌^◌, ◌<◌, ◌≤◌, inl, inr, List, [], ◌∷◌, ◌++◌, length, get_or, take, drop, fold, refl, sym, ap, ◌∙◌, subst, arith, length-take, length-append}
 use Rattle.std.proofs.Math.Seq.{take-nil, drop-nil}
-use Rattle.std.proofs.lemmas.Bool.{cases_Bool}
-use Rattle.std.proofs.lemmas.List.{drop-take, drop-append-le}
+use Rattle.std.proofs.lemmas.Bool.{cases_lt}
+use Rattle.std.proofs.lemmas.List.{drop_all, drop-drop, drop-take, drop-append-le}
 use Rattle.std.proofs.lemmas.List.Sums.{fold-append}
 use Rattle.std.specs.List.{filter_map}
 use Rattle.kube_meta.specs.Rows.{RowData, AreRising, row_with}
@@ -13,21 +12,13 @@ use Rattle.rev_log.specs.Logs.{Log, end_of, upto, between, grown}
 use Rattle.rev_log.specs.States.{row_next, row_at, row_in_base, IsStateAt}
 use Rattle.rev_log.proofs.GrowthLemmas.{upto-end, upto-grown, row_at-grown, row_at-pushed, AreNumbered-push}
 use Rattle.up_api.specs.Feeds.{IsHistory, part_of}
-use Rattle.up_store.specs.Kept.{rows_of, AreStepped, HoldEach, HaveMade, HaveBegun, Replay, Keeps, AreBounded}
+use Rattle.up_store.specs.Kept.{rows_of, AreStepped, HoldEach, HaveMade, Replay, Keeps}
 use Rattle.up_store.specs.Past.{IsOldState, IsOldHistory}
 use Rattle.up_store.specs.declared.kept.Kept.{Kept}
 use Rattle.up_store.specs.declared.past.OldHistory.{OldHistory}
 use Rattle.up_store.specs.declared.past.OldState.{OldState}
 use Rattle.up_store.specs.declared.tables.Tables.{Tables}
-use Rattle.up_store.proofs.ReplayLemmas.{between-step, between-length, Replay-made, Replay-begun}
-
-drop-again : {A : Type 0} (p q : ℕ) (xs : List A) → drop q (drop p xs) ≡ drop (p + q) xs
-drop-again zero q xs = ap (λ n. drop n xs) (omega arith)
-drop-again (suc p) q [] = drop-nil q ∙ sym (drop-nil (suc p + q))
-drop-again (suc p) q (x ∷ xs) = drop-again p q xs ∙ ap (λ n. drop n (x ∷ xs)) {x = suc (p + q)} (omega arith)
-
-le-or-lt : (a b : ℕ) → (a ≤ b) ⊎ (b < a)
-le-or-lt a b = elim (cases_Bool (leb a b)) [ inl below ↦ inl (leb-true a b below) | inr above ↦ inr (leb-false a b above) ]
+use Rattle.up_store.proofs.ReplayLemmas.{between-step, between-length, Replay-made}
 
 -- how many revisions are kept
 pub kept-length : (log : Log) (floor : ℕ) (kept : Kept) → Keeps log floor kept → kept.from + length kept.revisions.items ≡ end_of log
@@ -43,61 +34,24 @@ next-kept log floor kept at i r keeps at_is is to below within =
     subst (λ n. between log n to ≡ r ∷ between log (n + 1) to) (sym at_is)
     (between-step log kept.from i to r keeps.begun (omega (arith, at_is, below)) within (is ∙ ap (λ xs. get_or xs i r) keeps.revisions))
 
--- the last rows follow the log, and the rest stays
-last-follow : (log : Log) (floor : ℕ) (kept new : Kept) → new.from ≡ kept.from → new.revisions.items ≡ kept.revisions.items → new.floor_rows ≡ kept.floor_rows →
-    kept.last_at ≤ new.last_at → new.last_at ≤ end_of log → Replay log new.last_at (end_of log) new.last_rows → Keeps log floor kept → Keeps log floor new
-last-follow log floor kept new from items floor_rows later within last keeps = record {
-  numbered = keeps.numbered;
-  ends = keeps.ends;
-  begun = omega (arith, from, keeps.begun);
-  within = omega (arith, from, keeps.within);
-  reached = keeps.reached;
-  revisions = items ∙ keeps.revisions ∙ ap (λ n. between log n (end_of log)) (sym from);
-  floor_rows = rw (from, floor_rows) keeps.floor_rows;
-  followed = omega (arith, from, later, keeps.followed);
-  behind = within;
-  last_rows = last;
-}
-
--- the last rows made one more revision
-pub caught : (log : Log) (floor i : ℕ) (r : RevisionData) (kept new : Kept) → new.from ≡ kept.from → new.revisions ≡ kept.revisions → new.floor_rows ≡ kept.floor_rows →
-    kept.last_at ≡ kept.from + i → i < length kept.revisions.items → r ≡ get_or kept.revisions.items i r → new.last_at ≡ kept.last_at + 1 →
-    HaveMade r kept.last_rows new.last_rows → Keeps log floor kept → Keeps log floor new
-caught log floor i r kept new from revisions floor_rows at inside is next made keeps =
-    let long = kept-length log floor kept keeps in
-    let last : Replay log (kept.last_at + 1) (end_of log) new.last_rows =
-    Replay-made log kept.last_at (end_of log) r kept.last_rows new.last_rows (omega (arith, long, at, inside)) (next-kept log floor kept kept.last_at i r keeps at is) made keeps.last_rows in
-    last-follow log floor kept new from (ap (λ rs. rs.items) revisions) floor_rows (omega (arith, next)) (omega (arith, long, at, inside, next))
-    (subst (λ n. Replay log n (end_of log) new.last_rows) (sym next) last) keeps
-
--- they made the first changes of it
-pub catching : (log : Log) (floor i : ℕ) (r : RevisionData) (kept new : Kept) → new.from ≡ kept.from → new.revisions ≡ kept.revisions → new.floor_rows ≡ kept.floor_rows →
-    kept.last_at ≡ kept.from + i → i < length kept.revisions.items → r ≡ get_or kept.revisions.items i r → new.last_at ≡ kept.last_at →
-    HaveBegun r kept.last_rows new.last_rows → Keeps log floor kept → Keeps log floor new
-catching log floor i r kept new from revisions floor_rows at inside is same begun keeps =
-    let long = kept-length log floor kept keeps in
-    let last : Replay log kept.last_at (end_of log) new.last_rows =
-    Replay-begun log kept.last_at (end_of log) r kept.last_rows new.last_rows (omega (arith, long, at, inside)) (next-kept log floor kept kept.last_at i r keeps at is) begun keeps.last_rows in
-    last-follow log floor kept new from (ap (λ rs. rs.items) revisions) floor_rows (omega (arith, same)) (omega (arith, same, keeps.behind))
-    (subst (λ n. Replay log n (end_of log) new.last_rows) (sym same) last) keeps
-
--- ---- the floor's rows follow
-
--- and the rest stays
-floor-follow : (log : Log) (floor : ℕ) (kept new : Kept) → kept.from ≤ new.from → new.from ≤ floor → new.from ≤ kept.last_at → new.revisions.items ≡ between log new.from (end_of log) →
-    new.last_at ≡ kept.last_at → new.last_rows ≡ kept.last_rows → Replay log new.from floor new.floor_rows → Keeps log floor kept → Keeps log floor new
-floor-follow log floor kept new later within followed revisions last_at last_rows rows keeps = record {
+-- the tables follow the log
+pub follow : (log : Log) (floor : ℕ) (kept new : Kept) → kept.from ≤ new.from → new.from ≤ floor → new.from ≤ new.last_at → new.last_at ≤ end_of log →
+    new.revisions.items ≡ between log new.from (end_of log) → Replay log new.from floor new.floor_rows → Replay log new.last_at (end_of log) new.last_rows →
+    Keeps log floor kept → Keeps log floor new
+follow log floor kept new later within followed behind revisions floor_rows last_rows keeps = record {
   numbered = keeps.numbered;
   ends = keeps.ends;
   begun = omega (arith, later, keeps.begun);
   within = within;
   reached = keeps.reached;
   revisions = revisions;
-  floor_rows = rows;
-  followed = omega (arith, followed, last_at);
-  behind = omega (arith, last_at, keeps.behind);
-  last_rows = rw (last_at, last_rows) keeps.last_rows;
+  floor_rows = floor_rows;
+  followed = followed;
+  behind = behind;
+  last_rows = last_rows;
 }
+
+-- ---- the floor's rows follow
 
 -- they made one more revision, which is kept no longer
 pub dropped : (log : Log) (floor : ℕ) (r : RevisionData) (kept new : Kept) → kept.from < floor → kept.last_at ≡ kept.from + length kept.revisions.items →
@@ -111,19 +65,10 @@ dropped log floor r kept new below whole first next last_at last_rows made keeps
     let revisions : new.revisions.items ≡ between log (kept.from + 1) (end_of log) = cc in
     let rows : Replay log (kept.from + 1) floor new.floor_rows =
     Replay-made log kept.from floor r kept.floor_rows new.floor_rows (omega (arith, below)) parts made keeps.floor_rows in
-    floor-follow log floor kept new (omega (arith, next)) (omega (arith, next, below)) (omega (arith, next, whole, ap length first))
-    (revisions ∙ ap (λ n. between log n (end_of log)) (sym next)) last_at last_rows (subst (λ n. Replay log n floor new.floor_rows) (sym next) rows) keeps
-
--- they made the first changes of it
-pub dropping : (log : Log) (floor : ℕ) (r : RevisionData) (kept new : Kept) → kept.from < floor → 0 < length kept.revisions.items → r ≡ get_or kept.revisions.items 0 r →
-    new.from ≡ kept.from → new.revisions ≡ kept.revisions → new.last_at ≡ kept.last_at → new.last_rows ≡ kept.last_rows →
-    HaveBegun r kept.floor_rows new.floor_rows → Keeps log floor kept → Keeps log floor new
-dropping log floor r kept new below some is from revisions last_at last_rows begun keeps =
-    let long = kept-length log floor kept keeps in
-    let rows : Replay log kept.from floor new.floor_rows =
-    Replay-begun log kept.from floor r kept.floor_rows new.floor_rows (omega (arith, below)) (next-kept log floor kept kept.from 0 r keeps (omega arith) is) begun keeps.floor_rows in
-    floor-follow log floor kept new (omega (arith, from)) (omega (arith, from, below)) (omega (arith, from, keeps.followed))
-    (ap (λ rs. rs.items) revisions ∙ keeps.revisions ∙ ap (λ n. between log n (end_of log)) (sym from)) last_at last_rows (subst (λ n. Replay log n floor new.floor_rows) (sym from) rows) keeps
+    follow log floor kept new (omega (arith, next)) (omega (arith, next, below)) (omega (arith, next, whole, last_at, ap length first))
+    (omega (arith, last_at, keeps.behind))
+    (revisions ∙ ap (λ n. between log n (end_of log)) (sym next)) (subst (λ n. Replay log n floor new.floor_rows) (sym next) rows)
+    (rw (last_at, last_rows) keeps.last_rows) keeps
 
 -- ---- what is read
 
@@ -138,7 +83,7 @@ between-kept log floor kept a b keeps above order within =
     let start : a - log.first ≡ q + (a - kept.from) = omega (arith, keeps.begun, above) in
     ap (λ n. drop n (take (b - log.first) log.revisions)) start
     ∙ ap (λ n. drop (q + (a - kept.from)) (take n log.revisions)) end
-    ∙ sym (drop-again q (a - kept.from) (take (q + (b - kept.from)) log.revisions))
+    ∙ sym (drop-drop (a - kept.from) q (take (q + (b - kept.from)) log.revisions))
     ∙ ap (drop (a - kept.from)) (drop-take q (b - kept.from) log.revisions)
     ∙ ap (λ xs. drop (a - kept.from) (take (b - kept.from) xs)) (sym items)
 
@@ -149,7 +94,8 @@ row-kept log floor kept resource key whole keeps =
     let long = kept-length log floor kept keeps in
     let none : between log kept.last_at (end_of log) ≡ [] =
     between-kept log floor kept kept.last_at (end_of log) keeps keeps.followed keeps.behind (omega arith)
-    ∙ drop_of_length-le (take (end_of log - kept.from) kept.revisions.items) (omega (arith, long, whole, length-take (end_of log - kept.from) kept.revisions.items)) in
+    ∙ drop_all (kept.last_at - kept.from) (take (end_of log - kept.from) kept.revisions.items)
+    (omega (arith, long, whole, length-take (end_of log - kept.from) kept.revisions.items)) in
     ap (fold (row_next resource key) (row_with (rows_of kept.last_rows resource) key)) {x = []} (sym none)
     ∙ keeps.last_rows.replays resource key (end_of log) (omega arith) (omega arith)
 
@@ -185,11 +131,15 @@ old-after log floor kept resource count old inside same rows are later keeps =
     }
 
 -- what a history is made of
-pub old-history : (log : Log) (floor : ℕ) (kept : Kept) (resource : Resource) (from upto : ℕ) (old : OldHistory) → kept.from ≤ from → from ≤ kept.from + length kept.revisions.items →
-    old.floor ≡ from → old.upto ≡ upto → upto ≡ end_of log → IsOldState log resource from old.state → old.revisions.items ≡ between log from (end_of log) →
-    Keeps log floor kept → IsOldHistory log from resource old
-old-history log floor kept resource from upto old above reached floor_is upto_is end state revisions keeps =
+pub old-history : (log : Log) (floor : ℕ) (kept : Kept) (resource : Resource) (from upto len : ℕ) (old : OldHistory) → kept.from ≤ from →
+    from ≤ kept.from + length kept.revisions.items →
+    old.floor ≡ from → old.upto ≡ upto → upto ≡ end_of log → len ≡ length kept.revisions.items → IsOldState log resource from old.state →
+    old.revisions.items ≡ drop (from - kept.from) (take len kept.revisions.items) → Keeps log floor kept → IsOldHistory log from resource old
+old-history log floor kept resource from upto len old above reached floor_is upto_is end whole state are keeps =
     let long = kept-length log floor kept keeps in
+    let revisions : old.revisions.items ≡ between log from (end_of log) =
+    are ∙ ap (λ n. drop (from - kept.from) (take n kept.revisions.items)) {x = len} {y = end_of log - kept.from} (omega (arith, whole, long))
+    ∙ sym (between-kept log floor kept from (end_of log) keeps above (omega (arith, long, reached)) (omega arith)) in
     record {
       begun = omega (arith, keeps.begun, above, floor_is);
       kept = omega (arith, floor_is);
@@ -230,11 +180,11 @@ grown-replay : (log : Log) (r : RevisionData) (from least next : ℕ) (tables : 
     Replay log from least tables → Replay (grown log (r ∷ [])) from next tables
 grown-replay log r from least next tables begun within low later was = record {
   rising = was.rising;
-  replays = λ resource key at above below. elim (le-or-lt at (end_of log)) [
-    | inl before ↦
+  replays = λ resource key at above below. elim (cases_lt (end_of log) at) [
+    | inr before ↦
         ap (λ xs. fold (row_next resource key) (row_with (rows_of tables resource) key) (drop (from - log.first) xs)) (upto-grown log (r ∷ []) at before)
         ∙ was.replays resource key at (omega (arith, later, above)) before ∙ sym (row_at-grown log (r ∷ []) resource at key before)
-    | inr after ↦
+    | inl after ↦
         let is : at ≡ end_of log + 1 = omega (arith, after, below, length-append log.revisions (r ∷ [])) in
         let whole : upto (grown log (r ∷ [])) at ≡ log.revisions ++ r ∷ [] = upto-end (grown log (r ∷ [])) at (omega (arith, is, length-append log.revisions (r ∷ []))) in
         let before : upto log (end_of log) ≡ log.revisions = upto-end log (end_of log) (omega arith) in
@@ -294,16 +244,6 @@ keeps-raised log floor next kept higher within keeps = record {
   };
 }
 
--- its numbers
-pub keeps-bounded : (log : Log) (floor : ℕ) (kept : Kept) → Keeps log floor kept → AreBounded kept
-keeps-bounded log floor kept keeps =
-    let long = kept-length log floor kept keeps in
-    record {
-      followed = keeps.followed;
-      behind = omega (arith, long, keeps.behind);
-      bounded = omega (arith, long, keeps.ends);
-    }
-
 -- a log without revisions
 abbrev pub opening : List RowData → ℕ → Log
 opening base first = record { first = first; base = base; revisions = [] }
@@ -337,10 +277,3 @@ keeps-begun base first kept fits from last_at items floor_rows last_rows = recor
   behind = omega (arith, last_at);
   last_rows = opening-replay base first kept.last_at (end_of (opening base first)) kept.last_rows last_rows;
 }
-
--- the same with more room
-pub keeps-roomy : (log : Log) (floor : ℕ) (kept new : Kept) → new ≡ record kept { revisions = new.revisions } → new.revisions.items ≡ kept.revisions.items → Keeps log floor kept → Keeps log floor new
-keeps-roomy log floor kept new rest items keeps =
-    let last_at : new.last_at ≡ kept.last_at = ap (λ k. k.last_at) rest in
-    last-follow log floor kept new (ap (λ k. k.from) rest) items (ap (λ k. k.floor_rows) rest) (omega (arith, last_at)) (omega (arith, last_at, keeps.behind))
-    (subst (λ (k : Kept). Replay log k.last_at (end_of log) k.last_rows) (sym rest) keeps.last_rows) keeps

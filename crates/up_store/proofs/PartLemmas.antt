@@ -1,5 +1,5 @@
 -- The part of a revision that is of one resource.
-use Rattle.std.proofs.Common.{◌≡◌, ℕ, Bool, List, [], ◌∷◌, length, filter, Some, Result, Ok, Err, OnErr, arith, ◌==◌, false, refl}
+use Rattle.std.proofs.Common.{◌≡◌, ℕ, Bool, List, [], ◌∷◌, length, filter, Some, arith, ◌==◌, false, refl}
 use Rattle.std.proofs.lemmas.List.Kept.{IsStrictlySortedBy-filter}
 use Rattle.std.proofs.lemmas.List.Elements.{All-filter}
 use Rattle.std.proofs.lemmas.List.Sums.{length-filter, count_by-le-length}
@@ -14,15 +14,6 @@ IsRevision-filter p revision is = record {
   numbered = All-filter p (λ change. change.rev ≡ revision.rev) revision.changes is.numbered;
   keyed = All-filter p HasItsKey revision.changes is.keyed;
 }
-
--- a fact of an error
-pub on_err : {A E : Type 0} (r : Result A E) {P : Type 0} → P → OnErr r P
-on_err (Ok x) fact = tt
-on_err (Err e) fact = fact
-
-pub on_err_from : {A E : Type 0} (r : Result A E) {P Q : Type 0} → (P → Q) → OnErr r P → OnErr r Q
-on_err_from (Ok x) follows fact = tt
-on_err_from (Err e) follows fact = follows fact
 
 -- changes that there are
 pub some_changes : (rev : ℕ) (changes : List ChangeData) → (length changes == 0) ≡ false → Some (record { rev = rev; changes = changes }) ≡ unless_empty rev changes

@@ -1,11 +1,11 @@
 -- Whether an object stood before, among the writes themselves.
-use Rattle.std.proofs.Common.{◌≡◌, ℕ, zero, suc, ◌==◌, ◌<◌, ◌≤◌, sym, subst, arith, false, Bool, ◌||◌, List, [], ◌∷◌, length, map, take, get_or, refl, ap, ◌∙◌}
+use Rattle.std.proofs.Common.{◌≡◌, ℕ, ◌<◌, sym, arith, Bool, ◌||◌, List, [], ◌∷◌, length, map, take, get_or, refl, ap, ◌∙◌}
 use Rattle.std.specs.List.{list_any}
 use Rattle.std.proofs.lemmas.List.{take-map}
 use Rattle.std.proofs.lemmas.Option.{slice_get-get_or, slice_get-map}
 use Rattle.std.proofs.lemmas.List.{length-map}
 use Rattle.up_store.specs.declared.writes.WriteAsk.{WriteAsk}
-use Rattle.up_store.specs.Transactions.{target_of, same_target, stands_before, AreTransaction}
+use Rattle.up_store.specs.Transactions.{target_of, same_target, stands_before}
 
 -- a test of mapped items
 any-map : {X Y : Type 0} (f : X → Y) (p : Y → Bool) (xs : List X) → list_any p (map f xs) ≡ list_any (λ x. p (f x)) xs
@@ -23,24 +23,5 @@ stands_before_among items i item below is found e =
 pub in_targets : (items : List WriteAsk) (i : ℕ) → i < length items → i < length (map target_of items)
 in_targets items i below = rw (length-map items target_of) below
 
-from_targets : (items : List WriteAsk) (i : ℕ) → i < length (map target_of items) → i < length items
+pub from_targets : (items : List WriteAsk) (i : ℕ) → i < length (map target_of items) → i < length items
 from_targets items i below = let same : length (map target_of items) ≡ length items = length-map items target_of in omega arith
-
--- no object of these stood before
-NoneBefore : List WriteAsk → Type 0
-NoneBefore items = (i : ℕ) → i < length items → stands_before (map target_of items) i ≡ false
-
-pub are_transaction : (items lent : List WriteAsk) → lent ≡ items → 1 ≤ length items → length items ≤ 64 →
-    ((i : ℕ) → i < length lent → stands_before (map target_of lent) i ≡ false) → AreTransaction items
-unfolding NoneBefore
-are_transaction items lent same some few distinct =
-    let none : NoneBefore items = subst NoneBefore same distinct in
-    record {
-      some_item = some;
-      few = few;
-      distinct = λ i below. none i (from_targets items i below);
-    }
-
-pub positive : (n : ℕ) → (n == 0) ≡ false → 1 ≤ n
-positive zero is_none = cc
-positive (suc n) is_none = omega arith

@@ -2,6 +2,7 @@
 use Rattle.std.proofs.Common.{◌≡◌, ℕ, zero, suc, ◌+◌, ◌-◌, ◌<◌, ◌≤◌, List, [], ◌∷◌, length, get_or, take, drop, fold, Option, refl, sym, ap, ◌∙◌, arith, ◌⊎◌, inl, inr, length-drop}
 use Rattle.std.proofs.Math.Seq.{take-nil}
 use Rattle.std.proofs.lemmas.Bool.{cases_Bool}
+use Rattle.std.proofs.lemmas.List.{get_or-drop}
 use Rattle.kube_meta.specs.Rows.{RowData, row_with}
 use Rattle.kube_meta.specs.declared.resources.Resource.{Resource}
 use Rattle.rev_log.specs.Changes.{ChangeData, RevisionData}
@@ -44,11 +45,6 @@ step zero (suc n) (y ∷ xs) x below within is = ap (λ z. z ∷ take n xs) (sym
 step (suc p) zero (y ∷ xs) x below within is = absurd (omega arith)
 step (suc p) (suc n) (y ∷ xs) x below within is = step p n xs x (omega arith) (omega arith) is
 
-get_or-drop : {A : Type 0} (q i : ℕ) (xs : List A) (d : A) → get_or (drop q xs) i d ≡ get_or xs (q + i) d
-get_or-drop zero i xs d = ap (λ n. get_or xs n d) (omega arith)
-get_or-drop (suc q) i [] d = refl
-get_or-drop (suc q) i (x ∷ xs) d = get_or-drop q i xs d ∙ ap (λ n. get_or (x ∷ xs) n d) {x = suc (q + i)} (omega arith)
-
 -- the kept revision at place i begins the revisions from there on
 pub between-step : (log : Log) (from i at : ℕ) (r : RevisionData) → log.first ≤ from → from + i < at → at ≤ end_of log → r ≡ get_or (between log from (end_of log)) i r →
     between log (from + i) at ≡ r ∷ between log (from + i + 1) at
@@ -56,7 +52,7 @@ between-step log from i at r begun below within is =
     let all : upto log (end_of log) ≡ log.revisions = upto-end log (end_of log) (omega arith) in
     let place : (from - log.first) + i ≡ from + i - log.first = omega arith in
     let at_place : r ≡ get_or log.revisions (from + i - log.first) r =
-    is ∙ ap (λ xs. get_or (drop (from - log.first) xs) i r) all ∙ get_or-drop (from - log.first) i log.revisions r ∙ ap (λ n. get_or log.revisions n r) place in
+    is ∙ ap (λ xs. get_or (drop (from - log.first) xs) i r) all ∙ get_or-drop (from - log.first) log.revisions i r ∙ ap (λ n. get_or log.revisions n r) place in
     let next : suc (from + i - log.first) ≡ from + i + 1 - log.first = omega arith in
     step (from + i - log.first) (at - log.first) log.revisions r (omega arith) (omega arith) at_place
     ∙ ap (λ n. r ∷ drop n (take (at - log.first) log.revisions)) next

@@ -1,20 +1,20 @@
 -- A store's log as it grows, and what a pass knows once the store met it.
-use Rattle.std.proofs.Common.{◌≡◌, ℕ, ◌+◌, ◌^◌, ◌<◌, ◌≤◌, List, [], ◌∷◌, ◌++◌, Bool, Err, refl, sym, ap, ◌∙◌, subst, arith}
+use Rattle.std.proofs.Common.{◌≡◌, ℕ, ◌+◌, ◌^◌, ◌<◌, ◌≤◌, List, [], ◌∷◌, ◌++◌, Bool, Err, sym, ap, ◌∙◌, subst, arith}
 use Rattle.kube_meta.specs.Rows.{RowData}
-use Rattle.rev_front.specs.Passes.{Pass, Whole, Covers, revision, empty_log, end_from}
-use Rattle.rev_front.proofs.Passing.{extends_self, extends_trans}
+use Rattle.rev_front.specs.Passes.{Pass, Whole, revision, empty_log}
+use Rattle.rev_front.proofs.Passing.{extends_trans}
 use Rattle.rev_log.specs.Changes.{RevisionData}
 use Rattle.kube_meta.specs.declared.resources.Resource.{Resource}
 use Rattle.rev_log.specs.Logs.{Log}
 use Rattle.rev_log.specs.States.{row_in_base}
-use Rattle.up_api.specs.Sections.{log_of, Learns, HasSeenAll, Knows, Sections, StaysOrKnows}
+use Rattle.up_api.specs.Sections.{log_of, Learns, Sections, StaysOrKnows}
 use Rattle.up_api.specs.declared.refusals.UpNo.{UpNo}
 use Rattle.up_api.specs.declared.refusals.UpNo.TheVariants as up_no
 use Rattle.up_store.specs.declared.kept.Kept.{Kept}
 use Rattle.up_store.specs.Kept.{HoldEach, Keeps}
 use Rattle.up_store.specs.Past.{IsOldHistory}
 use Rattle.up_store.specs.declared.past.OldHistory.{OldHistory}
-use Rattle.up_store.specs.Stores.{IsStore, HasMet, KnowsAll, log_in}
+use Rattle.up_store.specs.Stores.{IsStore, HasMet, log_in}
 use Rattle.up_store.proofs.KeptLemmas.{keeps-grown, keeps-raised, keeps-begun}
 
 -- one more revision
@@ -25,9 +25,10 @@ committed base w after r kept new is room number rest items keeps =
 
 -- a higher floor
 pub raised : (base : List RowData) (w after : Whole RevisionData) (floor : ℕ) (kept new : Kept) → after ≡ record w { floor = floor } → w.floor ≤ floor → floor ≤ revision w →
-    ((log : Log) → Keeps log floor kept → Keeps log floor new) → Keeps (log_in base w) w.floor kept → Keeps (log_in base after) floor new
+    ((log : Log) → Keeps log floor kept → Keeps log floor new) → Keeps (log_in base w) w.floor kept → Keeps (log_in base after) after.floor new
 raised base w after floor kept new is above reached settles keeps =
-    subst (λ (v : Whole RevisionData). Keeps (log_in base v) floor new) (sym is) (settles (log_in base w) (keeps-raised (log_in base w) w.floor floor kept above reached keeps))
+    subst (λ (v : Whole RevisionData). Keeps (log_in base v) v.floor new) (sym is)
+    (settles (log_in base w) (keeps-raised (log_in base w) w.floor floor kept above reached keeps))
 
 -- a store of a new log
 pub opened : (base : List RowData) (is_mirror mirror : Bool) (w : Whole RevisionData) (kept : Kept) (history first : ℕ) → w ≡ empty_log first → first ≤ 2 ^ 62 → kept.from ≡ first → kept.last_at ≡ first →
@@ -44,59 +45,12 @@ opened base is_mirror mirror w kept history first is fits from last_at items flo
 pub met-first : (w : Whole RevisionData) (p q : Pass RevisionData) → HasMet w p q → q.first ≡ w.first
 met-first w p q met = ap (λ x. x.first) met.is ∙ met.covered.first_is
 
-pub met-learns : (w : Whole RevisionData) (p q : Pass RevisionData) → HasMet w p q → Learns p q
-met-learns w p q met = record { extends = met.extends; loads_stay = ap (λ x. x.loads) met.is; last_stays = ap (λ x. x.last) met.is }
-
-pub met-all : (w : Whole RevisionData) (p q : Pass RevisionData) → HasMet w p q → HasSeenAll q
-met-all w p q met = ap (λ x. x.shown) met.is ∙ ap (λ xs. end_from w.first xs) (sym (ap (λ x. x.seen) met.is)) ∙ ap (λ n. end_from n q.seen) (sym (met-first w p q met))
-
-pub met-knows : (w : Whole RevisionData) (p q : Pass RevisionData) → HasMet w p q → Knows w q
-met-knows w p q met = record { first = met-first w p q met; seen = ap (λ x. x.seen) met.is; floor = ap (λ x. x.floor) met.is; gen = ap (λ x. x.gen) met.is }
-
 pub met-log : (base : List RowData) (w : Whole RevisionData) (p q : Pass RevisionData) → HasMet w p q → log_of base q ≡ log_in base w
 met-log base w p q met = ap (λ (z : ℕ × List RevisionData). record { first = z.0; base = base; revisions = z.1 }) {x = (q.first, q.seen)} {y = (w.first, w.log)} (λ i. (met-first w p q met i, ap (λ x. x.seen) met.is i))
-
--- ---- a section: the store meets the pass, does its work, and meets it again
-
--- what the pass learnt
-pub twice-learns : (w after : Whole RevisionData) (p m q : Pass RevisionData) → HasMet w p m → HasMet after m q → Learns p q
-twice-learns w after p m q one two = record { extends = extends_trans p m q one.extends two.extends; loads_stay = ap (λ x. x.loads) two.is ∙ ap (λ x. x.loads) one.is; last_stays = ap (λ x. x.last) two.is ∙ ap (λ x. x.last) one.is }
-
--- and knows
-pub twice-knows : (after last : Whole RevisionData) (m q : Pass RevisionData) → last ≡ after → HasMet after m q → KnowsAll last q
-twice-knows after last m q same two = subst (λ (v : Whole RevisionData). KnowsAll v q) (sym same) (met-knows after m q two, met-all after m q two)
-
--- of which log
-pub twice-first : (told w after : Whole RevisionData) (p m q : Pass RevisionData) → w ≡ told → HasMet w p m → HasMet after m q → q.first ≡ told.first
-twice-first told w after p m q view one two = ap (λ x. x.first) two.is ∙ met-first w p m one ∙ ap (λ v. v.first) view
-
--- what was covered
-pub covers-told : (told w : Whole RevisionData) (p m : Pass RevisionData) → w ≡ told → HasMet w p m → Covers told p
-covers-told told w p m view met = subst (λ (v : Whole RevisionData). Covers v p) view met.covered
-
--- the store itself
-pub store-after : (base : List RowData) (is_mirror mirror : Bool) (w met after last : Whole RevisionData) (kept new : Kept) (history reads : ℕ) → met ≡ w → last ≡ after → after.gen ≤ 2 ^ 62 →
-    ((b : List RowData) → Keeps (log_in b met) met.floor kept → Keeps (log_in b after) after.floor new) →
-    IsStore base is_mirror w kept mirror history reads → IsStore base is_mirror last new mirror history reads
-store-after base is_mirror mirror w met after last kept new history reads same again gen keeps is = record {
-  keeps = subst (λ (v : Whole RevisionData). Keeps (log_in base v) v.floor new) (sym again) (keeps base (subst (λ (v : Whole RevisionData). Keeps (log_in base v) v.floor kept) (sym same) is.keeps));
-  gen_fits = omega (arith, gen, ap (λ v. v.gen) again);
-  mirror_is = is.mirror_is;
-  some_history = is.some_history;
-  reads_fit = is.reads_fit;
-}
-
--- a higher generation
-pub keeps-cut : (base : List RowData) (w after : Whole RevisionData) (kept : Kept) → after ≡ record w { gen = after.gen } → Keeps (log_in base w) w.floor kept → Keeps (log_in base after) after.floor kept
-keeps-cut base w after kept is keeps = subst (λ (v : Whole RevisionData). Keeps (log_in base v) v.floor kept) (sym is) keeps
 
 -- what was learnt, and then more
 pub learns-join : (p m q : Pass RevisionData) → Learns p m → Learns m q → Learns p q
 learns-join p m q one two = record { extends = extends_trans p m q one.extends two.extends; loads_stay = two.loads_stay ∙ one.loads_stay; last_stays = two.last_stays ∙ one.last_stays }
-
--- nothing was learnt
-pub learns-nothing : (p : Pass RevisionData) → Learns p p
-learns-nothing p = record { extends = extends_self p; loads_stay = refl; last_stays = refl }
 
 -- what a history is made of, of the log as the pass knows it
 pub old-history-told : (base : List RowData) (w : Whole RevisionData) (p q : Pass RevisionData) (resource : Resource) (floor : ℕ) (old : OldHistory) → HasMet w p q → floor ≡ w.floor →

@@ -1,18 +1,16 @@
 -- Which write of a transaction is refused first, and what an accepted one is answered and leaves.
-use Rattle.std.proofs.Common.{◌≡◌, ℕ, zero, suc, ◌+◌, ◌^◌, ◌<◌, ◌≤◌, ◌⊎◌, inl, inr, Bool, true, false, ◌==◌, cond, List, [], ◌∷◌, ◌++◌, length, map, take, drop, get_or, Option, Some, None, option_map, Result, Ok, Err, All, refl, sym, ap, ◌∙◌, subst, arith, eq-eqb, eqb-true}
+use Rattle.std.proofs.Common.{◌≡◌, ℕ, zero, suc, ◌+◌, ◌^◌, ◌<◌, ◌≤◌, ◌⊎◌, inl, inr, Bool, true, false, List, [], ◌∷◌, ◌++◌, length, map, take, drop, get_or, Option, Some, None, option_map, Ok, Err, All, refl, sym, ap, ◌∙◌, subst, arith}
 use Rattle.std.specs.List.{list_any}
 use Rattle.std.specs.Option.{option_or}
 use Rattle.std.specs.List.Sorted.{IsPermutation}
-use Rattle.std.proofs.lemmas.Bool.{cases_Bool}
-use Rattle.std.proofs.lemmas.List.{take_more, drop_more, get_or-map, get_or-take, length-map, length-take, map-append}
+use Rattle.std.proofs.lemmas.Bool.{false_from_ne_true}
+use Rattle.std.proofs.lemmas.List.{take_more, at_drop_more, at_drop_all, get_or-map, get_or-take, length-map, length-take, map-append}
 use Rattle.std.proofs.lemmas.List.Elements.{All-map}
 use Rattle.std.proofs.lemmas.List.Folds.{list_any-from_Any}
 use Rattle.kube_meta.specs.Rows.{RowData}
 use Rattle.rev_front.specs.Passes.{Whole, revision}
 use Rattle.rev_log.specs.Changes.{ChangeData, RevisionData, AreOfDistinctObjects, same_object, IsRevision}
 use Rattle.rev_log.specs.Logs.{Log, end_of, Fits}
-use Rattle.kube_meta.specs.declared.resources.Resource.{Resource}
-use Rattle.rev_log.specs.States.{row_at}
 use Rattle.up_store.specs.declared.kept.Kept.{Kept}
 use Rattle.up_store.specs.Kept.{Keeps}
 use Rattle.up_store.specs.declared.transactions.TxWriteNo.{TxWriteNo}
@@ -21,16 +19,12 @@ use Rattle.up_store.specs.declared.writes.WriteAsk.{WriteAsk}
 use Rattle.up_store.specs.declared.writes.WriteAsk.TheVariants.{Create, Replace, Remove}
 use Rattle.up_store.specs.declared.writes.WriteNo.{WriteNo}
 use Rattle.up_store.specs.declared.writes.Written.{Written}
-use Rattle.up_store.specs.Stores.{IsStore, log_in, accepted}
+use Rattle.up_store.specs.Stores.{log_in, accepted}
 use Rattle.up_store.specs.Transacting.{first_fault, tx_used_up, tx_refusal_of, IsRevisionOf, AreWritten, IsTransactionAnswer, IsTxPrepared}
 use Rattle.up_store.specs.Transactions.{target_of, same_target, AreTransaction}
 use Rattle.up_store.specs.Writes.{fault_at, fault_of, row_before, change_of, IsWritten}
 use Rattle.up_store.proofs.Repeats.{stands_before_among, in_targets}
-use Rattle.up_store.proofs.WriteLemmas.{fault-there, change-number}
-
--- the row that was looked up is the one of the write's object
-pub row-found : (log : Log) (ask : WriteAsk) (resource : Resource) (key : List ℕ) (row : Option RowData) → row ≡ row_at log resource (end_of log) key → resource ≡ (target_of ask).0 → key ≡ (target_of ask).1 → row ≡ row_before log ask
-row-found log ask resource key row is of at = is ∙ ap (λ r. row_at log r (end_of log) key) of ∙ ap (λ k. row_at log (target_of ask).0 (end_of log) k) at
+use Rattle.up_store.proofs.WriteLemmas.{fault-there, at-last, before-last, change-number}
 
 -- ---- the first fault
 
@@ -38,7 +32,7 @@ row-found log ask resource key row is of at = is ∙ ap (λ r. row_at log r (end
 pub fault-next : (log : Log) (asks : List WriteAsk) (i : ℕ) (ask : WriteAsk) → i < length asks → ask ≡ get_or asks i ask →
     first_fault log i (drop i asks) ≡ option_or (option_map (λ fault. Item i fault) (fault_of log ask)) (first_fault log (i + 1) (drop (i + 1) asks))
 fault-next log asks i ask inside is =
-    ap (first_fault log i) (drop_more asks i ask inside)
+    at_drop_more (first_fault log i) asks i ask inside
     ∙ ap (λ a. option_or (option_map (λ fault. Item i fault) (fault_of log a)) (first_fault log (i + 1) (drop (i + 1) asks))) (sym is)
 
 -- it is refused, or else the rest decides
@@ -54,15 +48,9 @@ pub fault-none : (log : Log) (asks : List WriteAsk) (i at : ℕ) (ask : WriteAsk
 fault-none log asks i at ask row inside is found end faulty so =
     so ∙ fault-next log asks i ask inside is ∙ ap (λ f. option_or (option_map (λ n. Item i n) f) (first_fault log (i + 1) (drop (i + 1) asks))) (fault-there log at ask row None found end faulty)
 
-drop-all : {X : Type 0} (xs : List X) (i : ℕ) → length xs ≤ i → drop i xs ≡ []
-drop-all [] zero low = refl
-drop-all [] (suc i) low = refl
-drop-all (x ∷ xs) zero low = absurd (omega (arith, low))
-drop-all (x ∷ xs) (suc i) low = drop-all xs i (omega (arith, low))
-
 -- none was
 pub fault-nowhere : (log : Log) (asks : List WriteAsk) (i : ℕ) → length asks ≤ i → first_fault log 0 asks ≡ first_fault log i (drop i asks) → None ≡ first_fault log 0 asks
-fault-nowhere log asks i past so = sym (so ∙ ap (first_fault log i) (drop-all asks i past))
+fault-nowhere log asks i past so = sym (so ∙ at_drop_all (first_fault log i) asks i past)
 
 -- ---- the refusals
 
@@ -73,20 +61,12 @@ tx-faulty log asks fault is = ap (λ o. option_or o (tx_used_up (end_of log))) (
 -- the last revision refuses what has no fault
 pub tx-last : (log : Log) (at : ℕ) (asks : List WriteAsk) → None ≡ first_fault log 0 asks → at ≡ end_of log → at ≡ 2 ^ 62 → tx_refusal_of false log asks ≡ Some (UsedUp at)
 tx-last log at asks faultless end last =
-    let test : (end_of log == 2 ^ 62) ≡ true = eq-eqb (end_of log) (2 ^ 62) (sym end ∙ last) in
-    ap (λ o. option_or o (tx_used_up (end_of log))) (sym faultless)
-    ∙ ap (λ b. cond b (Some (UsedUp (end_of log))) None) test ∙ ap (λ n. Some (UsedUp n)) (sym end)
+    ap (λ o. option_or o (tx_used_up (end_of log))) (sym faultless) ∙ at-last UsedUp (end_of log) at end last
 
 -- and nothing else does
 pub tx-unrefused : (log : Log) (at : ℕ) (asks : List WriteAsk) → None ≡ first_fault log 0 asks → at ≡ end_of log → at < 2 ^ 62 → tx_refusal_of false log asks ≡ None
 tx-unrefused log at asks faultless end below =
-    ap (λ o. option_or o (tx_used_up (end_of log))) (sym faultless) ∙ none (end_of log) (subst (λ n. n < 2 ^ 62) end below)
-  where
-    none : (n : ℕ) → n < 2 ^ 62 → tx_used_up n ≡ None
-    none n low = elim (cases_Bool (n == 2 ^ 62)) [
-      | inl same ↦ absurd (omega (arith, eqb-true n (2 ^ 62) same))
-      | inr different ↦ rw different refl
-    ]
+    ap (λ o. option_or o (tx_used_up (end_of log))) (sym faultless) ∙ before-last UsedUp (end_of log) at end below
 
 -- ---- loops over the writes and their objects
 
@@ -95,19 +75,6 @@ pub mapped-at : {X Y Z : Type 0} (f : X → Z) (g : Y → Z) (xs : List X) (ys :
 mapped-at f g xs ys i x y same inside x_is y_is =
     let long : length xs ≡ length ys = sym (length-map xs f) ∙ ap length same ∙ length-map ys g in
     ap f x_is ∙ sym (get_or-map f xs i x (g y) (omega (arith, long, inside))) ∙ ap (λ zs. get_or zs i (g y)) same ∙ get_or-map g ys i y (g y) inside ∙ ap g (sym y_is)
-
-pub mapped-long : {X Y Z : Type 0} (f : X → Z) (g : Y → Z) (xs : List X) (ys : List Y) → map f xs ≡ map g ys → length xs ≡ length ys
-mapped-long f g xs ys same = sym (length-map xs f) ∙ ap length same ∙ length-map ys g
-
--- one more element is mapped
-pub mapped-more : {X Y Z : Type 0} (f : X → Z) (g : Y → Z) (done : List X) (ys : List Y) (i : ℕ) (x : X) (y : Y) → i < length ys → y ≡ get_or ys i y → f x ≡ g y → map f done ≡ map g (take i ys) →
-    map f (done ++ x ∷ []) ≡ map g (take (i + 1) ys)
-mapped-more f g done ys i x y inside y_is same so =
-    map-append f done (x ∷ [])
-    ∙ ap (λ zs. zs ++ f x ∷ []) so
-    ∙ ap (λ z. map g (take i ys) ++ z ∷ []) (same ∙ ap g y_is)
-    ∙ sym (map-append g (take i ys) (get_or ys i y ∷ []))
-    ∙ ap (map g) (sym (take_more ys i y inside))
 
 -- one more is the image of the next
 pub image-more : {X Y : Type 0} (g : Y → X) (done : List X) (ys : List Y) (i : ℕ) (x : X) (y : Y) → i < length ys → y ≡ get_or ys i y → x ≡ g y → done ≡ map g (take i ys) →
@@ -134,15 +101,13 @@ written-more log asks answers i ask written inside is are written_is =
 -- ---- the changes are of distinct objects
 
 changed-object : (rev : ℕ) (a b : WriteAsk) → same_object (change_of rev a) (change_of rev b) ≡ same_target (target_of a) (target_of b)
-changed-object rev (Create r o) (Create s p) = refl
-changed-object rev (Create r o) (Replace s p given) = refl
-changed-object rev (Create r o) (Remove s k) = refl
-changed-object rev (Replace r o g) (Create s p) = refl
-changed-object rev (Replace r o g) (Replace s p given) = refl
-changed-object rev (Replace r o g) (Remove s k) = refl
-changed-object rev (Remove r j) (Create s p) = refl
-changed-object rev (Remove r j) (Replace s p given) = refl
-changed-object rev (Remove r j) (Remove s k) = refl
+changed-object rev a b =
+    ap (λ t. same_target t ((change_of rev b).resource, (change_of rev b).key)) (target rev a) ∙ ap (same_target (target_of a)) (target rev b)
+  where
+    target : (n : ℕ) (ask : WriteAsk) → ((change_of n ask).resource, (change_of n ask).key) ≡ target_of ask
+    target n (Create resource obj) = refl
+    target n (Replace resource obj given) = refl
+    target n (Remove resource key) = refl
 
 item-at : {X : Type 0} (xs : List X) (i : ℕ) → i < length xs → (x : X) × (x ≡ get_or xs i x)
 item-at [] i inside = absurd (omega (arith, inside))
@@ -151,10 +116,8 @@ item-at (x ∷ xs) (suc i) inside = item-at xs i (omega (arith, inside))
 
 -- where no element passes, none at a place does
 none-passes : {X : Type 0} (p : X → Bool) (xs : List X) (i : ℕ) (x : X) → list_any p xs ≡ false → i < length xs → x ≡ get_or xs i x → p x ≡ false
-none-passes p xs i x none inside is = elim (cases_Bool (p x)) [
-  | inl passes ↦ absurd (let some : list_any p xs ≡ true = list_any-from_Any p xs (i, x, inside, sym is, passes) in cc)
-  | inr fails ↦ fails
-]
+none-passes p xs i x none inside is =
+    false_from_ne_true (p x) (λ passes. let some : list_any p xs ≡ true = list_any-from_Any p xs (i, x, inside, sym is, passes) in cc)
 
 pub changes-distinct : (rev : ℕ) (asks : List WriteAsk) → AreTransaction asks → AreOfDistinctObjects (map (change_of rev) asks)
 changes-distinct rev asks are = λ i j d before inside.
@@ -212,15 +175,3 @@ pub tx-committed : (base : List RowData) (mirror : Bool) (history at : ℕ) (ask
 tx-committed base mirror history at asks w after kept answers r own more end keeps prepared =
     let here : IsTxPrepared (log_in base w) asks answers r = prepared (log_in base w) w.floor keeps end in
     (subst (λ m. tx_refusal_of m (log_in base w) asks ≡ None) (sym own) here.unrefused, here.written_are, (r, here.revision_is, more))
-
--- what the store answers, in its own terms
-pub tx-answer-told : (base : List RowData) (is_mirror mirror : Bool) (lent asks : List WriteAsk) (told w met after last : Whole RevisionData) (kept : Kept) (span history reads : ℕ) (answer : Result (List Written) TxWriteNo) → lent ≡ asks → w ≡ told → met ≡ w → last ≡ after → span ≡ history →
-    IsStore base is_mirror w kept mirror span reads → ((b : List RowData) → Keeps (log_in b met) met.floor kept → IsTransactionAnswer b mirror span lent met after answer) →
-    IsTransactionAnswer base is_mirror history asks told last answer
-tx-answer-told base is_mirror mirror lent asks told w met after last kept span history reads answer lends view same again spans is answers =
-    let here : IsTransactionAnswer base mirror span lent met after answer = answers base (subst (λ (v : Whole RevisionData). Keeps (log_in base v) v.floor kept) (sym same) is.keeps) in
-    let these : IsTransactionAnswer base mirror span asks met after answer = subst (λ (xs : List WriteAsk). IsTransactionAnswer base mirror span xs met after answer) lends here in
-    let own : IsTransactionAnswer base is_mirror span asks met after answer = subst (λ m. IsTransactionAnswer base m span asks met after answer) is.mirror_is these in
-    let long : IsTransactionAnswer base is_mirror history asks met after answer = subst (λ n. IsTransactionAnswer base is_mirror n asks met after answer) spans own in
-    let old : IsTransactionAnswer base is_mirror history asks told after answer = subst (λ (v : Whole RevisionData). IsTransactionAnswer base is_mirror history asks v after answer) (same ∙ view) long in
-    subst (λ (v : Whole RevisionData). IsTransactionAnswer base is_mirror history asks told v answer) (sym again) old

@@ -1,7 +1,7 @@
 -- Refusals of writes, and what accepted ones leave.
-use Rattle.std.proofs.Common.{◌≡◌, ℕ, ◌+◌, ◌^◌, ◌<◌, ◌⊎◌, inl, inr, Bool, true, false, ◌==◌, cond, List, [], ◌∷◌, Option, Some, None, Result, Ok, Err, refl, sym, ap, ◌∙◌, subst, arith, eq-eqb, eqb-true}
+use Rattle.std.proofs.Common.{◌≡◌, ℕ, ◌+◌, ◌^◌, ◌<◌, ◌⊎◌, inl, inr, Bool, false, ◌==◌, cond, List, [], ◌∷◌, Option, Some, None, Ok, Err, refl, sym, ap, ◌∙◌, subst, arith, eq-eqb}
 use Rattle.std.specs.Option.{option_or}
-use Rattle.std.proofs.lemmas.Bool.{cases_Bool}
+use Rattle.std.proofs.lemmas.Bool.{ne_eqb}
 use Rattle.kube_meta.specs.Rows.{RowData}
 use Rattle.rev_front.specs.Passes.{Whole, revision}
 use Rattle.rev_log.specs.Changes.{ChangeData, RevisionData, HasItsKey, IsRevision}
@@ -14,7 +14,7 @@ use Rattle.up_store.specs.declared.writes.Written.{Written}
 use Rattle.up_store.specs.declared.writes.WriteAsk.{WriteAsk}
 use Rattle.up_store.specs.declared.writes.WriteNo.{WriteNo}
 use Rattle.up_store.specs.declared.writes.WriteNo.TheVariants.{Exists, Absent, Stale, UsedUp, ReadOnly, Memory}
-use Rattle.up_store.specs.Stores.{IsStore, log_in, accepted}
+use Rattle.up_store.specs.Stores.{log_in, accepted}
 use Rattle.up_store.specs.Writes.{fault_at, fault_of, used_up, refusal_of, row_before, change_of, write_of, IsPrepared, IsWriteAnswer}
 
 pub fault-there : (log : Log) (at : ℕ) (ask : WriteAsk) (row : Option RowData) (fault : Option WriteNo) → row ≡ row_before log ask → at ≡ end_of log → fault_at at ask row ≡ fault → fault_of log ask ≡ fault
@@ -25,25 +25,24 @@ pub refused-faulty : (log : Log) (at : ℕ) (ask : WriteAsk) (row : Option RowDa
     refusal_of false log ask ≡ Some fault
 refused-faulty log at ask row fault found end is = ap (λ o. option_or o (used_up (end_of log))) (fault-there log at ask row (Some fault) found end is)
 
+-- the last revision is used up, and none before it is
+pub at-last : {E : Type 0} (refusal : ℕ → E) (n at : ℕ) → at ≡ n → at ≡ 2 ^ 62 → cond (n == 2 ^ 62) (Some (refusal n)) None ≡ Some (refusal at)
+at-last refusal n at end last = rw (eq-eqb n (2 ^ 62) (sym end ∙ last)) (ap (λ m. Some (refusal m)) (sym end))
+
+pub before-last : {E : Type 0} (refusal : ℕ → E) (n at : ℕ) → at ≡ n → at < 2 ^ 62 → cond (n == 2 ^ 62) (Some (refusal n)) None ≡ None
+before-last refusal n at end below = rw (ne_eqb n (2 ^ 62) (λ same. absurd (omega (arith, same, end, below)))) refl
+
 -- the last revision refuses what has no fault
 pub refused-last : (log : Log) (at : ℕ) (ask : WriteAsk) (row : Option RowData) → row ≡ row_before log ask → at ≡ end_of log → fault_at at ask row ≡ None → at ≡ 2 ^ 62 →
     refusal_of false log ask ≡ Some (UsedUp at)
 refused-last log at ask row found end is last =
-    let test : (end_of log == 2 ^ 62) ≡ true = eq-eqb (end_of log) (2 ^ 62) (sym end ∙ last) in
-    ap (λ o. option_or o (used_up (end_of log))) (fault-there log at ask row None found end is)
-    ∙ ap (λ b. cond b (Some (UsedUp (end_of log))) None) test ∙ ap (λ n. Some (UsedUp n)) (sym end)
+    ap (λ o. option_or o (used_up (end_of log))) (fault-there log at ask row None found end is) ∙ at-last UsedUp (end_of log) at end last
 
 -- and nothing else does
 pub unrefused : (log : Log) (at : ℕ) (ask : WriteAsk) (row : Option RowData) → row ≡ row_before log ask → at ≡ end_of log → fault_at at ask row ≡ None → at < 2 ^ 62 →
     refusal_of false log ask ≡ None
 unrefused log at ask row found end is below =
-    ap (λ o. option_or o (used_up (end_of log))) (fault-there log at ask row None found end is) ∙ none (end_of log) (subst (λ n. n < 2 ^ 62) end below)
-  where
-    none : (n : ℕ) → n < 2 ^ 62 → used_up n ≡ None
-    none n low = elim (cases_Bool (n == 2 ^ 62)) [
-      | inl same ↦ absurd (omega (arith, eqb-true n (2 ^ 62) same))
-      | inr other ↦ rw other refl
-    ]
+    ap (λ o. option_or o (used_up (end_of log))) (fault-there log at ask row None found end is) ∙ before-last UsedUp (end_of log) at end below
 
 -- a refusal leaves the log
 pub answer-refused : (base : List RowData) (mirror : Bool) (history : ℕ) (ask : WriteAsk) (w after : Whole RevisionData) (fault : WriteNo) → after ≡ w →
@@ -100,14 +99,3 @@ pub committed-answer : (base : List RowData) (mirror : Bool) (history at : ℕ) 
 committed-answer base mirror history at ask w after kept written r own more end keeps prepared =
     let here : IsPrepared (log_in base w) ask written r = prepared (log_in base w) w.floor keeps end in
     (subst (λ m. refusal_of m (log_in base w) ask ≡ None) (sym own) here.unrefused, here.written_is, more ∙ ap (accepted history w) here.revision_is)
-
--- what the store answers, in its own terms
-pub answer-told : (base : List RowData) (is_mirror mirror : Bool) (ask : WriteAsk) (told w met after last : Whole RevisionData) (kept : Kept) (span history reads : ℕ) (answer : Result Written WriteNo) → w ≡ told → met ≡ w → last ≡ after → span ≡ history →
-    IsStore base is_mirror w kept mirror span reads → ((b : List RowData) → Keeps (log_in b met) met.floor kept → IsWriteAnswer b mirror span ask met after answer) →
-    IsWriteAnswer base is_mirror history ask told last answer
-answer-told base is_mirror mirror ask told w met after last kept span history reads answer view same again spans is answers =
-    let here : IsWriteAnswer base mirror span ask met after answer = answers base (subst (λ (v : Whole RevisionData). Keeps (log_in base v) v.floor kept) (sym same) is.keeps) in
-    let own : IsWriteAnswer base is_mirror span ask met after answer = subst (λ m. IsWriteAnswer base m span ask met after answer) is.mirror_is here in
-    let long : IsWriteAnswer base is_mirror history ask met after answer = subst (λ n. IsWriteAnswer base is_mirror n ask met after answer) spans own in
-    let old : IsWriteAnswer base is_mirror history ask told after answer = subst (λ (v : Whole RevisionData). IsWriteAnswer base is_mirror history ask v after answer) (same ∙ view) long in
-    subst (λ (v : Whole RevisionData). IsWriteAnswer base is_mirror history ask told v answer) (sym again) old

@@ -1,7 +1,6 @@
 //! Commits, and the floor that follows them.
 
-ghost use Rattle.std.specs.Prelude.{◌≡◌, ℕ, ◌+◌, ◌^◌, ◌<◌, ◌≤◌, List, [], ◌∷◌, ◌++◌, length, OnOk};
-ghost use Rattle.kube_meta.specs.Rows.{RowData};
+ghost use Rattle.std.specs.Prelude.{◌≡◌, ℕ, ◌+◌, ◌^◌, ◌<◌, ◌≤◌, [], ◌∷◌, ◌++◌, length, OnOk};
 ghost use Rattle.rev_front.specs.Passes.{FitFrom, revision as reached};
 ghost use Rattle.rev_log.specs.Logs.{Fits};
 ghost use Rattle.up_store.specs.Kept.{Keeps, HasRoom};
@@ -34,10 +33,10 @@ pub fn compact<N: LogFacts>(
     kept: &mut Kept,
     at: u64,
 ) -> Result<u64, OpNo>
-    requires keeps { (base : List RowData) × Keeps (log_in base pen.old) pen.old.floor kept.old }
+    requires keeps { Keeps (log_in N.base pen.old) pen.old.floor kept.old }
     ensures answer { IsCompactionAnswer at pen.old pen.new result }
     ensures generation { pen.new.gen ≡ pen.old.gen }
-    ensures keeps { (base : List RowData) → Keeps (log_in base pen.old) pen.old.floor kept.old → Keeps (log_in base pen.new) pen.new.floor kept.new }
+    ensures keeps { Keeps (log_in N.base pen.new) pen.new.floor kept.new }
 {
     let floor = pen.floor();
     if at < floor {
@@ -60,9 +59,9 @@ pub fn raise<N: LogFacts>(
 ) -> Result<(), Memory>
     requires above { pen.old.floor ≤ floor }
     requires reached { floor ≤ reached pen.old }
-    requires keeps { (base : List RowData) × Keeps (log_in base pen.old) pen.old.floor kept.old }
+    requires keeps { Keeps (log_in N.base pen.old) pen.old.floor kept.old }
     ensures floor { pen.new ≡ record pen.old { floor = floor } }
-    ensures keeps { (base : List RowData) → Keeps (log_in base pen.old) pen.old.floor kept.old → Keeps (log_in base pen.new) floor kept.new }
+    ensures keeps { Keeps (log_in N.base pen.new) pen.new.floor kept.new }
     ensures done { OnOk result (kept.new.from ≡ floor) }
 {
     lift(pen, floor);
@@ -91,9 +90,9 @@ pub fn commit<N: LogFacts>(
     requires fits { Fits (reached pen.old + 1) revision }
     requires history { 1 ≤ history }
     requires room { HasRoom 1 kept.old }
-    requires keeps { (base : List RowData) × Keeps (log_in base pen.old) pen.old.floor kept.old }
+    requires keeps { Keeps (log_in N.base pen.old) pen.old.floor kept.old }
     ensures log { pen.new ≡ accepted history pen.old revision }
-    ensures keeps { (base : List RowData) → Keeps (log_in base pen.old) pen.old.floor kept.old → Keeps (log_in base pen.new) pen.new.floor kept.new }
+    ensures keeps { Keeps (log_in N.base pen.new) pen.new.floor kept.new }
     ensures done { OnOk result (kept.new.from ≡ pen.new.floor) }
 {
     let end = put(pen, kept, revision);
@@ -110,10 +109,10 @@ pub fn commit_all<N: LogFacts>(
     requires last { reached pen.old + length revisions.items ≤ 2 ^ 62 }
     requires fits { FitFrom Fits (reached pen.old) revisions.items }
     requires room { HasRoom (length revisions.items) kept.old }
-    requires keeps { (base : List RowData) × Keeps (log_in base pen.old) pen.old.floor kept.old }
+    requires keeps { Keeps (log_in N.base pen.old) pen.old.floor kept.old }
     ensures answer { result ≡ reached pen.old + length revisions.items }
     ensures log { pen.new ≡ record pen.old { log = pen.old.log ++ revisions.items; floor = result } }
-    ensures keeps { (base : List RowData) → Keeps (log_in base pen.old) pen.old.floor kept.old → Keeps (log_in base pen.new) pen.new.floor kept.new }
+    ensures keeps { Keeps (log_in N.base pen.new) pen.new.floor kept.new }
 {
     put_all(pen, kept, revisions);
     let end = pen.revision();
@@ -126,8 +125,9 @@ fn put_all<N: LogFacts>(pen: &mut Pen<Revision, N>, kept: &mut Kept, revisions: 
     requires last { reached pen.old + length revisions.items ≤ 2 ^ 62 }
     requires fits { FitFrom Fits (reached pen.old) revisions.items }
     requires room { HasRoom (length revisions.items) kept.old }
+    requires keeps { Keeps (log_in N.base pen.old) pen.old.floor kept.old }
     ensures log { pen.new ≡ record pen.old { log = pen.old.log ++ revisions.items } }
-    ensures keeps { (base : List RowData) → Keeps (log_in base pen.old) pen.old.floor kept.old → Keeps (log_in base pen.new) pen.new.floor kept.new }
+    ensures keeps { Keeps (log_in N.base pen.new) pen.new.floor kept.new }
 {
     for revision in revisions {
         put(pen, kept, revision);
@@ -139,10 +139,11 @@ fn put<N: LogFacts>(pen: &mut Pen<Revision, N>, kept: &mut Kept, revision: Share
     requires last { reached pen.old < 2 ^ 62 }
     requires fits { Fits (reached pen.old + 1) revision }
     requires room { HasRoom 1 kept.old }
+    requires keeps { Keeps (log_in N.base pen.old) pen.old.floor kept.old }
     ensures answer { result ≡ reached pen.old + 1 }
     ensures log { pen.new ≡ record pen.old { log = pen.old.log ++ revision ∷ [] } }
     ensures room { (count : ℕ) → HasRoom (count + 1) kept.old → HasRoom count kept.new }
-    ensures keeps { (base : List RowData) → Keeps (log_in base pen.old) pen.old.floor kept.old → Keeps (log_in base pen.new) pen.new.floor kept.new }
+    ensures keeps { Keeps (log_in N.base pen.new) pen.new.floor kept.new }
 {
     let end = pen.commit(revision.get());
     kept.push(revision);

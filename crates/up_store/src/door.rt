@@ -58,13 +58,8 @@ impl<N: LogFacts, R: Wait + Copy> StoreDoor<N, R> {
         ensures section { HasSeenAll told.new }
         ensures reply { IsWriteReply N.base N.mirror told.old ask.now result told.new }
     {
-        match share(self.alloc, ask) {
-            Ok(shared) => self.store.lock(&self.rt).write_shared(ask, shared, told),
-            Err(_) => {
-                self.store.lock(&self.rt).tell(told);
-                Err(WriteNo::Memory)
-            }
-        }
+        let shared = share(self.alloc, ask);
+        self.store.lock(&self.rt).write_shared(ask, shared, told)
     }
 
     /// Makes a transaction: all its writes at one revision, or none of them. The answers stand in the order of the
@@ -74,16 +69,8 @@ impl<N: LogFacts, R: Wait + Copy> StoreDoor<N, R> {
         ensures section { HasSeenAll told.new }
         ensures reply { IsTransactionReply N.base N.mirror told.old ask.now (answers_in result) told.new }
     {
-        match share_all(self.alloc, ask.items()) {
-            Ok(shared) => self
-                .store
-                .lock(&self.rt)
-                .transact_shared(ask, &shared, told),
-            Err(_) => {
-                self.store.lock(&self.rt).tell(told);
-                Err(TxWriteNo::Memory)
-            }
-        }
+        let shared = share_all(self.alloc, ask.items());
+        self.store.lock(&self.rt).transact_shared(ask, shared, told)
     }
 
     /// Adds a revision of the peer's log, which is a mirror's next one, and answers its number.

@@ -1,7 +1,7 @@
 //! The store of a mirror: its log begins with pods, and its revisions come from a peer.
 
-ghost use Rattle.std.specs.Prelude.{◌≡◌, ◌+◌, ◌^◌, ◌<◌, ◌≤◌, List, length, All, IfOk, true};
-ghost use Rattle.kube_meta.specs.Rows.{RowData, AreRising};
+ghost use Rattle.std.specs.Prelude.{◌≡◌, ◌+◌, ◌^◌, ◌<◌, ◌≤◌, length, All, IfOk, true};
+ghost use Rattle.kube_meta.specs.Rows.{AreRising};
 ghost use Rattle.kube_meta.specs.declared.resources.Resource.TheVariants.{Pods};
 ghost use Rattle.rev_front.specs.Passes.{Covers, FitFrom, empty_log, revision as reached};
 ghost use Rattle.rev_log.specs.Logs.{Fits};
@@ -146,9 +146,9 @@ fn append<N: LogFacts>(
     requires last { reached pen.old < 2 ^ 62 }
     requires fits { Fits (reached pen.old + 1) revision }
     requires history { 1 ≤ history }
-    requires keeps { (base : List RowData) × Keeps (log_in base pen.old) pen.old.floor kept.old }
+    requires keeps { Keeps (log_in N.base pen.old) pen.old.floor kept.old }
     ensures answer { IsHearAnswer history revision pen.old pen.new result }
-    ensures keeps { (base : List RowData) → Keeps (log_in base pen.old) pen.old.floor kept.old → Keeps (log_in base pen.new) pen.new.floor kept.new }
+    ensures keeps { Keeps (log_in N.base pen.new) pen.new.floor kept.new }
     ensures generation { pen.new.gen ≡ pen.old.gen }
 {
     let rev = revision.rev;
@@ -168,9 +168,9 @@ fn append_all<N: LogFacts>(
 ) -> Result<u64, HearNo>
     requires last { from + length revisions.items ≤ 2 ^ 62 }
     requires fits { FitFrom Fits from revisions.items }
-    requires keeps { (base : List RowData) × Keeps (log_in base pen.old) pen.old.floor kept.old }
+    requires keeps { Keeps (log_in N.base pen.old) pen.old.floor kept.old }
     ensures answer { IsHearAllAnswer from revisions.items pen.old pen.new result }
-    ensures keeps { (base : List RowData) → Keeps (log_in base pen.old) pen.old.floor kept.old → Keeps (log_in base pen.new) pen.new.floor kept.new }
+    ensures keeps { Keeps (log_in N.base pen.new) pen.new.floor kept.new }
     ensures generation { pen.new.gen ≡ pen.old.gen }
 {
     let at = pen.revision();

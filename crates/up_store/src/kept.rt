@@ -2,16 +2,18 @@
 
 ghost use Rattle.std.specs.Prelude.{◌≡◌, ℕ, ◌+◌, ◌^◌, ◌≤◌, ◌<◌, [], ◌∷◌, ◌++◌, IfOk, OnOk, OnErr, drop, length, option_copied, take};
 ghost use Rattle.kube_meta.specs.Rows.{row_with};
-ghost use Rattle.rev_log.specs.Logs.{Log, between, end_of};
-ghost use Rattle.rev_log.specs.States.{row_at};
+ghost use Rattle.rev_log.specs.Logs.{Log, end_of};
 ghost use Rattle.up_api.specs.Feeds.{IsPoll};
 ghost use Rattle.up_store.specs.Kept.{Keeps, AreBounded, HasRoom};
 ghost use Rattle.up_store.specs.Past.{IsOldState, IsOldHistory};
+ghost use Rattle.up_store.specs.Writes.{row_before};
 
 use crate::parts::part;
 use crate::past::{OldHistory, OldState};
 use crate::revisions::SharedRevision;
 use crate::tables::Tables;
+use crate::transactions::{key_of, resource_of};
+use crate::writes::WriteAsk;
 use kube_meta::{Key, Memory, Resource, Row};
 use obj_tree::Tree;
 use std::alloc::Global;
@@ -104,12 +106,12 @@ impl Kept {
         self.revisions.push_back_reserved(revision);
     }
 
-    /// The row of this key at the log's end, once the last rows have followed it.
-    pub fn row_of(&self, resource: Resource, key: &Key) -> Option<&Row>
+    /// The row of the write's object at the log's end, once the last rows have followed it.
+    pub fn row_before(&self, ask: &WriteAsk) -> Option<&Row>
         requires { self.now.last_at ≡ self.now.from + length self.now.revisions.items }
-        ensures { (log : Log) (floor : ℕ) → Keeps log floor self.now → option_copied result ≡ row_at log resource (end_of log) key.now }
+        ensures { (log : Log) (floor : ℕ) → Keeps log floor self.now → option_copied result ≡ row_before log ask.now }
     {
-        row_in(self.last_rows.of(resource), key)
+        row_in(self.last_rows.of(resource_of(ask)), key_of(ask))
     }
 
     /// What the state of the resource at a revision from the floor to the log's end is made of. It costs a count, and
@@ -121,23 +123,13 @@ impl Kept {
     {
         let count = (at - self.from) as usize;
         if count == self.revisions.len() && self.last_at == at {
-            return self.last_state(alloc, resource);
+            return Ok(OldState {
+                resource,
+                rows: self.last_rows.of(resource).copy()?,
+                revisions: Vec::new(alloc),
+            });
         }
         self.state_after(alloc, resource, count)
-    }
-
-    // What the state at the log's end is made of, once the last rows have followed it.
-    fn last_state(&self, alloc: Global, resource: Resource) -> Result<OldState, Memory>
-        requires { self.now.last_at ≡ self.now.from + length self.now.revisions.items }
-        ensures { IfOk result (λ old. (log : Log) (floor : ℕ) → Keeps log floor self.now → IsOldState log resource (end_of log) old) }
-    {
-        let rows = self.last_rows.of(resource).copy()?;
-        let revisions = Vec::new(alloc);
-        Ok(OldState {
-            resource,
-            rows,
-            revisions,
-        })
     }
 
     // What the state after this many revisions upon the floor's rows is made of.
@@ -175,23 +167,14 @@ impl Kept {
         ensures upto { IfOk result (λ old. old.upto ≡ upto) }
     {
         let state = self.old_state(alloc, resource, from)?;
-        let revisions = self.after(alloc, from)?;
+        let start = (from - self.from) as usize;
+        let revisions = self.copied(alloc, start, self.revisions.len())?;
         Ok(OldHistory {
             floor: from,
             upto,
             state,
             revisions,
         })
-    }
-
-    // The revisions above `from`, which are shared.
-    fn after(&self, alloc: Global, from: u64) -> Result<Vec<SharedRevision>, Memory>
-        requires above { self.now.from ≤ from }
-        requires reached { from ≤ self.now.from + length self.now.revisions.items }
-        ensures { IfOk result (λ list. (log : Log) (floor : ℕ) → Keeps log floor self.now → list.items ≡ between log from (end_of log)) }
-    {
-        let start = (from - self.from) as usize;
-        self.copied(alloc, start, self.revisions.len())
     }
 
     // The revisions from one place up to another, which are shared.

@@ -72,18 +72,9 @@ fn compact_before<N: LogFacts>(
     ensures seen { HasSeenAll told.new }
 {
     for (listed, at) in list {
-        compact_if(store, *listed == poll, *at, told);
-    }
-}
-
-// Compacts the log at a revision, if that is wanted.
-fn compact_if<N: LogFacts>(store: &mut Store<N>, wanted: bool, at: u64, told: &mut Pass<N>)
-    requires seen { HasSeenAll told.old }
-    ensures learns { Learns told.old told.new }
-    ensures seen { HasSeenAll told.new }
-{
-    if wanted {
-        let _ = store.compact(at, told);
+        if *listed == poll {
+            let _ = store.compact(*at, told);
+        }
     }
 }
 

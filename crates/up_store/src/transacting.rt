@@ -1,7 +1,6 @@
 //! Transactions: several writes that are accepted at one revision.
 
-ghost use Rattle.std.specs.Prelude.{◌≡◌, ℕ, ◌⊎◌, ◌+◌, ◌<◌, ◌≤◌, ◌^◌, List, false, length, map, Some, IfOk, IfErr, OnOk};
-ghost use Rattle.kube_meta.specs.Rows.{RowData};
+ghost use Rattle.std.specs.Prelude.{◌≡◌, ℕ, ◌⊎◌, ◌+◌, ◌<◌, ◌≤◌, ◌^◌, false, length, map, Some, IfOk, IfErr, OnOk};
 ghost use Rattle.rev_front.specs.Passes.{Covers};
 ghost use Rattle.rev_log.specs.Logs.{Log, end_of};
 ghost use Rattle.up_api.specs.Sections.{Learns};
@@ -16,7 +15,6 @@ use crate::committing::commit;
 use crate::kept::Kept;
 use crate::revisions::SharedRevision;
 use crate::store::{LAST, meet};
-use crate::transactions::{key_of, resource_of};
 use crate::writing::{change, fault, object, share};
 use crate::{Store, Transaction, TxWriteNo, WriteAsk, Written};
 use kube_meta::{Memory, Obj, Row};
@@ -41,23 +39,19 @@ impl<N: LogFacts> Store<N> {
         ensures reply { IsTransactionReply N.base N.mirror told.old ask.now (answers_in result) told.new }
         ensures rest { self.new ≡ record self.old { whole = self.new.whole } }
     {
-        match share_all(self.alloc, ask.items()) {
-            Ok(shared) => self.transact_shared(ask, &shared, told),
-            Err(_) => {
-                meet(&mut self.pen, told);
-                Err(TxWriteNo::Memory)
-            }
-        }
+        let shared = share_all(self.alloc, ask.items());
+        self.transact_shared(ask, shared, told)
     }
 
-    /// Makes a transaction whose new objects are shared already, as by `share_all` before a lock is taken.
+    /// Makes a transaction whose new objects are shared already, as by `share_all` before a lock is taken, if there was
+    /// memory for that.
     pub fn transact_shared(
         &mut self,
         ask: &Transaction,
-        shared: &[Option<Arc<Obj>>],
+        shared: Result<Vec<Option<Arc<Obj>>>, Memory>,
         told: &mut Pass<N>,
     ) -> Result<Vec<Written>, TxWriteNo>
-        requires { map object_in shared.now ≡ map new_object ask.now }
+        requires { IfOk shared (λ new. map object_in new.items ≡ map new_object ask.now) }
         ensures covered { Covers self.old.whole told.old }
         ensures learns { Learns told.old told.new }
         ensures tells { KnowsAll self.new.whole told.new }
@@ -100,14 +94,14 @@ fn accept_all<N: LogFacts>(
     mirror: bool,
     history: u64,
     asks: &[WriteAsk],
-    shared: &[Option<Arc<Obj>>],
+    shared: Result<Vec<Option<Arc<Obj>>>, Memory>,
 ) -> Result<Vec<Written>, TxWriteNo>
     requires transaction { AreTransaction asks.now }
-    requires objects { map object_in shared.now ≡ map new_object asks.now }
+    requires objects { IfOk shared (λ new. map object_in new.items ≡ map new_object asks.now) }
     requires history { 1 ≤ history }
-    requires keeps { (base : List RowData) × Keeps (log_in base pen.old) pen.old.floor kept.old }
-    ensures answer { (base : List RowData) → Keeps (log_in base pen.old) pen.old.floor kept.old → IsTransactionAnswer base mirror history asks.now pen.old pen.new (answers_in result) }
-    ensures keeps { (base : List RowData) → Keeps (log_in base pen.old) pen.old.floor kept.old → Keeps (log_in base pen.new) pen.new.floor kept.new }
+    requires keeps { Keeps (log_in N.base pen.old) pen.old.floor kept.old }
+    ensures answer { IsTransactionAnswer N.base mirror history asks.now pen.old pen.new (answers_in result) }
+    ensures keeps { Keeps (log_in N.base pen.new) pen.new.floor kept.new }
     ensures generation { pen.new.gen ≡ pen.old.gen }
 {
     let at = pen.revision();
@@ -125,11 +119,11 @@ pub fn prepare_all(
     alloc: Global,
     kept: &mut Kept,
     asks: &[WriteAsk],
-    shared: &[Option<Arc<Obj>>],
+    shared: Result<Vec<Option<Arc<Obj>>>, Memory>,
     at: u64,
 ) -> Result<(Vec<Written>, SharedRevision), TxWriteNo>
     requires transaction { AreTransaction asks.now }
-    requires objects { map object_in shared.now ≡ map new_object asks.now }
+    requires objects { IfOk shared (λ new. map object_in new.items ≡ map new_object asks.now) }
     requires bounded { AreBounded kept.old }
     ensures keeps { (log : Log) (floor : ℕ) → Keeps log floor kept.old → Keeps log floor kept.new }
     ensures prepared { IfOk result (λ p. (log : Log) (floor : ℕ) → Keeps log floor kept.old → at ≡ end_of log → IsTxPrepared log asks.now p.0.items p.1) }
@@ -137,6 +131,7 @@ pub fn prepare_all(
     ensures last { OnOk result (at < 2 ^ 62) }
     ensures refused { IfErr result (λ no. (no ≡ TxWriteNo.Memory) ⊎ ((log : Log) (floor : ℕ) → Keeps log floor kept.old → at ≡ end_of log → tx_refusal_of false log asks.now ≡ Some no)) }
 {
+    let shared = shared?;
     kept.catch_up()?;
     if let Some(no) = refused_item(kept, asks, at) {
         return Err(no);
@@ -144,8 +139,8 @@ pub fn prepare_all(
     if at >= LAST {
         return Err(TxWriteNo::UsedUp { at });
     }
-    let answers = answers(alloc, kept, asks, shared, at)?;
-    let revision = Revision::sorted(at + 1, changes(alloc, asks, shared, at + 1)?);
+    let answers = answers(alloc, kept, asks, &shared, at)?;
+    let revision = Revision::sorted(at + 1, changes(alloc, asks, &shared, at + 1)?);
     let entry = SharedRevision::new(alloc, revision)?;
     kept.reserve(1)?;
     Ok((answers, entry))
@@ -157,7 +152,7 @@ fn refused_item(kept: &Kept, asks: &[WriteAsk], at: u64) -> Option<TxWriteNo>
     ensures { (log : Log) (floor : ℕ) → Keeps log floor kept.now → at ≡ end_of log → result ≡ first_fault log 0 asks.now }
 {
     for (index, ask) in asks.iter().enumerate() {
-        if let Some(no) = fault(ask, at, kept.row_of(resource_of(ask), key_of(ask))) {
+        if let Some(no) = fault(ask, at, kept.row_before(ask)) {
             return Some(TxWriteNo::Item {
                 index: index as u64,
                 no,
@@ -199,8 +194,7 @@ fn answer(
     requires below { at < 2 ^ 62 }
     ensures { IfOk result (λ written. (log : Log) (floor : ℕ) → Keeps log floor kept.now → at ≡ end_of log → IsWritten log ask.now written) }
 {
-    let row = kept.row_of(resource_of(ask), key_of(ask));
-    match object(ask, shared, at, row) {
+    match object(ask, shared, at, kept.row_before(ask)) {
         Ok(obj) => Ok(Written {
             rev: at + 1,
             row: Row { obj, rev: at + 1 },
@@ -219,7 +213,7 @@ fn changes(
     requires { map object_in shared.now ≡ map new_object asks.now }
     ensures { IfOk result (λ changes. changes.items ≡ map (change_of rev) asks.now) }
 {
-    let mut changes = Vec::new(alloc);
+    let mut changes = Vec::with_capacity(alloc, asks.len())?;
     for i in 0..asks.len() {
         changes.push(change(&asks[i], rev, again(&shared[i])?)?)?;
     }

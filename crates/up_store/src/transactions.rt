@@ -1,8 +1,8 @@
 //! Writes that are accepted or refused together.
 
-ghost use Rattle.std.specs.Prelude.{◌≡◌, ℕ, ◌<◌, ◌≤◌, ◌↔◌, [], false, length, map, take, IfOk, OnOk, MatchOption};
+ghost use Rattle.std.specs.Prelude.{◌≡◌, ℕ, ◌<◌, ◌≤◌, ◌↔◌, [], length, map, IfOk, OnOk, MatchOption};
 ghost use Rattle.std.specs.List.{list_any};
-ghost use Rattle.up_store.specs.Transactions.{target_of, same_target, stands_before, AreTransaction, IsFirstRepeat};
+ghost use Rattle.up_store.specs.Transactions.{target_of, same_target, AreDistinct, AreTransaction, IsFirstRepeat};
 ghost use Rattle.up_store.specs.Transacting.{RevisionsOfAreUnique};
 
 use crate::writes::{WriteAsk, WriteNo};
@@ -108,8 +108,7 @@ pub fn revisions_of_are_unique()
 
 // The place of the first write that is of an object of which an earlier one is.
 fn first_repeat(items: &[WriteAsk]) -> Option<usize>
-    ensures { MatchOption result ((i : ℕ) → i < length items.now → stands_before (map target_of items.now) i ≡ false)
-        (IsFirstRepeat (map target_of items.now)) }
+    ensures { MatchOption result (AreDistinct (map target_of items.now)) (IsFirstRepeat (map target_of items.now)) }
 {
     for (index, item) in items.iter().enumerate() {
         if is_among(&items[..index], item) {

@@ -1,7 +1,6 @@
 //! Writes and operations.
 
-ghost use Rattle.std.specs.Prelude.{◌≡◌, ℕ, ◌⊎◌, ◌+◌, ◌<◌, ◌≤◌, ◌^◌, Bool, Option, Some, None, List, false, IfOk, IfErr, OnOk, option_copied, option_map};
-ghost use Rattle.kube_meta.specs.Rows.{RowData};
+ghost use Rattle.std.specs.Prelude.{◌≡◌, ℕ, ◌⊎◌, ◌+◌, ◌<◌, ◌≤◌, ◌^◌, Bool, Option, Some, None, false, IfOk, IfErr, OnOk, option_copied, option_map};
 ghost use Rattle.rev_front.specs.Passes.{Covers};
 ghost use Rattle.rev_log.specs.Logs.{Log, end_of};
 ghost use Rattle.up_api.specs.Sections.{Learns};
@@ -34,23 +33,18 @@ impl<N: LogFacts> Store<N> {
         ensures reply { IsWriteReply N.base N.mirror told.old ask.now result told.new }
         ensures rest { self.new ≡ record self.old { whole = self.new.whole } }
     {
-        match share(self.alloc, ask) {
-            Ok(shared) => self.write_shared(ask, shared, told),
-            Err(_) => {
-                meet(&mut self.pen, told);
-                Err(WriteNo::Memory)
-            }
-        }
+        let shared = share(self.alloc, ask);
+        self.write_shared(ask, shared, told)
     }
 
-    /// Makes a write whose new object is shared already, as by `share` before a lock is taken.
+    /// Makes a write whose new object is shared already, as by `share` before a lock is taken, if memory allowed it.
     pub fn write_shared(
         &mut self,
         ask: &WriteAsk,
-        shared: Option<Arc<Obj>>,
+        shared: Result<Option<Arc<Obj>>, Memory>,
         told: &mut Pass<N>,
     ) -> Result<Written, WriteNo>
-        requires { option_map (λ obj. obj.value) shared ≡ new_object ask.now }
+        requires { IfOk shared (λ new. option_map (λ obj. obj.value) new ≡ new_object ask.now) }
         ensures covered { Covers self.old.whole told.old }
         ensures learns { Learns told.old told.new }
         ensures tells { KnowsAll self.new.whole told.new }
@@ -93,13 +87,13 @@ fn accept<N: LogFacts>(
     mirror: bool,
     history: u64,
     ask: &WriteAsk,
-    shared: Option<Arc<Obj>>,
+    shared: Result<Option<Arc<Obj>>, Memory>,
 ) -> Result<Written, WriteNo>
-    requires object { option_map (λ obj. obj.value) shared ≡ new_object ask.now }
+    requires object { IfOk shared (λ new. option_map (λ obj. obj.value) new ≡ new_object ask.now) }
     requires history { 1 ≤ history }
-    requires keeps { (base : List RowData) × Keeps (log_in base pen.old) pen.old.floor kept.old }
-    ensures answer { (base : List RowData) → Keeps (log_in base pen.old) pen.old.floor kept.old → IsWriteAnswer base mirror history ask.now pen.old pen.new result }
-    ensures keeps { (base : List RowData) → Keeps (log_in base pen.old) pen.old.floor kept.old → Keeps (log_in base pen.new) pen.new.floor kept.new }
+    requires keeps { Keeps (log_in N.base pen.old) pen.old.floor kept.old }
+    ensures answer { IsWriteAnswer N.base mirror history ask.now pen.old pen.new result }
+    ensures keeps { Keeps (log_in N.base pen.new) pen.new.floor kept.new }
     ensures generation { pen.new.gen ≡ pen.old.gen }
 {
     let at = pen.revision();
@@ -116,10 +110,10 @@ pub fn prepare(
     alloc: Global,
     kept: &mut Kept,
     ask: &WriteAsk,
-    shared: Option<Arc<Obj>>,
+    shared: Result<Option<Arc<Obj>>, Memory>,
     at: u64,
 ) -> Result<(Written, SharedRevision), WriteNo>
-    requires object { option_map (λ obj. obj.value) shared ≡ new_object ask.now }
+    requires object { IfOk shared (λ new. option_map (λ obj. obj.value) new ≡ new_object ask.now) }
     requires bounded { AreBounded kept.old }
     ensures keeps { (log : Log) (floor : ℕ) → Keeps log floor kept.old → Keeps log floor kept.new }
     ensures prepared { IfOk result (λ p. (log : Log) (floor : ℕ) → Keeps log floor kept.old → at ≡ end_of log → IsPrepared log ask.now p.0 p.1) }
@@ -127,8 +121,9 @@ pub fn prepare(
     ensures last { OnOk result (at < 2 ^ 62) }
     ensures refused { IfErr result (λ no. (no ≡ WriteNo.Memory) ⊎ ((log : Log) (floor : ℕ) → Keeps log floor kept.old → at ≡ end_of log → refusal_of false log ask.now ≡ Some no)) }
 {
+    let shared = shared?;
     kept.catch_up()?;
-    let row = kept.row_of(resource_of(ask), key_of(ask));
+    let row = kept.row_before(ask);
     let obj = object(ask, &shared, at, row)?;
     if at >= LAST {
         return Err(WriteNo::UsedUp { at });

@@ -13,5 +13,6 @@ pub returns-clause-log : goal.returns-clause-log
 returns-clause-log g c = c.commit-end.ensures.log ∙ ap (λ (r : RevisionData). record c.args.pen.now { log = c.args.pen.now.log ++ r ∷ [] }) c.get.ensures
 
 pub returns-clause-keeps : goal.returns-clause-keeps
-returns-clause-keeps g c = λ base keeps.
-    committed base c.args.pen.now c.commit-end.new.self c.args.revision c.args.kept.now c.push.new.self (returns-clause-log g c) c.requires.last c.requires.fits.0 c.push.ensures.same c.push.ensures.items keeps
+returns-clause-keeps g c =
+    committed g.N.LogFacts.base c.args.pen.now c.commit-end.new.self c.args.revision c.args.kept.now c.push.new.self (returns-clause-log g c) c.requires.last
+    c.requires.fits.0 c.push.ensures.same c.push.ensures.items c.requires.keeps

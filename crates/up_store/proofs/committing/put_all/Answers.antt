@@ -13,7 +13,7 @@ loop-revision-init g c =
       fits = subst (λ xs. FitFrom Fits (revision c.args.pen.now) xs) (sym same) c.requires.fits;
       room = omega (arith, c.requires.room, ap length same);
       log = ap (λ xs. record c.args.pen.now { log = c.args.pen.now.log ++ xs }) same;
-      keeps = λ base keeps. keeps;
+      keeps = c.requires.keeps;
     }
 
 pub put-requires-clause-last : goal.put-requires-clause-last
@@ -34,5 +34,5 @@ loop-revision-preserved g c =
       fits = rest-fits (revision c.loop-revision.pen) (revision c.put.new.pen) c.in-Some.revision c.next.new.self.rest.items c.loop-revision.revision-iterator.rest.items next first c.loop-revision.invariant.fits;
       room = c.put.ensures.room (length c.next.new.self.rest.items) (omega (arith, c.loop-revision.invariant.room, ap length first));
       log = log-more c.loop-revision.pen c.put.new.pen (record c.args.pen.now { log = c.args.pen.now.log ++ c.args.revisions.items }) c.in-Some.revision c.next.new.self.rest.items c.loop-revision.revision-iterator.rest.items c.put.ensures.log first c.loop-revision.invariant.log;
-      keeps = λ base keeps. c.put.ensures.keeps base (c.loop-revision.invariant.keeps base keeps);
+      keeps = c.put.ensures.keeps;
     }

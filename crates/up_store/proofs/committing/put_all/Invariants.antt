@@ -1,5 +1,4 @@
-use Rattle.std.proofs.Common.{◌≡◌, ◌+◌, ◌^◌, ◌≤◌, List, ◌++◌, length}
-use Rattle.kube_meta.specs.Rows.{RowData}
+use Rattle.std.proofs.Common.{◌≡◌, ◌+◌, ◌^◌, ◌≤◌, ◌++◌, length}
 use Rattle.rev_front.specs.Passes.{FitFrom, revision}
 use Rattle.rev_log.specs.Logs.{Fits}
 use Rattle.up_store.specs.Kept.{Keeps, HasRoom}
@@ -13,5 +12,5 @@ invariant-loop-revision g l = record {
   fits : FitFrom Fits (revision l.pen) l.revision-iterator.rest.items;
   room : HasRoom (length l.revision-iterator.rest.items) l.kept;
   log : record l.pen { log = l.pen.log ++ l.revision-iterator.rest.items } ≡ record l.initial.pen { log = l.initial.pen.log ++ l.fn.revisions.items };
-  keeps : (base : List RowData) → Keeps (log_in base l.initial.pen) l.initial.pen.floor l.initial.kept → Keeps (log_in base l.pen) l.pen.floor l.kept;
+  keeps : Keeps (log_in g.N.LogFacts.base l.pen) l.pen.floor l.kept;
 }

@@ -3,8 +3,7 @@ use Rattle.std.proofs.Common.{◌+◌, sym, ap, ◌∙◌, subst}
 use Rattle.rev_front.specs.Passes.{revision}
 use Rattle.rev_log.specs.Changes.{RevisionData}
 use Rattle.rev_log.specs.Logs.{Fits}
-use Rattle.up_store.specs.Stores.{accepted, log_in}
-use Rattle.up_store.proofs.KeptLemmas.{keeps-roomy}
+use Rattle.up_store.specs.Stores.{accepted}
 use Rattle.up_store.proofs.hearing.append.Goals as goal
 
 pub commit-requires-clause-fits : goal.commit-requires-clause-fits
@@ -12,7 +11,3 @@ commit-requires-clause-fits g c = subst (λ (r : RevisionData). Fits (revision c
 
 pub returns-clause-answer : goal.returns-clause-answer
 returns-clause-answer g c = (ap (λ r. r.rev) c.revision.view_is, c.commit.ensures.log ∙ ap (accepted c.args.history c.args.pen.now) c.in_ok-entry.ensures)
-
-pub returns-clause-keeps : goal.returns-clause-keeps
-returns-clause-keeps g c = λ base keeps.
-    c.commit.ensures.keeps base (keeps-roomy (log_in base c.args.pen.now) c.args.pen.now.floor c.args.kept.now c.reserve.new.self c.in_ok-reserve.ensures.same c.in_ok-reserve.ensures.items keeps)

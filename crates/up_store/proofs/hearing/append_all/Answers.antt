@@ -3,8 +3,6 @@ use Rattle.std.proofs.Common.{◌≡◌, List, ◌++◌, length, sym, ap, ◌∙
 use Rattle.rev_front.specs.Passes.{FitFrom, revision}
 use Rattle.rev_log.specs.Changes.{RevisionData}
 use Rattle.rev_log.specs.Logs.{Fits}
-use Rattle.up_store.specs.Stores.{log_in}
-use Rattle.up_store.proofs.KeptLemmas.{keeps-roomy}
 use Rattle.up_store.proofs.hearing.append_all.Goals as goal
 
 pub commit_all-requires-clause-last : goal.commit_all-requires-clause-last
@@ -22,7 +20,3 @@ returns-clause-answer g c =
       omega (arith, end, c.commit_all.ensures.answer, ap length c.in_ok-entries.ensures),
       c.commit_all.ensures.log ∙ ap (λ (xs : List RevisionData). record c.args.pen.now { log = c.args.pen.now.log ++ xs; floor = c.commit_all.result }) c.in_ok-entries.ensures,
     )
-
-pub returns-clause-keeps : goal.returns-clause-keeps
-returns-clause-keeps g c = λ base keeps.
-    c.commit_all.ensures.keeps base (keeps-roomy (log_in base c.args.pen.now) c.args.pen.now.floor c.args.kept.now c.reserve.new.self c.in_ok-reserve.ensures.same c.in_ok-reserve.ensures.items keeps)

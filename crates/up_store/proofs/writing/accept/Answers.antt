@@ -9,24 +9,24 @@ use Rattle.up_store.proofs.writing.accept.Goals as goal
 pub returns-in_err-written-clause-answer : goal.returns-in_err-written-clause-answer
 returns-in_err-written-clause-answer g c =
     let p = err_from_is_err_and c.from_residual.result c.from_residual.ensures.1 in
-    rw (p.1, p.2) (λ base keeps. unprepared base c.args.mirror c.args.history c.revision-at.result c.args.ask.now c.args.pen.now c.args.kept.now c.in_err-written.field-0.0
-    c.if-mirror.false c.revision-at.ensures.answer keeps c.in_err-written.ensures.refused)
+    rw (p.1, p.2) (unprepared g.N.LogFacts.base c.args.mirror c.args.history c.revision-at.result c.args.ask.now c.args.pen.now c.args.kept.now
+    c.in_err-written.field-0.0
+    c.if-mirror.false c.revision-at.ensures.answer c.requires.keeps c.in_err-written.ensures.refused)
 
 pub returns-in_err-written-clause-keeps : goal.returns-in_err-written-clause-keeps
-returns-in_err-written-clause-keeps g c = λ base keeps. c.in_err-written.ensures.keeps (log_in base c.args.pen.now) c.args.pen.now.floor keeps
+returns-in_err-written-clause-keeps g c = c.in_err-written.ensures.keeps (log_in g.N.LogFacts.base c.args.pen.now) c.args.pen.now.floor c.requires.keeps
 
 pub commit-requires-clause-fits : goal.commit-requires-clause-fits
 commit-requires-clause-fits g c =
-    let prepared = c.in_ok-written.ensures.prepared (log_in c.requires.keeps.0 c.args.pen.now) c.args.pen.now.floor c.requires.keeps.1 c.revision-at.ensures.answer in
-    write-fits (log_in c.requires.keeps.0 c.args.pen.now) (revision c.args.pen.now) c.args.ask.now c.in_ok-written.revision prepared.revision_is refl
+    let prepared =
+    c.in_ok-written.ensures.prepared (log_in g.N.LogFacts.base c.args.pen.now) c.args.pen.now.floor c.requires.keeps c.revision-at.ensures.answer in
+    write-fits (log_in g.N.LogFacts.base c.args.pen.now) (revision c.args.pen.now) c.args.ask.now c.in_ok-written.revision prepared.revision_is refl
 
 pub commit-requires-clause-keeps : goal.commit-requires-clause-keeps
-commit-requires-clause-keeps g c = (c.requires.keeps.0, c.in_ok-written.ensures.keeps (log_in c.requires.keeps.0 c.args.pen.now) c.args.pen.now.floor c.requires.keeps.1)
+commit-requires-clause-keeps g c = c.in_ok-written.ensures.keeps (log_in g.N.LogFacts.base c.args.pen.now) c.args.pen.now.floor c.requires.keeps
 
 pub returns-clause-answer : goal.returns-clause-answer
-returns-clause-answer g c = λ base keeps.
-    committed-answer base c.args.mirror c.args.history c.revision-at.result c.args.ask.now c.args.pen.now c.commit.new.pen c.args.kept.now c.in_ok-written.written c.in_ok-written.revision
-    c.if-mirror.false c.commit.ensures.log c.revision-at.ensures.answer keeps c.in_ok-written.ensures.prepared
-
-pub returns-clause-keeps : goal.returns-clause-keeps
-returns-clause-keeps g c = λ base keeps. c.commit.ensures.keeps base (c.in_ok-written.ensures.keeps (log_in base c.args.pen.now) c.args.pen.now.floor keeps)
+returns-clause-answer g c =
+    committed-answer g.N.LogFacts.base c.args.mirror c.args.history c.revision-at.result c.args.ask.now c.args.pen.now c.commit.new.pen c.args.kept.now
+    c.in_ok-written.written c.in_ok-written.revision
+    c.if-mirror.false c.commit.ensures.log c.revision-at.ensures.answer c.requires.keeps c.in_ok-written.ensures.prepared

@@ -1,12 +1,17 @@
 -- The floor's rows make the first revision, or the first changes of it.
 use Rattle.std.proofs.Common.{◌≡◌, ◌<◌, ◌∷◌, ◌++◌, refl, sym, ap, ◌∙◌, arith}
 use Rattle.std.specs.Option.{option_to_list}
-use Rattle.up_store.proofs.KeptLemmas.{dropped, dropping}
+use Rattle.up_store.proofs.KeptLemmas.{next-kept, follow, dropped}
+use Rattle.up_store.proofs.ReplayLemmas.{Replay-begun}
 use Rattle.up_store.proofs.kept.Kept.drop_first.Goals as goal
 
 pub returns-in_err-apply-clause-keeps : goal.returns-in_err-apply-clause-keeps
 returns-in_err-apply-clause-keeps c = λ log floor below keeps.
-    dropping log floor c.index.result.now c.args.self.now _ below (omega (arith, c.requires.some)) c.index.ensures refl refl refl refl c.in_err-apply.ensures.partly keeps
+    follow log floor c.args.self.now _ (omega arith) keeps.within keeps.followed keeps.behind keeps.revisions
+    (Replay-begun log c.args.self.now.from floor c.index.result.now c.args.self.now.floor_rows _ (omega (arith, below))
+    (next-kept log floor c.args.self.now c.args.self.now.from 0 c.index.result.now keeps (omega arith) c.index.ensures) c.in_err-apply.ensures.partly
+    keeps.floor_rows)
+    keeps.last_rows keeps
 
 pub returns-clause-keeps : goal.returns-clause-keeps
 returns-clause-keeps c = λ log floor below keeps.

@@ -1,8 +1,16 @@
-use Rattle.std.proofs.Common.{refl}
+-- The revisions from a place on are those above its number.
+use Rattle.std.proofs.Common.{◌≡◌, length, refl, ◌∙◌, arith}
 use Rattle.up_store.proofs.KeptLemmas.{old-history}
 use Rattle.up_store.proofs.kept.Kept.old_history.Goals as goal
 
+pub copied-requires-clause-order : goal.copied-requires-clause-order
+copied-requires-clause-order c = omega (arith, c.len.ensures, c.args.self.now.revisions.ok.0, c.requires.above, c.requires.reached)
+
+pub copied-requires-clause-inside : goal.copied-requires-clause-inside
+copied-requires-clause-inside c = omega (arith, c.len.ensures, c.args.self.now.revisions.ok.0)
+
 pub returns-clause-history : goal.returns-clause-history
 returns-clause-history c = λ log floor keeps later end.
-    old-history log floor c.args.self.now c.args.resource c.args.from c.args.upto _ c.requires.above c.requires.reached refl refl end
-    (c.in_ok-state.ensures log floor keeps later) (c.in_ok-revisions.ensures log floor keeps) keeps
+    let len : c.len.result ≡ length c.args.self.now.revisions.items = c.len.ensures ∙ c.args.self.now.revisions.ok.0 in
+    old-history log floor c.args.self.now c.args.resource c.args.from c.args.upto c.len.result _ c.requires.above c.requires.reached refl refl end len
+    (c.in_ok-state.ensures log floor keeps later) c.in_ok-revisions.ensures keeps

@@ -1,21 +1,12 @@
 -- What was accepted between two meetings.
-use Rattle.std.proofs.Common.{ap, arith}
+use Rattle.std.proofs.Common.{subst}
+use Rattle.up_store.specs.Replies.{IsWriteReply}
 use Rattle.up_store.proofs.ReplyLemmas.{write-replied}
-use Rattle.up_store.proofs.StoreLemmas.{store-after, twice-first, twice-knows, covers-told}
-use Rattle.up_store.proofs.WriteLemmas.{answer-told}
 use Rattle.up_store.proofs.store.Store.write_shared.Goals as goal
-
-pub invariant_of-self : goal.invariant_of-self
-invariant_of-self g c =
-    store-after g.N.LogFacts.base g.N.LogFacts.mirror c.self.inside.mirror c.self.inside.pen c.meet.new.pen c.accept-answer.new.pen c.meet-2.new.pen c.self.inside.kept c.accept-answer.new.kept c.self.inside.history c.self.inside.reads
-    c.meet.ensures.same c.meet-2.ensures.same (omega (arith, c.accept-answer.ensures.generation, ap (λ w. w.gen) c.meet.ensures.same, c.self.invariant.gen_fits)) c.accept-answer.ensures.keeps c.self.invariant
 
 pub returns-clause-reply : goal.returns-clause-reply
 returns-clause-reply g c =
-    let view = ap (λ s. s.whole) c.self.view_is in
-    write-replied g.N.LogFacts.base g.N.LogFacts.mirror c.args.self.now.history c.args.ask.now c.args.told.now c.meet-2.new.told c.args.self.now.whole c.meet-2.new.pen c.accept-answer.result
-    (twice-first c.args.self.now.whole c.self.inside.pen c.accept-answer.new.pen c.args.told.now c.meet.new.told c.meet-2.new.told view c.meet.ensures.met c.meet-2.ensures.met)
-    (covers-told c.args.self.now.whole c.self.inside.pen c.args.told.now c.meet.new.told view c.meet.ensures.met)
-    (twice-knows c.accept-answer.new.pen c.meet-2.new.pen c.meet.new.told c.meet-2.new.told c.meet-2.ensures.same c.meet-2.ensures.met)
-    (answer-told g.N.LogFacts.base g.N.LogFacts.mirror c.self.inside.mirror c.args.ask.now c.args.self.now.whole c.self.inside.pen c.meet.new.pen c.accept-answer.new.pen c.meet-2.new.pen c.self.inside.kept c.self.inside.history c.args.self.now.history c.self.inside.reads c.accept-answer.result
-    view c.meet.ensures.same c.meet-2.ensures.same (ap (λ s. s.history) c.self.view_is) c.self.invariant c.accept-answer.ensures.answer)
+    subst (λ mirror. IsWriteReply g.N.LogFacts.base mirror c.args.told.now c.args.ask.now c.accept-answer.result c.meet-2.new.told) c.self.invariant.mirror_is
+    (write-replied g.N.LogFacts.base c.self.inside.pen c.meet.new.pen c.accept-answer.new.pen c.args.told.now c.meet.new.told c.meet-2.new.told
+    c.meet.ensures.same c.meet.ensures.met c.meet-2.ensures.met c.self.inside.mirror c.self.inside.history c.args.ask.now c.accept-answer.result
+    c.accept-answer.ensures.answer)
