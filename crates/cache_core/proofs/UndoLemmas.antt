@@ -56,14 +56,6 @@ none_there [] at inside none = absurd (omega (arith, inside))
 none_there (e ∷ span) zero inside none = absurd (cc)
 none_there (e ∷ span) (suc at) inside none = none_there span at (omega (arith, inside)) none
 
-pub undo_step : (span : List EventRows) (left : ℕ) (old new start : List RowData) → 0 < left →
-    ((key : List ℕ) (row : Option RowData) → row_with old key ≡ row_before (drop (left - 1 + 1) span) key row → row_with new key ≡ row_before (drop (left - 1) span) key row) →
-    ((key : List ℕ) → row_with old key ≡ row_before (drop left span) key (row_with start key)) →
-    (key : List ℕ) → row_with new key ≡ row_before (drop (left - 1) span) key (row_with start key)
-undo_step span left old new start some step was key =
-    let same : left - 1 + 1 ≡ left = omega (arith, some) in
-    step key (row_with start key) (was key ∙ ap (λ n. row_before (drop n span) key (row_with start key)) (sym same))
-
 -- ---- the whole
 
 held_undone : (es : List EventData) (key : List ℕ) (row : Option RowData) → row_before (map held_event es) key row ≡ row_undone es key row

@@ -14,8 +14,8 @@ use Rattle.up_api.specs.Sections.{StandsAt, log_of}
 use Rattle.cache_core.specs.Caches.{CacheData, IsCacheOf, held_events, log_at}
 use Rattle.cache_core.specs.Feeding.{IsHistoryOf, Feeds}
 use Rattle.cache_hub.specs.OpenLanes.{OpenLaneData, LanesData, GoesAlong, LaneCaughtUp, SetsLane, AreChanged, AreTold, Each, open_at, newly_open, caught_up, left_behind}
-use Rattle.cache_hub.specs.Hubs.{HubData, StandsFor, HasCaughtUp}
-use Rattle.cache_hub.proofs.LaneLemmas.{IsGood, each_good, stands_by, each_set, each_changed_by, none_are, good_opened, good_caught, good_behind, are_ready, told_are_good}
+use Rattle.cache_hub.specs.Hubs.{HubData, StandsFor}
+use Rattle.cache_hub.proofs.LaneLemmas.{IsGood, each_good, stands_by, mapped_is, each_set, each_changed_by, none_are, good_opened, good_caught, good_behind, are_ready, told_are_good}
 use Rattle.cache_hub.specs.Due.{AreReady, transition_of}
 use Rattle.cache_hub.specs.Catching.{CaughtData, AreInOrder, AreFirst, IsCaught}
 use Rattle.cache_hub.proofs.CatchLemmas.{caught_by, caught_along}
@@ -36,88 +36,42 @@ ticked log old time stands = record {
   in_step = stands.in_step;
 }
 
-pub ticked_as : (log : Log) (now : HubData) (cache later : CacheData) (rebuilds : ℕ) (lanes : LanesData) (time : ℕ) →
-    record { cache = cache; rebuilds = rebuilds; lanes = lanes } ≡ now → later ≡ record cache { time = time } →
-    StandsFor log now → StandsFor log (record { cache = later; rebuilds = rebuilds; lanes = lanes })
-ticked_as log now cache later rebuilds lanes time view is stands =
-    subst (λ c. StandsFor log (record { cache = c; rebuilds = rebuilds; lanes = lanes })) (sym is)
-    (ticked log (record { cache = cache; rebuilds = rebuilds; lanes = lanes }) time (subst (StandsFor log) (sym view) stands))
-
 -- ---- the lanes alone
 
--- a hub with the same cache, whose lanes are good
-same_cache : (log : Log) (old new : HubData) → new.cache ≡ old.cache → StandsFor log old → Each (IsGood log old.cache.resource old.cache.end) new.lanes.all → StandsFor log new
-same_cache log old new same stands good =
-    stands_by log new (subst (IsCacheOf log) (sym same) stands.cache)
-    (subst (λ (c : CacheData). Each (IsGood log c.resource c.end) new.lanes.all) (sym same) good)
-
-pub stands_opened : (log : Log) (old new : HubData) (id : ℕ) (s : Selection) (at : ℕ) → new.cache ≡ old.cache → s.resource ≡ old.cache.resource →
-    SetsLane old.lanes.all new.lanes.all id (Some (newly_open s at old.cache.end old.lanes.room)) → StandsFor log old → StandsFor log new
-stands_opened log old new id s at same of sets stands =
-    same_cache log old new same stands
-    (each_set (IsGood log old.cache.resource old.cache.end) old.lanes.all new.lanes.all id (Some (newly_open s at old.cache.end old.lanes.room)) sets
-    (λ o here. subst (λ (l : Option OpenLaneData). IsSomeGood l) here (good_opened log old.cache.resource s at old.cache.end old.lanes.room of))
-    (each_good log old stands))
-  where
-    IsSomeGood : Option OpenLaneData → Type 0
-    IsSomeGood None = ⊥
-    IsSomeGood (Some o) = IsGood log old.cache.resource old.cache.end o
-
-pub stands_closed : (log : Log) (old new : HubData) (id : ℕ) → new.cache ≡ old.cache →
-    SetsLane old.lanes.all new.lanes.all id None → StandsFor log old → StandsFor log new
-stands_closed log old new id same sets stands =
-    same_cache log old new same stands
-    (each_set (IsGood log old.cache.resource old.cache.end) old.lanes.all new.lanes.all id None sets (λ o here. absurd (cc)) (each_good log old stands))
-
-pub closed_as : (log : Log) (now : HubData) (cache : CacheData) (rebuilds : ℕ) (lanes later : LanesData) (id : ℕ) →
-    record { cache = cache; rebuilds = rebuilds; lanes = lanes } ≡ now → SetsLane lanes.all later.all id None →
-    StandsFor log now → StandsFor log (record { cache = cache; rebuilds = rebuilds; lanes = later })
-closed_as log now cache rebuilds lanes later id view sets stands =
-    stands_closed log (record { cache = cache; rebuilds = rebuilds; lanes = lanes }) (record { cache = cache; rebuilds = rebuilds; lanes = later }) id refl sets
-    (subst (StandsFor log) (sym view) stands)
-
 -- after a lane was opened, or was not
-pub opened_as : {A E : Type 0} (result : Result A E) (number : A → ℕ) (log : Log) (now : HubData) (cache : CacheData) (rebuilds : ℕ) (lanes later : LanesData) (s : Selection) (at : ℕ) →
-    record { cache = cache; rebuilds = rebuilds; lanes = lanes } ≡ now → s.resource ≡ now.cache.resource →
-    IfOk result (λ r. SetsLane lanes.all later.all (number r) (Some (newly_open s at cache.end lanes.room))) → OnErr result (later ≡ lanes) →
-    StandsFor log now → StandsFor log (record { cache = cache; rebuilds = rebuilds; lanes = later })
-opened_as (Ok r) number log now cache rebuilds lanes later s at view of sets kept stands =
-    stands_opened log (record { cache = cache; rebuilds = rebuilds; lanes = lanes }) (record { cache = cache; rebuilds = rebuilds; lanes = later }) (number r) s at refl
-    (of ∙ ap (λ (h : HubData). h.cache.resource) (sym view)) sets (subst (StandsFor log) (sym view) stands)
-opened_as (Err e) number log now cache rebuilds lanes later s at view of sets kept stands =
-    subst (λ l. StandsFor log (record { cache = cache; rebuilds = rebuilds; lanes = l })) (sym kept) (subst (StandsFor log) (sym view) stands)
+pub stands_opened : {A E : Type 0} (result : Result A E) (number : A → ℕ) (log : Log) (old : HubData) (later : LanesData) (s : Selection) (at : ℕ) →
+    s.resource ≡ old.cache.resource →
+    IfOk result (λ r. SetsLane old.lanes.all later.all (number r) (Some (newly_open s at old.cache.end old.lanes.room))) → OnErr result (later ≡ old.lanes) →
+    StandsFor log old → StandsFor log (record old { lanes = later })
+stands_opened (Ok r) number log old later s at of sets kept stands =
+    stands_by log (record old { lanes = later }) stands.cache
+    (each_set (IsGood log old.cache.resource old.cache.end) old.lanes.all later.all (number r) (Some (newly_open s at old.cache.end old.lanes.room)) sets
+    (λ o here.
+    let new : newly_open s at old.cache.end old.lanes.room ≡ o = cc in
+    subst (IsGood log old.cache.resource old.cache.end) new (good_opened log old.cache.resource s at old.cache.end old.lanes.room of))
+    (each_good log old stands))
+stands_opened (Err e) number log old later s at of sets kept stands = subst (λ l. StandsFor log (record old { lanes = l })) (sym kept) stands
+
+pub stands_closed : (log : Log) (old : HubData) (later : LanesData) (id : ℕ) → SetsLane old.lanes.all later.all id None →
+    StandsFor log old → StandsFor log (record old { lanes = later })
+stands_closed log old later id sets stands =
+    stands_by log (record old { lanes = later }) stands.cache
+    (each_set (IsGood log old.cache.resource old.cache.end) old.lanes.all later.all id None sets (λ o here. absurd (cc)) (each_good log old stands))
 
 -- a lane that is changed, if it is there
-pub set_changed : (fact : OpenLaneData → Type 0) (change : OpenLaneData → OpenLaneData) (old new : List (ℕ × OpenLaneData)) (id : ℕ) →
+set_changed : (fact : OpenLaneData → Type 0) (change : OpenLaneData → OpenLaneData) (old new : List (ℕ × OpenLaneData)) (id : ℕ) →
     SetsLane old new id (option_map change (open_at old id)) → ((o : OpenLaneData) → fact o → fact (change o)) → Each fact old → Each fact new
 set_changed fact change old new id sets keeps each =
-    each_set fact old new id (option_map change (open_at old id)) sets (λ o here. by (open_at old id) refl o here) each
-  where
-    by : (was : Option OpenLaneData) → open_at old id ≡ was → (o : OpenLaneData) → option_map change was ≡ Some o → fact o
-    by None is o here = absurd (cc)
-    by (Some before) is o here =
-        let e : change before ≡ o = cc in
-        subst fact e (keeps before (each id before is))
+    each_set fact old new id (option_map change (open_at old id)) sets
+    (λ o here. let was = mapped_is change (open_at old id) o here in subst fact was.2 (keeps was.0 (each id was.0 was.1))) each
 
-pub stands_caught : (log : Log) (old new : HubData) (id : Option ℕ) (upto : ℕ) → new.cache ≡ old.cache →
-    HasCaughtUp id upto old new → StandsFor log old → StandsFor log new
-stands_caught log old new None upto same caught stands = subst (StandsFor log) (sym caught) stands
-stands_caught log old new (Some id) upto same caught stands =
-    same_cache log old new same stands
-    (set_changed (IsGood log old.cache.resource old.cache.end) (caught_up upto old.cache.end) old.lanes.all new.lanes.all id caught
+pub stands_caught : (log : Log) (old : HubData) (later : LanesData) (id : Option ℕ) (upto : ℕ) → LaneCaughtUp id upto old.cache.end old.lanes later →
+    StandsFor log old → StandsFor log (record old { lanes = later })
+stands_caught log old later None upto caught stands = subst (λ l. StandsFor log (record old { lanes = l })) (sym caught) stands
+stands_caught log old later (Some id) upto caught stands =
+    stands_by log (record old { lanes = later }) stands.cache
+    (set_changed (IsGood log old.cache.resource old.cache.end) (caught_up upto old.cache.end) old.lanes.all later.all id caught.0
     (good_caught log old.cache.resource upto old.cache.end) (each_good log old stands))
-
-pub noted_as : (id : Option ℕ) (upto : ℕ) (now : HubData) (cache : CacheData) (rebuilds : ℕ) (lanes later : LanesData) → record { cache = cache; rebuilds = rebuilds; lanes = lanes } ≡ now →
-    LaneCaughtUp id upto cache.end lanes later → HasCaughtUp id upto now (record { cache = cache; rebuilds = rebuilds; lanes = later })
-noted_as None upto now cache rebuilds lanes later view caught = ap (λ l. record { cache = cache; rebuilds = rebuilds; lanes = l }) caught ∙ view
-noted_as (Some id) upto now cache rebuilds lanes later view caught =
-    subst (λ (h : HubData). HasCaughtUp (Some id) upto h (record { cache = cache; rebuilds = rebuilds; lanes = later })) view caught.0
-
-pub caught_as : (log : Log) (id : Option ℕ) (upto : ℕ) (now : HubData) (cache : CacheData) (rebuilds : ℕ) (lanes later : LanesData) → record { cache = cache; rebuilds = rebuilds; lanes = lanes } ≡ now →
-    LaneCaughtUp id upto cache.end lanes later → StandsFor log now → StandsFor log (record { cache = cache; rebuilds = rebuilds; lanes = later })
-caught_as log id upto now cache rebuilds lanes later view caught stands =
-    stands_caught log now (record { cache = cache; rebuilds = rebuilds; lanes = later }) id upto (ap (λ (h : HubData). h.cache) view)
-    (noted_as id upto now cache rebuilds lanes later view caught) stands
 
 -- ---- a hub that was built
 
@@ -203,7 +157,7 @@ caught_of now cache rebuilds lanes s at many all lent caught view of served all_
     let own : StandsFor log (record { cache = cache; rebuilds = rebuilds; lanes = lanes }) = subst (StandsFor log) (sym view) stands in
     subst (λ (h : HubData). IsCaught log s at h.cache.end many caught) view
     (caught_by log cache.resource s at cache.end many lent caught (numbered log.first log.revisions own.cache.fitting).0
-    (omega (arith, own.cache.begun, own.cache.ring.floor.from_base, served)) (omega (arith, own.cache.ended))
+    (omega (arith, own.cache.begun, own.cache.ring.floor.from_base, served))
     (of ∙ ap (λ (h : HubData). h.cache.resource) (sym view)) (held log own.cache)
     (subst (λ n. AreInOrder at n lent → AreFirst many n (filter_map (transition_of s) lent) caught) all_is first))
 

@@ -14,6 +14,7 @@ use Rattle.kube_meta.specs.Rows.{RowData}
 use Rattle.watch_lane.specs.Index.{IndexData, Sets, lane_at, is_listed}
 use Rattle.cache_hub.specs.OpenLanes.{OpenLaneData, SetsLane, AreChanged, open_at}
 use Rattle.cache_hub.specs.Due.{due, due_in, due_at, transition_of}
+use Rattle.cache_hub.proofs.SendLemmas.{none_is_some}
 use Rattle.cache_hub.proofs.WaitingLemmas.{by_test}
 
 abbrev pub selection_in : Option OpenLaneData → Option Selection
@@ -35,17 +36,6 @@ indexed_set index later lanes new id lane indexed sets puts = λ other.
     by true other = refl
     by false other = indexed other
 
-pub indexed_changed : (index : IndexData) (change : OpenLaneData → OpenLaneData) (lanes new : List (ℕ × OpenLaneData)) → ((o : OpenLaneData) → (change o).lane.selection ≡ o.lane.selection) →
-    IsIndexed index lanes → AreChanged change lanes new → IsIndexed index new
-indexed_changed index change lanes new keeps indexed changed = λ id. indexed id ∙ by (open_at lanes id) ∙ ap selection_in (sym (changed id))
-  where
-    by : (o : Option OpenLaneData) → selection_in o ≡ selection_in (option_map change o)
-    by None = refl
-    by (Some o) = ap (λ (s : Selection). Some s) (sym (keeps o))
-
-pub free_changed : (next : ℕ) (change : OpenLaneData → OpenLaneData) (lanes new : List (ℕ × OpenLaneData)) → AreFree next lanes → AreChanged change lanes new → AreFree next new
-free_changed next change lanes new free changed = λ id above. changed id ∙ ap (option_map change) (free id above)
-
 pub free_closed : (next id : ℕ) (lanes new : List (ℕ × OpenLaneData)) → AreFree next lanes → SetsLane lanes new id None → AreFree next new
 free_closed next id lanes new free sets = λ other above. sets other ∙ by (id == other) other above
   where
@@ -53,21 +43,10 @@ free_closed next id lanes new free sets = λ other above. sets other ∙ by (id 
     by true other above = refl
     by false other above = free other above
 
-pub free_set : (next id : ℕ) (change : OpenLaneData → OpenLaneData) (lanes new : List (ℕ × OpenLaneData)) → AreFree next lanes → SetsLane lanes new id (option_map change (open_at lanes id)) → AreFree next new
-free_set next id change lanes new free sets = λ other above. sets other ∙ by_test (id == other)
-    (λ same. rw same (ap (option_map change) (free id (subst (λ n. next ≤ n) (sym (eqb-true id other same)) above))))
-    (λ differs. rw differs (free other above))
-
 pub free_put : (next later : ℕ) (lane : OpenLaneData) (lanes new : List (ℕ × OpenLaneData)) → AreFree next lanes → SetsLane lanes new next (Some lane) → next < later → AreFree later new
 free_put next later lane lanes new free sets more = λ other above. sets other ∙ by_test (next == other)
     (λ same. absurd (omega (arith, above, more, eqb-true next other same)))
     (λ differs. rw differs (free other (omega (arith, above, more))))
-
--- a lane that is set to what it was, with the index as it was
-pub set_same : (lanes : List (ℕ × OpenLaneData)) (id : ℕ) → open_at lanes id ≡ None → SetsLane lanes lanes id None
-set_same lanes id none = λ other. by_test (id == other)
-    (λ same. rw same (subst (λ n. open_at lanes n ≡ None) (eqb-true id other same) none))
-    (λ differs. rw differs refl)
 
 -- ---- values that were all written
 
@@ -98,21 +77,6 @@ due_of lanes id event o line is told = ap (λ l. due_in l event) is ∙ sym told
 
 -- ---- lanes that were told
 
-pub indexed_changed_each : (index : IndexData) (change : ℕ → OpenLaneData → OpenLaneData) (lanes new : List (ℕ × OpenLaneData)) → ((id : ℕ) (o : OpenLaneData) → (change id o).lane.selection ≡ o.lane.selection) →
-    IsIndexed index lanes → ((id : ℕ) → open_at new id ≡ option_map (change id) (open_at lanes id)) → IsIndexed index new
-indexed_changed_each index change lanes new keeps indexed changed = λ id. indexed id ∙ by id (open_at lanes id) ∙ ap selection_in (sym (changed id))
-  where
-    by : (id : ℕ) (o : Option OpenLaneData) → selection_in o ≡ selection_in (option_map (change id) o)
-    by id None = refl
-    by id (Some o) = ap (λ (s : Selection). Some s) (sym (keeps id o))
-
-pub free_changed_each : (next : ℕ) (change : ℕ → OpenLaneData → OpenLaneData) (lanes new : List (ℕ × OpenLaneData)) → AreFree next lanes →
-    ((id : ℕ) → open_at new id ≡ option_map (change id) (open_at lanes id)) → AreFree next new
-free_changed_each next change lanes new free changed = λ id above. changed id ∙ ap (option_map (change id)) (free id above)
-
-clash : false ≡ true → ⊥
-clash e = absurd (cc)
-
 no_due : (b : Bool) (line : Option TransitionData) → line ≡ None → cond b line None ≡ None
 no_due true line none = none
 no_due false line none = refl
@@ -127,7 +91,7 @@ untold index lanes all ids event old new indexed same was is listed q other =
   where
     none : (o : OpenLaneData) → lane_at index.lanes q ≡ Some o.lane.selection → due o.lane event ≡ None
     none o here = by_test (holds o.lane.selection old || holds o.lane.selection new)
-        (λ touched. absurd (clash (sym other ∙ listed q o.lane.selection here touched)))
+        (λ touched. absurd (none_is_some (sym other ∙ listed q o.lane.selection here touched)))
         (λ neither. no_due (not o.lane.behind && nat_lt o.lane.mark event.rev) (transition_of o.lane.selection event)
         (untouched o.lane.selection event (ap (λ x. holds o.lane.selection x || holds o.lane.selection (object_of event.now)) (sym was) ∙ ap (λ x. holds o.lane.selection old || holds o.lane.selection x) (sym is) ∙ neither)))
 

@@ -1,15 +1,16 @@
 -- Lanes that stand for a log go on to do so, whatever call of the cache changes them.
-use Rattle.std.proofs.Common.{◌≡◌, ◌==◌, ℕ, ◌≤◌, Bool, true, false, cond, nat_lt, nat_le, List, [], ◌∷◌, Option, Some, None, option_map, refl, sym, ap, ◌∙◌, subst, arith}
+use Rattle.std.proofs.Common.{◌≡◌, ◌==◌, ◌⊎◌, inl, inr, ◌++◌, ℕ, ◌≤◌, Bool, true, false, cond, nat_le, List, [], Option, Some, None, option_map, refl, sym, ap, ◌∙◌, subst, arith}
 use Rattle.std.specs.Ordering.{is_eq, nat_cmp}
+use Rattle.std.proofs.lemmas.Bool.{leb-true, ltb-false}
 use Rattle.kube_meta.specs.declared.resources.Resource.{Resource}
 use Rattle.rev_log.specs.Logs.{Log, AreNumbered, end_of}
 use Rattle.select_all.specs.declared.selection.Selection.{Selection}
 use Rattle.select_all.specs.Selecting.{selects}
-use Rattle.select_all.specs.Streams.{TransitionData}
 use Rattle.select_all.proofs.StreamLaws.{no_transitions}
 use Rattle.event_ring.specs.Events.{EventRows}
 use Rattle.cache_core.specs.Caches.{IsCacheOf, held_events, log_at}
-use Rattle.cache_world.specs.Lanes.{LaneData, IsInStep, unsent, lane_after}
+use Rattle.cache_world.specs.Lanes.{LaneData, BatchData, IsInStep, unsent}
+use Rattle.cache_world.proofs.LaneLemmas.{pumped_cases}
 use Rattle.watch_lane.proofs.Numbers.{is_eq-nat_cmp}
 use Rattle.cache_hub.specs.OpenLanes.{OpenLaneData, Each, AreOf, SetsLane, AreTold, open_at, newly_open, told_lane, caught_up, left_behind}
 use Rattle.cache_hub.specs.Due.{AreReady}
@@ -45,7 +46,8 @@ each_set fact old new id lane sets set each = λ other o here. by other o (id ==
     by other o true here = set o here
     by other o false here = each other o here
 
-mapped_is : (change : OpenLaneData → OpenLaneData) (old : Option OpenLaneData) (o : OpenLaneData) → option_map change old ≡ Some o → (before : OpenLaneData) × (old ≡ Some before) × (change before ≡ o)
+pub mapped_is : (change : OpenLaneData → OpenLaneData) (old : Option OpenLaneData) (o : OpenLaneData) → option_map change old ≡ Some o →
+    (before : OpenLaneData) × (old ≡ Some before) × (change before ≡ o)
 mapped_is change None o here = absurd (cc)
 mapped_is change (Some before) o here = (before, refl, some_is (change before) o here)
 
@@ -60,16 +62,10 @@ none_are fact = λ id o here. absurd (cc)
 
 -- ---- what each call makes of a lane
 
-not_below : (a b : ℕ) → nat_lt a b ≡ false → b ≤ a
-not_below a b h = grind (arith, h)
-
-reached_is : (a b : ℕ) → nat_le a b ≡ true → a ≤ b
-reached_is a b h = grind (arith, h)
-
 pub good_opened : (log : Log) (resource : Resource) (s : Selection) (at end room : ℕ) → s.resource ≡ resource → IsGood log resource end (newly_open s at end room)
 good_opened log resource s at end room of = record {
   of = of;
-  in_step = λ ahead. no_transitions (selects s) log s.resource at end (not_below at end ahead);
+  in_step = λ ahead. no_transitions (selects s) log s.resource at end (ltb-false at end ahead);
 }
 
 pub good_caught : (log : Log) (resource : Resource) (to end : ℕ) (o : OpenLaneData) → IsGood log resource end o → IsGood log resource end (caught_up to end o)
@@ -78,31 +74,23 @@ good_caught log resource to end o good = by (nat_le end to) refl
     by : (b : Bool) → nat_le end to ≡ b → IsGood log resource end (caught_up to end o)
     by true reached = record {
       of = rw reached good.of;
-      in_step = rw reached (λ ahead. no_transitions (selects o.lane.selection) log o.lane.selection.resource to end (reached_is end to reached));
+      in_step = rw reached (λ ahead. no_transitions (selects o.lane.selection) log o.lane.selection.resource to end (leb-true end to reached));
     }
     by false short = record { of = rw short good.of; in_step = rw short good.in_step }
 
 pub good_behind : (log : Log) (resource : Resource) (end : ℕ) (o : OpenLaneData) → o.lane.selection.resource ≡ resource → IsGood log resource end (left_behind o)
 good_behind log resource end o of = record { of = of; in_step = λ ahead. absurd (cc) }
 
-after_of : (lane : LaneData) (end : ℕ) (behind : Bool) (came : List TransitionData) (falls : Bool) → (lane_after lane end behind came falls).selection ≡ lane.selection
-after_of lane end true came falls = refl
-after_of lane end false [] falls = refl
-after_of lane end false (t ∷ more) true = refl
-after_of lane end false (t ∷ more) false = refl
-
-after_in_step : (log : Log) (lane : LaneData) (end : ℕ) (behind : Bool) (came : List TransitionData) (falls : Bool) →
-    lane.behind ≡ behind → unsent log end lane ≡ came → IsInStep log end (lane_after lane end behind came falls)
-after_in_step log lane end true came falls is same = λ ahead. absurd (cc)
-after_in_step log lane end false [] falls is same = λ ahead. same
-after_in_step log lane end false (t ∷ more) true is same = λ ahead. absurd (cc)
-after_in_step log lane end false (t ∷ more) false is same = λ ahead. no_transitions (selects lane.selection) log lane.selection.resource end end (omega arith)
-
 pub good_told : (log : Log) (resource : Resource) (end : ℕ) (falls : Bool) (o : OpenLaneData) → o.lane.selection.resource ≡ resource → IsGood log resource end (told_lane log end falls o)
-good_told log resource end falls o of = record {
-  of = ap (λ (s : Selection). s.resource) (after_of o.lane end o.lane.behind (unsent log end o.lane) falls) ∙ of;
-  in_step = after_in_step log o.lane end o.lane.behind (unsent log end o.lane) falls refl refl;
-}
+good_told log resource end falls o of =
+    pumped_cases (λ (lane : LaneData) (sent : List BatchData). IsGood log resource end (record o { lane = lane; sent = o.sent ++ sent })) log end o.lane
+    (λ nothing. record { of = of; in_step = λ ahead. none_came nothing ahead })
+    (λ fed came. record { of = of; in_step = λ ahead. absurd (cc) })
+    (λ fed came. record { of = of; in_step = λ ahead. no_transitions (selects o.lane.selection) log o.lane.selection.resource end end (omega arith) }) falls
+  where
+    none_came : (o.lane.behind ≡ true) ⊎ (unsent log end o.lane ≡ []) → o.lane.behind ≡ false → unsent log end o.lane ≡ []
+    none_came (inl behind) ahead = absurd (cc)
+    none_came (inr none) ahead = none
 
 -- ---- a log up to a revision, and the whole log
 
@@ -121,7 +109,7 @@ pub are_ready : (log : Log) (resource : Resource) (old new : ℕ) (es : List Eve
     Each (IsGood (log_at log old) resource old) lanes → AreReady log new es lanes
 are_ready log resource old new es lanes numbered begun onward reached held good = λ id o here ahead.
     let one = good id o here in
-    due_is_unsent log o.lane es resource old new numbered begun onward held one.of (in_step_whole log old o.lane begun reached one.in_step ahead) ahead
+    due_is_unsent log o.lane es resource old new numbered onward held one.of (in_step_whole log old o.lane begun reached one.in_step ahead) ahead
 
 -- what the lanes are after they were told
 pub told_are_good : (log : Log) (resource : Resource) (end : ℕ) (old new : List (ℕ × OpenLaneData)) → log.first ≤ end → end ≤ end_of log →

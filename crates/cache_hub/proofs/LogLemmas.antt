@@ -1,14 +1,14 @@
 -- What lanes have to be told of the events of a log, and that the stream up to a revision is that of the log up to there.
-use Rattle.std.proofs.Common.{◌≡◌, ℕ, zero, suc, ◌+◌, ◌-◌, ◌<◌, ◌≤◌, ◌⊎◌, inl, inr, Bool, true, false, nat_lt, List, [], ◌∷◌, ◌++◌, length, drop, map, filter, filter_map, Option, refl, sym, ap, ◌∙◌, subst, arith}
+use Rattle.std.proofs.Common.{◌≡◌, ℕ, ◌+◌, ◌-◌, ◌<◌, ◌≤◌, inl, inr, Bool, true, false, nat_lt, List, [], ◌∷◌, ◌++◌, drop, map, filter, filter_map, Option, refl, sym, ap, ◌∙◌, arith}
 use Rattle.std.specs.List.{cons_option, AllByRecursion}
+use Rattle.std.proofs.lemmas.Bool.{cases_lt}
 use Rattle.std.proofs.lemmas.List.{length-take, take-append-drop}
 use Rattle.kube_meta.specs.declared.resources.Resource.{Resource}
-use Rattle.rev_log.specs.Logs.{Log, AreNumbered, grown, end_of, between}
-use Rattle.rev_log.specs.States.{row_at}
+use Rattle.rev_log.specs.Logs.{Log, AreNumbered, grown, end_of}
 use Rattle.select_all.specs.declared.selection.Selection.{Selection}
 use Rattle.select_all.specs.Selecting.{selects}
 use Rattle.select_all.specs.Streams.{EventData, TransitionData, events, transition_by, transitions}
-use Rattle.select_all.proofs.EventLaws.{are_above, numbers_from, numbered-between}
+use Rattle.select_all.proofs.EventLaws.{are_above, are_within}
 use Rattle.select_all.proofs.StreamLaws.{transitions_are_joined, transitions_are_kept}
 use Rattle.event_ring.specs.Events.{EventRows}
 use Rattle.cache_core.specs.Caches.{held_event, held_events, log_at}
@@ -44,45 +44,26 @@ all_above : (mark from to : ℕ) (es : List EventData) → mark ≤ from → All
 all_above mark from to [] below within = refl
 all_above mark from to (e ∷ es) below within = grind (arith, below, within.0.0, all_above mark from to es below within.1)
 
-pub either : (a b : ℕ) → (a ≤ b) ⊎ (b ≤ a)
-either zero b = inl (omega arith)
-either (suc a) zero = inr (omega arith)
-either (suc a) (suc b) = by (either a b)
-  where
-    by : (a ≤ b) ⊎ (b ≤ a) → (suc a ≤ suc b) ⊎ (suc b ≤ suc a)
-    by (inl h) = inl (omega (arith, h))
-    by (inr h) = inr (omega (arith, h))
-
-pub within : (log : Log) (resource : Resource) (a b : ℕ) → AreNumbered log.first log.revisions → log.first ≤ a →
-    AllByRecursion (λ event. (a < event.rev) × (event.rev ≤ a + length (between log a b))) (events log resource a b)
-within log resource a b numbered begun =
-    subst (λ m. AllByRecursion (λ event. (m < event.rev) × (event.rev ≤ m + length (between log a b))) (events log resource a b)) (omega (arith, begun))
-    (numbers_from resource (row_at log resource a) (log.first + (a - log.first)) (between log a b) (numbered-between log a b numbered))
-
 -- a watch that was told everything up to a revision, and then what is above its mark, was told everything
-pub told_on : (log : Log) (s : Selection) (mark old new : ℕ) → AreNumbered log.first log.revisions → log.first ≤ old → old ≤ new → transitions log s mark old ≡ [] →
+pub told_on : (log : Log) (s : Selection) (mark old new : ℕ) → AreNumbered log.first log.revisions → old ≤ new → transitions log s mark old ≡ [] →
     filter_map (transition_by (selects s)) (filter (λ e. nat_lt mark e.rev) (events log s.resource old new)) ≡ transitions log s mark new
-told_on log s mark old new numbered begun onward nothing = by (either mark old)
-  where
-    f : EventData → Option TransitionData
-    f = transition_by (selects s)
-
-    by : (mark ≤ old) ⊎ (old ≤ mark) → filter_map f (filter (λ e. nat_lt mark e.rev) (events log s.resource old new)) ≡ transitions log s mark new
-    by (inl below) =
-        ap (filter_map f) (all_above mark old (old + length (between log old new)) (events log s.resource old new) below (within log s.resource old new numbered begun))
-        ∙ ap (λ before. before ++ transitions log s old new) (sym nothing)
-        ∙ transitions_are_joined (selects s) log s.resource mark old new below onward
-    by (inr above) = ap (filter_map f) (are_above log s.resource old mark new numbered above)
+told_on log s mark old new numbered onward nothing = elim (cases_lt old mark) [
+  | inl above ↦ ap (filter_map (transition_by (selects s))) (are_above log s.resource old mark new numbered (omega (arith, above)))
+  | inr below ↦
+      ap (filter_map (transition_by (selects s))) (all_above mark old new (events log s.resource old new) below (are_within log s.resource numbered old new))
+      ∙ ap (λ before. before ++ transitions log s old new) (sym nothing)
+      ∙ transitions_are_joined (selects s) log s.resource mark old new below onward
+]
 
 -- what is due of the events of a log is what wasn't sent
 pub due_is_unsent : (log : Log) (lane : LaneData) (es : List EventRows) (resource : Resource) (old new : ℕ) →
-    AreNumbered log.first log.revisions → log.first ≤ old → old ≤ new → es ≡ held_events log resource old new → lane.selection.resource ≡ resource →
+    AreNumbered log.first log.revisions → old ≤ new → es ≡ held_events log resource old new → lane.selection.resource ≡ resource →
     unsent log old lane ≡ [] → lane.behind ≡ false → all_due lane es ≡ unsent log new lane
-due_is_unsent log lane es resource old new numbered begun onward held of nothing ahead =
+due_is_unsent log lane es resource old new numbered onward held of nothing ahead =
     all_due-is lane es ahead
     ∙ ap (λ xs. filter_map (transition_by (selects lane.selection)) (filter (λ e. nat_lt lane.mark e.rev) (map event_data xs))) (held ∙ ap (λ r. held_events log r old new) (sym of))
     ∙ ap (λ xs. filter_map (transition_by (selects lane.selection)) (filter (λ e. nat_lt lane.mark e.rev) xs)) (data_of_held (events log lane.selection.resource old new))
-    ∙ told_on log lane.selection lane.mark old new numbered begun onward nothing
+    ∙ told_on log lane.selection lane.mark old new numbered onward nothing
 
 -- ---- the log up to a revision
 

@@ -1,5 +1,5 @@
 -- A change is told lane by lane, or in one walk over all lanes.
-use Rattle.std.proofs.Common.{◌≡◌, ◌==◌, ◌||◌, ℕ, Bool, true, false, cond, eqb-true, eq-eqb, length, get_or, arith, List, [], ◌∷◌, ◌++◌, Option, Some, None, option_map, is_some, refl, sym, ap, ◌∙◌, subst}
+use Rattle.std.proofs.Common.{◌≡◌, ℕ, Bool, true, false, cond, eqb-true, length, get_or, arith, List, [], ◌∷◌, ◌++◌, Option, Some, None, option_map, is_some, refl, sym, ap, ◌∙◌, subst}
 use Rattle.std.specs.List.{AllByRecursion, FoldsTo, cons_option}
 use Rattle.std.specs.List.Sorted.{IsStrictlyIncreasing, IsStrictlySortedBy}
 use Rattle.std.specs.Map.{keys_of}
@@ -14,10 +14,10 @@ use Rattle.event_ring.specs.Events.{EventRows}
 use Rattle.up_api.specs.Sections.{log_of}
 use Rattle.watch_lane.specs.Index.{is_listed}
 use Rattle.watch_lane.proofs.Numbers.{is_eq-nat_cmp, increasing_from_sorted}
-use Rattle.cache_hub.specs.OpenLanes.{OpenLaneData, SetsLane, AreTold, open_at, told_lane}
+use Rattle.cache_hub.specs.OpenLanes.{OpenLaneData, AreTold, open_at, told_lane}
 use Rattle.cache_hub.specs.Due.{due_in, AreReady, AreUntold, IsReady, IsWaiting}
-use Rattle.cache_hub.proofs.WaitingLemmas.{AreDistinct, by_test, distinct_from_increasing, is_waiting, same_number, turned}
-use Rattle.cache_hub.proofs.SendLemmas.{IsSentTo, none_waits}
+use Rattle.cache_hub.proofs.WaitingLemmas.{AreDistinct, by_test, distinct_from_increasing, is_waiting, same_number}
+use Rattle.cache_hub.proofs.SendLemmas.{IsSentTo, none_is_some, none_waits}
 
 module _ (log : Log) (end : ℕ) where
   -- the lanes under these numbers are still to be told; each other one was told, or has to be told nothing
@@ -39,31 +39,6 @@ module _ (log : Log) (end : ℕ) where
       by : (b : Bool) (q : ℕ) → is_listed ids q ≡ b → IsSentTo log end (is_listed ids q) (open_at start q) (open_at start q)
       by true q is = subst (λ b. IsSentTo log end b (open_at start q) (open_at start q)) (sym is) refl
       by false q is = subst (λ b. IsSentTo log end b (open_at start q) (open_at start q)) (sym is) (none_waits log end (open_at start q) (waits q (open_at start q) refl (others q is)))
-
-  -- the next one is as it was
-  next_is : (start now : List (ℕ × OpenLaneData)) (id : ℕ) (ids : List ℕ) → AreTelling start now (id ∷ ids) → open_at now id ≡ open_at start id
-  next_is start now id ids telling = subst (λ b. IsSentTo log end (b || is_listed ids id) (open_at start id) (open_at now id)) (same_number id) (telling.each id)
-
-  pub next_ready : (start now : List (ℕ × OpenLaneData)) (event : EventRows) (id : ℕ) (ids : List ℕ) → AreTelling start now (id ∷ ids) → AreReady log end (event ∷ []) start →
-      (o : OpenLaneData) → open_at now id ≡ Some o → IsReady log end (event ∷ []) o
-  next_ready start now event id ids telling ready = λ o is. ready id o (sym (next_is start now id ids telling) ∙ is)
-
-  pub telling_goes_on : (start now new : List (ℕ × OpenLaneData)) (id : ℕ) (ids : List ℕ) (falls : Bool) → AreTelling start now (id ∷ ids) →
-      SetsLane now new id (option_map (told_lane log end falls) (open_at now id)) → AreTelling start new ids
-  telling_goes_on start now new id ids falls telling sets = record {
-    distinct = telling.distinct.1;
-    each = λ q. by (id == q) q refl;
-  }
-    where
-      told : open_at new id ≡ option_map (told_lane log end falls) (open_at start id)
-      told = sets id ∙ ap (λ b. cond b (option_map (told_lane log end falls) (open_at now id)) (open_at now id)) (eq-eqb id id refl) ∙ ap (option_map (told_lane log end falls)) (next_is start now id ids telling)
-
-      by : (b : Bool) (q : ℕ) → (id == q) ≡ b → IsSentTo log end (is_listed ids q) (open_at start q) (open_at new q)
-      by true q same = subst (λ p. IsSentTo log end (is_listed ids p) (open_at start p) (open_at new p)) (eqb-true id q same)
-          (subst (λ b. IsSentTo log end b (open_at start id) (open_at new id)) (sym telling.distinct.0) (falls, told))
-      by false q differs =
-          subst (IsSentTo log end (is_listed ids q) (open_at start q)) (sym (sets q ∙ ap (λ b. cond b (option_map (told_lane log end falls) (open_at now id)) (open_at now q)) differs))
-          (subst (λ b. IsSentTo log end (b || is_listed ids q) (open_at start q) (open_at now q)) (turned id q differs) (telling.each q))
 
   pub telling_ends : (start now : List (ℕ × OpenLaneData)) → AreTelling start now [] → AreTold log end start now
   telling_ends start now telling = record { falls = λ q. (telling.each q).0; each = λ q. (telling.each q).1 }
@@ -92,13 +67,10 @@ module _ (log : Log) (end : ℕ) where
             ∙ told_first id (is_eq (nat_cmp id e.0)) a.1.0 rest.falls e.1 r.1 es r.3 a.1.1 (rest.each id);
       }
 
-  clash : false ≡ true → ⊥
-  clash e = absurd (cc)
-
   -- the lanes behind the first one are ready too, since none of them has its number
   ready_behind : (event : EventRows) (e : ℕ × OpenLaneData) (rest : List (ℕ × OpenLaneData)) → is_listed (keys_of rest) e.0 ≡ false → AreReady log end (event ∷ []) (e ∷ rest) → AreReady log end (event ∷ []) rest
   ready_behind event e rest apart ready = λ id o here. by_test (is_eq (nat_cmp id e.0))
-      (λ same. absurd (clash
+      (λ same. absurd (none_is_some
       (sym apart ∙ sym (is_some-lookup (λ other. is_eq (nat_cmp e.0 other)) rest)
       ∙ ap is_some (subst (λ n. open_at rest n ≡ Some o) (eqb-true id e.0 (sym (is_eq-nat_cmp id e.0) ∙ same)) here))))
       (λ differs. ready id o (ap (λ b. cond b (Some e.1) (open_at rest id)) differs ∙ here))

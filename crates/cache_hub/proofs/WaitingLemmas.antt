@@ -1,5 +1,5 @@
 -- The lines that wait for lanes: how they are gathered event by event, and how they are sent.
-use Rattle.std.proofs.Common.{◌≡◌, ◌==◌, ◌||◌, inl, inr, ℕ, suc, ◌+◌, ◌<◌, Bool, true, false, cond, eqb-true, eq-eqb, List, [], ◌∷◌, ◌++◌, append-nil, length, take, get_or, filter_map, Option, Some, None, refl, sym, ap, ◌∙◌, subst, arith}
+use Rattle.std.proofs.Common.{◌≡◌, ◌==◌, inl, inr, ℕ, suc, ◌+◌, ◌<◌, Bool, true, false, cond, eqb-true, eq-eqb, List, [], ◌∷◌, ◌++◌, length, take, get_or, filter_map, Option, Some, None, refl, sym, ap, ◌∙◌, subst, arith}
 use Rattle.std.specs.List.{AllByRecursion, cons_option}
 use Rattle.std.specs.List.Sorted.{IsStrictlyIncreasing}
 use Rattle.std.proofs.lemmas.List.Elements.{filter_map-append}
@@ -8,6 +8,7 @@ use Rattle.std.specs.Map.{lookup}
 use Rattle.std.specs.Ordering.{is_eq, nat_cmp}
 use Rattle.rev_log.specs.Logs.{Log}
 use Rattle.select_all.specs.Streams.{TransitionData}
+use Rattle.select_all.proofs.EventLaws.{all_weaker}
 use Rattle.event_ring.specs.Events.{EventRows}
 use Rattle.watch_lane.specs.Index.{is_listed}
 use Rattle.watch_lane.proofs.Numbers.{is_eq-nat_cmp}
@@ -24,12 +25,6 @@ by_test false when otherwise = otherwise refl
 
 pub same_number : (n : ℕ) → is_eq (nat_cmp n n) ≡ true
 same_number n = is_eq-nat_cmp n n ∙ eq-eqb n n refl
-
-pub turned : (a b : ℕ) → (a == b) ≡ false → is_eq (nat_cmp b a) ≡ false
-turned a b differs = is_eq-nat_cmp b a ∙ by_test (b == a) (λ same. absurd (clash (sym differs ∙ eq-eqb a b (sym (eqb-true b a same))))) (λ h. h)
-  where
-    clash : false ≡ true → ⊥
-    clash e = absurd (cc)
 
 -- ---- one line
 
@@ -60,14 +55,9 @@ tail_increasing x xs rising = λ k h. grind (arith, rising (k + 1) (omega (arith
 
 all_above_head : (x : ℕ) (xs : List ℕ) → IsStrictlyIncreasing (x ∷ xs) → AllByRecursion (λ y. x < y) xs
 all_above_head x [] rising = tt
-all_above_head x (y ∷ ys) rising = (rising 0 (omega arith), weaker ys (all_above_head y ys (tail_increasing x (y ∷ ys) rising)))
-  where
-    below : x < y
-    below = rising 0 (omega arith)
-
-    weaker : (zs : List ℕ) → AllByRecursion (λ z. y < z) zs → AllByRecursion (λ z. x < z) zs
-    weaker [] all = tt
-    weaker (z ∷ zs) all = (omega (arith, below, all.0), weaker zs all.1)
+all_above_head x (y ∷ ys) rising =
+    let below : x < y = rising 0 (omega arith) in
+    (below, all_weaker (λ (z : ℕ). y < z) (λ z. x < z) (λ z above. omega (arith, below, above)) ys (all_above_head y ys (tail_increasing x (y ∷ ys) rising)))
 
 pub distinct_from_increasing : (ids : List ℕ) → IsStrictlyIncreasing ids → AreDistinct ids
 distinct_from_increasing [] rising = tt
@@ -90,31 +80,6 @@ module _ (lanes : List (ℕ × OpenLaneData)) (event : EventRows) where
         (λ listed. rw listed refl)
         (λ other. ap (λ b. lines_at start q ++ cond b (one (due_at lanes q event)) []) other ∙ ap (λ l. lines_at start q ++ one l) (sym (others q other)));
   }
-
-  pub noting_goes_on : (start now new : Waiting) (id : ℕ) (ids : List ℕ) → IsNoting start now (id ∷ ids) → AddsTo id (due_at lanes id event) now new → IsNoting start new ids
-  noting_goes_on start now new id ids noting adds = record {
-    distinct = noting.distinct.1;
-    lines = λ q. by_test (id == q) (here q) (there q);
-  }
-    where
-      here : (q : ℕ) → (id == q) ≡ true → lines_at new q ++ left ids q ≡ lines_at start q ++ one (due_at lanes q event)
-      here q same = subst (λ p. lines_at new p ++ left ids p ≡ lines_at start p ++ one (due_at lanes p event)) (eqb-true id q same)
-          (ap (λ b. lines_at new id ++ cond b (one (due_at lanes id event)) []) noting.distinct.0 ∙ append-nil (lines_at new id)
-          ∙ adds id ∙ ap (λ b. cond b (lines_at now id ++ one (due_at lanes id event)) (lines_at now id)) (eq-eqb id id refl)
-          ∙ sym (ap (λ b. lines_at now id ++ cond (b || is_listed ids id) (one (due_at lanes id event)) []) (same_number id)) ∙ noting.lines id)
-
-      there : (q : ℕ) → (id == q) ≡ false → lines_at new q ++ left ids q ≡ lines_at start q ++ one (due_at lanes q event)
-      there q differs =
-          ap (λ xs. xs ++ left ids q) (adds q ∙ ap (λ b. cond b (lines_at now q ++ one (due_at lanes id event)) (lines_at now q)) differs)
-          ∙ sym (ap (λ b. lines_at now q ++ cond (b || is_listed ids q) (one (due_at lanes q event)) []) (turned id q differs)) ∙ noting.lines q
-
-  pub noting_ends : (start now : Waiting) → IsNoting start now [] → AddsEach lanes event start now
-  noting_ends start now noting = λ q. sym (append-nil (lines_at now q)) ∙ noting.lines q
-
--- ---- all events
-
-pub none_due : (lanes : List (ℕ × OpenLaneData)) → AllDue lanes [] []
-none_due lanes = λ id. refl
 
 -- ---- what waits is what wasn't sent
 

@@ -19,19 +19,6 @@ use Rattle.cache_world.proofs.WatchLemmas.{watch_grown}
 
 -- ---- going on
 
-pub goes_self : (world : World) → GoesOn world world
-goes_self world = record {
-  log = ([], ap (λ (revisions : List RevisionData). record (world.log) { revisions = revisions }) (sym (append-nil world.log.revisions)));
-  floor = omega arith;
-  generation = omega arith;
-  windows = (refl, refl);
-  passes = λ who. extends_self (pass_of world who);
-  ends = λ resource. omega arith;
-  bases = λ resource. omega arith;
-  given = λ i. prefix_self (world.clients i).given;
-  losses = λ i. prefix_self (world.clients i).losses;
-}
-
 log_on : (a b c : Log) (more further : List RevisionData) → b ≡ grown a more → c ≡ grown b further → c ≡ grown a (more ++ further)
 log_on a b c more further first second =
     second ∙ ap (λ (l : Log). grown l further) first ∙ ap (λ (revisions : List RevisionData). record a { revisions = revisions }) (append_assoc a.revisions more further)

@@ -11,11 +11,11 @@ use Rattle.cache_world.specs.World.Party.{Store, Cache, Client}
 use Rattle.cache_world.specs.Steps.{Step, after, Reaches}
 use Rattle.cache_world.specs.Law.{IsGiven, IsLoss, IsKnowledge, IsLawful, EveryWorldIsLawful}
 use Rattle.cache_world.proofs.PassLemmas.{store_knows}
-use Rattle.cache_world.proofs.GrowthLemmas.{Leads, goes_self, goes_trans}
-use Rattle.cache_world.proofs.StepLemmas.{step_leads}
+use Rattle.cache_world.proofs.GrowthLemmas.{Leads, goes_trans}
+use Rattle.cache_world.proofs.StepLemmas.{stays, step_leads}
 
 pub steps_lead : (steps : List Step) (world last : World) → IsLawful world → Reaches world steps last → Leads world last
-steps_lead [] world last is reached = subst (Leads world) (sym reached) (is, goes_self world)
+steps_lead [] world last is reached = subst (Leads world) (sym reached) (stays world is)
 steps_lead (step ∷ steps) world last is reached =
     let one = step_leads world step is reached.0 in
     let rest = steps_lead steps (after world step) last one.0 reached.1 in

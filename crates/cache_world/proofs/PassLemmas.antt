@@ -151,25 +151,25 @@ upto_within log at shown from = omega (arith, length-take (at - log.first) log.r
 fits_upto : (log : Log) (at : ℕ) → FitFrom Fits log.first log.revisions → FitFrom Fits log.first (upto log at)
 fits_upto log at fitting i revision found = fitting i revision (prefix_get (upto log at) log.revisions i revision (upto_begins log at) found)
 
+told_is : (world : World) (at : ℕ) (pass : Pass RevisionData) → widened world pass (upto world.log at) at 0 0 ≡ told_at world.log at pass
+told_is world at pass =
+    let floor : max pass.floor 0 ≡ pass.floor = omega arith in
+    let gen : max pass.gen 0 ≡ pass.gen = omega arith in
+    cc
+
 pub told_knows : (world : World) (at : ℕ) (pass : Pass RevisionData) → IsWhole Fits (whole_of world) → IsKnowledge (whole_of world) pass → at ≤ end_of world.log → IsKnowledge (whole_of world) (told_at world.log at pass)
 told_knows world at pass whole is reached =
     let within = is.lawful.within in
     let first = is.covered.first_is in
-    let bounded = is.lawful.bounded in
-    let most = whole.bounded in
     let from = is.lawful.from in
-    let c = is.covered.shown in
-    let kept = widened_knows world pass (upto world.log at) at 0 0 whole is (upto_begins world.log at) (fits_upto world.log at whole.fitting)
-    (upto_within world.log at pass.shown (omega arith)) reached (omega arith) (omega arith) in
-    record {
-      lawful = record { looks_is = kept.lawful.looks_is; last_is = kept.lawful.last_is; rising = kept.lawful.rising; told = kept.lawful.told; within = kept.lawful.within; from = from; bounded = (omega arith, bounded.1, bounded.2); fitting = kept.lawful.fitting };
-      covered = record { first_is = first; seen = kept.covered.seen; shown = omega arith; floor = is.covered.floor; gen = is.covered.gen };
-    }
+    let shown = is.covered.shown in
+    subst (IsKnowledge (whole_of world)) (told_is world at pass)
+    (widened_knows world pass (upto world.log at) at 0 0 whole is (upto_begins world.log at) (fits_upto world.log at whole.fitting)
+    (upto_within world.log at pass.shown (omega arith)) reached (omega arith) (omega arith))
 
 pub told_extends : (world : World) (at : ℕ) (pass : Pass RevisionData) → IsKnowledge (whole_of world) pass → Extends pass (told_at world.log at pass)
 told_extends world at pass is =
-    let kept = widened_extends world pass (upto world.log at) at 0 0 is (upto_begins world.log at) in
-    record { log_is = refl; seat_is = refl; seen_on = kept.seen_on; loads_on = kept.loads_on; shown_on = kept.shown_on; floor_on = omega arith; gen_on = omega arith }
+    subst (Extends pass) (told_is world at pass) (widened_extends world pass (upto world.log at) at 0 0 is (upto_begins world.log at))
 
 -- ---- later worlds
 

@@ -4,12 +4,11 @@ use Rattle.std.proofs.lemmas.Bool.{cases_Bool, cond_both}
 use Rattle.kube_meta.specs.declared.resources.Resource.{Resource}
 use Rattle.kube_meta.specs.Resources.{same_resource}
 use Rattle.rev_log.specs.Logs.{Log, end_of}
-use Rattle.select_all.specs.declared.selection.Selection.{Selection}
 use Rattle.select_all.specs.Streams.{TransitionData}
 use Rattle.select_all.specs.Floors.{IsFloorOk}
 use Rattle.cache_world.specs.Lanes.{LaneData, BatchData, Lanes, Batches, MissesNothing, IsPumped, IsPlacePumped, ArePumped, batch_between, unsent, lane_after, queue_after, pumped_lane, queued, rebuilt_lane, opened_lane, caught_lane}
 use Rattle.cache_world.specs.World.{CacheView, WatchData, ClientData, World, with_cache, with_client}
-use Rattle.cache_world.specs.Steps.{IsWatching, cache_of, MayCatchUp, each_of, pumped_watch, rebuilt_watch, opened_watch, caught_watch, with_watch, lost}
+use Rattle.cache_world.specs.Steps.{IsWatching, cache_of, MayCatchUp, each_of, pumped_watch, rebuilt_watch, caught_watch, with_watch, lost}
 use Rattle.cache_world.specs.Ties.{HubView, IsOf, IsWatcher, HasHub, AreChangedAt, waiting_of, PumpsAreComputed, PumpsAreSteps, RebuildsAreSteps, OpensAreSteps, CatchUpsAreSteps, LossesAreSteps, ClosesAreSteps}
 use Rattle.cache_world.proofs.PlaceLemmas.{same_self, at_number, each_watch, each_some}
 use Rattle.cache_world.proofs.LaneLemmas.{pumped_cases}
@@ -129,7 +128,6 @@ module _ (world : World) (resource : Resource) (number : ℕ → ℕ) (hub later
 
 pub pumps_are_steps : PumpsAreSteps
 pumps_are_steps world resource number hub later batches has may base pumped =
-    let cache : CacheView = record (world.caches resource) { end = later.end; low = later.low } in
     let same = new_cache world resource (record (world.caches resource) { end = later.end; low = later.low }) in (
       falls world resource number hub later batches has pumped,
       (
@@ -184,47 +182,67 @@ unlike a b ne = elim (cases_Bool (nat_eq a b)) [
 here_is : (world : World) (i : ℕ) (client : ClientData) → (with_client world i client).clients i ≡ client
 here_is world i client = ap (λ (b : Bool). cond b client (world.clients i)) (eq-eqb i i refl)
 
--- a client that watches the resource, and whose watch and lane change together
-module _ (world : World) (i : ℕ) (client : ClientData) (resource : Resource) (number : ℕ → ℕ) (hub : HubView) (lane : Option LaneData) (later : Lanes)
-    (has : HasHub world resource number hub) (watches : IsWatcher world resource i) (changed : AreChangedAt (number i) lane hub.lanes later)
+-- a client whose watch and lane change together, and who may take another number, which no other watcher has
+module _ (world : World) (i : ℕ) (client : ClientData) (resource : Resource) (number next : ℕ → ℕ) (hub : HubView) (lane : Option LaneData) (later : Lanes)
+    (has : HasHub world resource number hub) (kept : (j : ℕ) → nat_eq j i ≡ false → next j ≡ number j)
+    (elsewhere : (j : ℕ) → nat_eq j i ≡ false → IsWatcher world resource j → next j ≡ next i → ⊥) (changed : AreChangedAt (next i) lane hub.lanes later)
     (new : IfSome client.watch (λ watch. IsOf resource watch → lane ≡ Some watch.lane)) where
   other_lane : (j : ℕ) → nat_eq j i ≡ false → (watch : Option WatchData) → (world.clients j).watch ≡ watch → IfSome watch (λ w. IsOf resource w → hub.lanes (number j) ≡ Some w.lane) →
-      IfSome watch (λ w. IsOf resource w → later (number j) ≡ Some w.lane)
+      IfSome watch (λ w. IsOf resource w → later (next j) ≡ Some w.lane)
   other_lane j ne None same is = tt
   other_lane j ne (Some w) same is = λ of.
-      other_place (number i) (number j) lane hub.lanes later changed
-      (unlike (number j) (number i) (λ e. absurd (not_both (nat_eq j i) (eq-eqb j i (has.own j i (subst (λ (o : Option WatchData). IsWatching o (IsOf resource)) (sym same) of) watches e)) ne)))
-      ∙ is of
+      other_place (next i) (next j) lane hub.lanes later changed
+      (unlike (next j) (next i) (elsewhere j ne (subst (λ (o : Option WatchData). IsWatching o (IsOf resource)) (sym same) of)))
+      ∙ ap hub.lanes (kept j ne) ∙ is of
 
-  back : (j : ℕ) → IsWatcher (with_client world i client) resource j → IsWatcher world resource j
-  back = at_number (λ j c. IsWatching c.watch (IsOf resource) → IsWatcher world resource j) world.clients i client (λ _. watches) (λ j _ is. is)
+  watched : (j : ℕ) → nat_eq j i ≡ false → IsWatcher (with_client world i client) resource j → IsWatcher world resource j
+  watched j ne is = subst (λ (c : ClientData). IsWatching c.watch (IsOf resource)) (ap (λ (b : Bool). cond b client (world.clients j)) ne) is
 
-  pub with_lane : HasHub (with_client world i client) resource number (record hub { lanes = later })
+  own_numbers : (j k : ℕ) → IsWatcher (with_client world i client) resource j → IsWatcher (with_client world i client) resource k → next j ≡ next k → j ≡ k
+  own_numbers j k a b e = elim (cases_Bool (nat_eq j i)) [
+    | inl here ↦ elim (cases_Bool (nat_eq k i)) [
+      | inl there ↦ eqb-true j i here ∙ sym (eqb-true k i there)
+      | inr other ↦ absurd (elsewhere k other (watched k other b) (sym e ∙ ap next (eqb-true j i here)))
+    ]
+    | inr away ↦ elim (cases_Bool (nat_eq k i)) [
+      | inl there ↦ absurd (elsewhere j away (watched j away a) (e ∙ ap next (eqb-true k i there)))
+      | inr other ↦ has.own j k (watched j away a) (watched k other b) (sym (kept j away) ∙ e ∙ kept k other)
+    ]
+  ]
+
+  pub with_lane : HasHub (with_client world i client) resource next (record hub { lanes = later })
   with_lane = record {
     end_is = has.end_is;
     base_is = has.base_is;
     low_is = has.low_is;
-    lanes = at_number (λ j c. IfSome c.watch (λ watch. IsOf resource watch → later (number j) ≡ Some watch.lane)) world.clients i client
-        (each_some (λ watch. IsOf resource watch → lane ≡ Some watch.lane) (λ watch. IsOf resource watch → later (number i) ≡ Some watch.lane) client.watch (λ w is of. this_place (number i) lane hub.lanes later changed ∙ is of) new)
+    lanes = at_number (λ j c. IfSome c.watch (λ watch. IsOf resource watch → later (next j) ≡ Some watch.lane)) world.clients i client
+        (each_some (λ watch. IsOf resource watch → lane ≡ Some watch.lane) (λ watch. IsOf resource watch → later (next i) ≡ Some watch.lane) client.watch
+        (λ w is of. this_place (next i) lane hub.lanes later changed ∙ is of) new)
         (λ j ne. other_lane j ne (world.clients j).watch refl (has.lanes j));
-    own = λ j k a b e. has.own j k (back j a) (back k b) e;
+    own = own_numbers;
   }
 
 -- a client that watches is one of its resource's watchers
 watches_own : (world : World) (i : ℕ) (watch : WatchData) → (world.clients i).watch ≡ Some watch → IsWatcher world watch.lane.selection.resource i
 watches_own world i watch same = subst (λ (o : Option WatchData). IsWatching o (IsOf watch.lane.selection.resource)) (sym same) (same_self watch.lane.selection.resource)
 
+-- one that watches keeps its number
+with_watch_lane : (world : World) (i : ℕ) (client : ClientData) (number : ℕ → ℕ) (hub : HubView) (lane : Option LaneData) (later : Lanes) (watch : WatchData) →
+    HasHub world watch.lane.selection.resource number hub → (world.clients i).watch ≡ Some watch → AreChangedAt (number i) lane hub.lanes later →
+    IfSome client.watch (λ w. IsOf watch.lane.selection.resource w → lane ≡ Some w.lane) →
+    HasHub (with_client world i client) watch.lane.selection.resource number (record hub { lanes = later })
+with_watch_lane world i client number hub lane later watch has same =
+    with_lane world i client watch.lane.selection.resource number number hub lane later has (λ _ _. refl)
+    (λ j ne is e. not_both (nat_eq j i) (eq-eqb j i (has.own j i is (watches_own world i watch same) e)) ne)
+
 pub catch_ups_are_steps : CatchUpsAreSteps
 catch_ups_are_steps world number hub later i watch to has same served onward reached changed =
-    let resource : Resource = watch.lane.selection.resource in
-    let change : WatchData → WatchData = λ w. caught_watch world.log to (cache_of world w).end w in
-    let client : ClientData = record (world.clients i) { watch = Some (caught_watch world.log to (cache_of world watch).end watch) } in
     let end_is = has.end_is in
     let low_is = has.low_is in (
       record {
         allowed = subst (λ (o : Option WatchData). IsWatching o (λ w. MayCatchUp world w to)) (sym same) (record { served = served_by served; onward = onward; reached = omega arith });
         shows = subst (λ (o : Option WatchData). HasHub (with_client world i (with_watch (world.clients i) (λ w. caught_watch world.log to (cache_of world w).end w) o)) watch.lane.selection.resource number (record hub { lanes = later })) (sym same)
-            (with_lane world i (record (world.clients i) { watch = Some (caught_watch world.log to (cache_of world watch).end watch) }) watch.lane.selection.resource number hub (Some (caught_lane to hub.end watch.lane)) later has (watches_own world i watch same) changed
+            (with_watch_lane world i _ number hub (Some (caught_lane to hub.end watch.lane)) later watch has same changed
             (λ of. ap (λ (n : ℕ). Some (caught_lane to n watch.lane)) (sym has.end_is)));
       },
       ap (λ (c : ClientData). c.watch) (here_is world i (with_watch (world.clients i) (λ w. caught_watch world.log to (cache_of world w).end w) (world.clients i).watch))
@@ -242,7 +260,7 @@ losses_are_steps world number hub later i watch has same below changed =
       record {
         allowed = subst (λ (o : Option WatchData). IsWatching o (λ w. w.position < (cache_of world w).low)) (sym same) (omega arith);
         shows = subst (λ (o : Option WatchData). HasHub (with_client world i (lost (cache_of world) (world.clients i) o)) watch.lane.selection.resource number (record hub { lanes = later })) (sym same)
-            (with_lane world i (lost (cache_of world) (world.clients i) (Some watch)) watch.lane.selection.resource number hub None later has (watches_own world i watch same) changed tt);
+            (with_watch_lane world i (lost (cache_of world) (world.clients i) (Some watch)) number hub None later watch has same changed tt);
       },
       ap (λ (c : ClientData). c.losses) (here_is world i (lost (cache_of world) (world.clients i) (world.clients i).watch))
           ∙ ap (λ (o : Option WatchData). (lost (cache_of world) (world.clients i) o).losses) same
@@ -252,7 +270,7 @@ losses_are_steps world number hub later i watch has same below changed =
 pub closes_are_steps : ClosesAreSteps
 closes_are_steps world number hub later i watch has same changed = record {
   allowed = subst (λ (o : Option WatchData). IsWatching o (λ w. Unit {0})) (sym same) tt;
-  shows = with_lane world i (record (world.clients i) { watch = None }) watch.lane.selection.resource number hub None later has (watches_own world i watch same) changed tt;
+  shows = with_watch_lane world i (record (world.clients i) { watch = None }) number hub None later watch has same changed tt;
 }
 
 -- ---- a new watch
@@ -261,58 +279,17 @@ some_lane : (resource : Resource) (place : Option LaneData) (watch : Option Watc
 some_lane resource place None is watches none = absurd watches
 some_lane resource place (Some w) is watches none = let some = is watches in absurd (cc)
 
-module _ (world : World) (number next : ℕ → ℕ) (hub : HubView) (later : Lanes) (i : ℕ) (s : Selection) (at : ℕ) (has : HasHub world s.resource number hub) (none : (world.clients i).watch ≡ None)
-    (same : (j : ℕ) → (nat_eq j i ≡ true) ⊎ (next j ≡ number j)) (free : hub.lanes (next i) ≡ None) (changed : AreChangedAt (next i) (Some (opened_lane s at hub.end)) hub.lanes later) where
-  abbrev opened_client : ClientData
-  opened_client = record (world.clients i) { watch = Some (opened_watch s at (world.caches s.resource).end) }
-
-  -- another client keeps its number
-  kept : (j : ℕ) → nat_eq j i ≡ false → next j ≡ number j
-  kept j ne = elim (same j) [
-    | inl e ↦ absurd (not_both (nat_eq j i) e ne)
-    | inr e ↦ e
-  ]
-
-  -- and it isn't the new one
-  elsewhere : (j : ℕ) → nat_eq j i ≡ false → IsWatcher world s.resource j → next j ≡ next i → ⊥
-  elsewhere j ne watches e = some_lane s.resource (hub.lanes (number j)) (world.clients j).watch (has.lanes j) watches (ap hub.lanes (sym (kept j ne) ∙ e) ∙ free)
-
-  lane_kept : (j : ℕ) → nat_eq j i ≡ false → (watch : Option WatchData) → (world.clients j).watch ≡ watch → IfSome watch (λ w. IsOf s.resource w → hub.lanes (number j) ≡ Some w.lane) →
-      IfSome watch (λ w. IsOf s.resource w → later (next j) ≡ Some w.lane)
-  lane_kept j ne None e is = tt
-  lane_kept j ne (Some w) e is = λ of.
-      other_place (next i) (next j) (Some (opened_lane s at hub.end)) hub.lanes later changed
-      (unlike (next j) (next i) (elsewhere j ne (subst (λ (o : Option WatchData). IsWatching o (IsOf s.resource)) (sym e) of)))
-      ∙ ap hub.lanes (kept j ne) ∙ is of
-
-  watched : (j : ℕ) → nat_eq j i ≡ false → IsWatcher (with_client world i opened_client) s.resource j → IsWatcher world s.resource j
-  watched j ne is = subst (λ (c : ClientData). IsWatching c.watch (IsOf s.resource)) (ap (λ (b : Bool). cond b opened_client (world.clients j)) ne) is
-
-  own_numbers : (j k : ℕ) → IsWatcher (with_client world i opened_client) s.resource j → IsWatcher (with_client world i opened_client) s.resource k → next j ≡ next k → j ≡ k
-  own_numbers j k a b e = elim (cases_Bool (nat_eq j i)) [
-    | inl here ↦ elim (cases_Bool (nat_eq k i)) [
-      | inl there ↦ eqb-true j i here ∙ sym (eqb-true k i there)
-      | inr other ↦ absurd (elsewhere k other (watched k other b) (sym e ∙ ap next (eqb-true j i here)))
-    ]
-    | inr away ↦ elim (cases_Bool (nat_eq k i)) [
-      | inl there ↦ absurd (elsewhere j away (watched j away a) (e ∙ ap next (eqb-true k i there)))
-      | inr other ↦ has.own j k (watched j away a) (watched k other b) (sym (kept j away) ∙ e ∙ kept k other)
-    ]
-  ]
-
-  pub opened_shows : HasHub (with_client world i opened_client) s.resource next (record hub { lanes = later })
-  opened_shows = record {
-    end_is = has.end_is;
-    base_is = has.base_is;
-    low_is = has.low_is;
-    lanes = at_number (λ j c. IfSome c.watch (λ watch. IsOf s.resource watch → later (next j) ≡ Some watch.lane)) world.clients i opened_client
-        (λ of. this_place (next i) (Some (opened_lane s at hub.end)) hub.lanes later changed ∙ ap (λ (n : ℕ). Some (opened_lane s at n)) (sym has.end_is))
-        (λ j ne. lane_kept j ne (world.clients j).watch refl (has.lanes j));
-    own = own_numbers;
-  }
-
 pub opens_are_steps : OpensAreSteps
 opens_are_steps world number next hub later i s at has none served same free changed = record {
   allowed = (none, let low_is = has.low_is in omega arith);
-  shows = opened_shows world number next hub later i s at has none same free changed;
+  shows = with_lane world i _ s.resource number next hub (Some (opened_lane s at hub.end)) later has kept
+      (λ j ne watches e. some_lane s.resource _ (world.clients j).watch (has.lanes j) watches (ap hub.lanes (sym (kept j ne) ∙ e) ∙ free)) changed
+      (λ of. ap (λ (n : ℕ). Some (opened_lane s at n)) (sym has.end_is));
 }
+  where
+    -- another client keeps its number
+    kept : (j : ℕ) → nat_eq j i ≡ false → next j ≡ number j
+    kept j ne = elim (same j) [
+      | inl e ↦ absurd (not_both (nat_eq j i) e ne)
+      | inr e ↦ e
+    ]

@@ -15,11 +15,13 @@ pub fn watches_go_on()
 {}
 
 /// A client that watches can always be told all up to its cache's end, or its loss.
+#[tactic(auto, using(crate::proofs::ServeLemmas::watches_are_served))]
 pub fn watches_are_served()
     ensures { WatchesAreServed }
 {}
 
 /// A client can always be given a listing at its cache's end.
+#[tactic(auto, using(crate::proofs::ServeLemmas::lists_are_served))]
 pub fn lists_are_served()
     ensures { ListsAreServed }
 {}
@@ -27,6 +29,7 @@ pub fn lists_are_served()
 // ---- the calls of a cache
 
 /// What a pump may make of a lane is what the machine's pump makes of it.
+#[tactic(auto, using(crate::proofs::TieLemmas::are_computed))]
 pub fn pumps_are_computed()
     ensures { PumpsAreComputed }
 {}
@@ -42,6 +45,7 @@ pub fn rebuilds_are_steps()
 {}
 
 /// A lane that is opened is a watch that a step opens.
+#[tactic(auto, using(crate::proofs::TieLemmas::opens_are_steps))]
 pub fn opens_are_steps()
     ensures { OpensAreSteps }
 {}

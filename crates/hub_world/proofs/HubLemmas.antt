@@ -1,5 +1,5 @@
 -- What the calls of a hub make of its lanes is what steps make of the watches in the world.
-use Rattle.std.proofs.Common.{◌≡◌, ◌≢◌, ◌⊎◌, ℕ, ◌-◌, ◌<◌, ◌≤◌, max, Bool, true, false, List, [], ◌∷◌, ◌++◌, drop, length, Option, Some, None, option_map, option_to_list, inl, inr, nat_eq, cond, eqb-true, eq-eqb, take-append-drop, append_assoc, append-nil, length-append, length-take, refl, sym, ap, ◌∙◌, subst, arith}
+use Rattle.std.proofs.Common.{◌≡◌, ◌≢◌, ◌⊎◌, ℕ, ◌-◌, ◌<◌, ◌≤◌, max, Bool, true, false, List, [], ◌∷◌, ◌++◌, drop, length, Option, Some, None, option_map, option_to_list, inl, inr, nat_eq, cond, eqb-true, eq-eqb, take-append-drop, append_assoc, append-nil, length-append, refl, sym, ap, ◌∙◌, subst, arith}
 use Rattle.std.proofs.lemmas.Bool.{cases_Bool, cases_lt}
 use Rattle.kube_meta.specs.declared.resources.Resource.{Resource}
 use Rattle.rev_log.specs.Changes.{RevisionData}
@@ -34,9 +34,6 @@ cut_log log at = ap (λ (revisions : List RevisionData). record log { revisions 
 
 grown_twice : (log : Log) (more further : List RevisionData) → grown (grown log more) further ≡ grown log (more ++ further)
 grown_twice log more further = ap (λ (revisions : List RevisionData). record log { revisions = revisions }) (append_assoc log.revisions more further)
-
-cut_ends : (log : Log) (at : ℕ) → log.first ≤ at → at ≤ end_of log → end_of (log_at log at) ≡ at
-cut_ends log at begun within = omega (arith, length-take (at - log.first) log.revisions)
 
 -- a window's floor, where all is called by other names
 floor_named : (l m : Log) (r q : Resource) (a b c d e f end x : ℕ) → l ≡ m → r ≡ q → a ≡ b → c ≡ d → e ≡ f → IsFloorOk l r a c e end x → IsFloorOk m q b d f end x
@@ -113,9 +110,6 @@ module _ (log : Log) (end : ℕ) where
 -- what lanes are told of a log they are told of each that goes on from it
 unsent_grown : (log : Log) (more : List RevisionData) (end : ℕ) (lane : LaneData) → end ≤ end_of log → unsent (grown log more) end lane ≡ unsent log end lane
 unsent_grown log more end lane within = transitions_are_kept (selects lane.selection) log more lane.selection.resource lane.mark end (omega (arith, within))
-
-queued_by : LaneData → ℕ → Bool → List TransitionData → OpenLaneData → OpenLaneData
-queued_by lane end falls came o = record o { lane = lane_after lane end lane.behind came falls; sent = o.sent ++ queue_after lane end lane.behind came falls }
 
 told_grown : (log : Log) (more : List RevisionData) (end : ℕ) (old new : List (ℕ × OpenLaneData)) → end ≤ end_of log → AreTold log end old new → AreTold (grown log more) end old new
 told_grown log more end old new within told = record {

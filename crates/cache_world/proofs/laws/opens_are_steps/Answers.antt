@@ -1,5 +1,0 @@
-use Rattle.cache_world.proofs.TieLemmas.{opens_are_steps as lemma}
-use Rattle.cache_world.proofs.laws.opens_are_steps.Goals as goal
-
-pub returns : goal.returns
-returns c = lemma
