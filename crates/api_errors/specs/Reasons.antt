@@ -35,15 +35,5 @@ reason_word Timeout = codes "Timeout"
 
 -- to be asked again in a second: a resource version that isn't reached yet
 abbrev pub is_too_large : Reason → Bool
-is_too_large BadRequest = false
-is_too_large Forbidden = false
-is_too_large NotFound = false
-is_too_large MethodNotAllowed = false
-is_too_large AlreadyExists = false
-is_too_large Conflict = false
-is_too_large Expired = false
-is_too_large LengthRequired = false
-is_too_large RequestEntityTooLarge = false
-is_too_large Invalid = false
-is_too_large InternalError = false
 is_too_large Timeout = true
+is_too_large reason = false

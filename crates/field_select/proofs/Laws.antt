@@ -181,9 +181,6 @@ name_run (b ∷ name) rest all stops =
       | inr isnt ↦ absurd (let wrong : false ≡ true = rw isnt at all in cc)
     ]
 
-name_is_good : (text name : List ℕ) → text ≡ name → all_of_name name ≡ true → all_of_name text ≡ true
-name_is_good text name e good = ap all_of_name e ∙ good
-
 good-name : all_of_name (codes "metadata.name") ≡ true
 unfolding is_in
 good-name = refl
@@ -460,3 +457,7 @@ is_found resource text (Err n) e = tt
 -- what is in the grammar is read
 pub is_only : (resource : Resource) (text : List ℕ) (r : Result (List Term) FieldNo) → ReadsTerms r (selector_of resource text) → (ts : List Term) → IsSelector resource text ts → ReadsTerms r (Ok ts)
 is_only resource text r e ts is = subst (ReadsTerms r) (is_read resource text ts is) e
+
+-- a text stands for one selector of a resource at most
+pub one_selector : (resource : Resource) (text : List ℕ) (a b : List Term) → IsSelector resource text a → IsSelector resource text b → a ≡ b
+one_selector resource text a b is also = ok_is a b (sym (is_read resource text a is) ∙ is_read resource text b also)

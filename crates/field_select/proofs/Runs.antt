@@ -1,5 +1,5 @@
 -- Longest runs of bytes at the front of a text, and where a text may be cut.
-use Rattle.std.proofs.Common.{◌≡◌, ℕ, zero, suc, ◌+◌, ◌<◌, ◌≤◌, ◌⊎◌, inl, inr, Bool, true, false, eqb, List, [], ◌∷◌, ◌++◌, length, get_or, take, drop, refl, sym, ap, subst, eq-eqb, arith, IsUtf8}
+use Rattle.std.proofs.Common.{◌≡◌, ℕ, zero, suc, ◌+◌, ◌<◌, ◌≤◌, ◌⊎◌, inl, inr, Bool, true, false, eqb, List, [], ◌∷◌, ◌++◌, length, get_or, take, drop, refl, ap, subst, arith, IsUtf8}
 use Rattle.std.specs.Prelude.{◌||◌, not}
 use Rattle.std.specs.Str.{IsCharBoundary}
 use Rattle.std.proofs.lemmas.Bool.{eqb-true}
@@ -108,11 +108,3 @@ stripped c (b ∷ bytes) none =
       | inl e ↦ let same = eqb-true b c e in absurd (none bytes cc)
       | inr apart ↦ rw apart (refl, refl)
     ]
-
-pub strips : (c : ℕ) (bytes rest : List ℕ) → bytes ≡ c ∷ rest → (true ≡ begins_with c bytes) × (rest ≡ without c bytes)
-strips c [] rest e = absurd cc
-strips c (b ∷ bytes) rest e =
-    let same : b ≡ c = cc in
-    let others : bytes ≡ rest = cc in
-    let test : eqb b c ≡ true = eq-eqb b c same in
-    rw test (refl, sym others)

@@ -1,6 +1,6 @@
 -- The first term that asks for a field, or for the name, along a list.
-use Rattle.std.proofs.Common.{◌≡◌, ℕ, ◌+◌, ◌<◌, ◌≤◌, true, false, List, ◌∷◌, length, get_or, drop, Some, None, refl, sym, ap, ◌∙◌}
-use Rattle.std.proofs.lemmas.List.{at_drop_more, at_drop_all}
+use Rattle.std.proofs.Common.{◌≡◌, ℕ, ◌+◌, ◌<◌, false, List, ◌∷◌, length, get_or, drop, refl, sym, ap, ◌∙◌}
+use Rattle.std.proofs.lemmas.List.{at_drop_more}
 use Rattle.field_select.specs.Meaning.{wanted, wanted_name, asks_for, asks_name}
 use Rattle.field_select.specs.declared.terms.Term.{Term}
 
@@ -10,12 +10,6 @@ module _ (terms : List Term) (n i : ℕ) where
 
   pub wanted_later : (t : Term) → n < length terms → t ≡ get_or terms n t → asks_for i t ≡ false → wanted (drop (n + 1) terms) i ≡ wanted (drop n terms) i
   wanted_later t lt is other = sym (wanted_at t lt is ∙ rw other refl)
-
-  pub wanted_here : (t : Term) → n < length terms → t ≡ get_or terms n t → asks_for i t ≡ true → wanted (drop n terms) i ≡ Some t.value
-  wanted_here t lt is this = wanted_at t lt is ∙ rw this refl
-
-  pub wanted_never : length terms ≤ n → wanted (drop n terms) i ≡ None
-  wanted_never le = at_drop_all (λ ts. wanted ts i) terms n le
 
 module _ (terms : List Term) (n : ℕ) where
   named_at : (t : Term) → n < length terms → t ≡ get_or terms n t → wanted_name (drop n terms) ≡ wanted_name (t ∷ drop (n + 1) terms)

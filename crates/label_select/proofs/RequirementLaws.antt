@@ -313,3 +313,7 @@ is_found text (Err n) e = tt
 -- what is in the grammar is read
 pub is_only : (text : List ℕ) (r : Result (List Requirement) LabelNo) → ReadsRequirements r (selector_of text) → (rs : List Requirement) → IsSelector text rs → ReadsRequirements r (Ok rs)
 is_only text r e rs is = subst (ReadsRequirements r) (is_read text rs is) e
+
+-- a text stands for one selector at most
+pub one_selector : (text : List ℕ) (a b : List Requirement) → IsSelector text a → IsSelector text b → a ≡ b
+one_selector text a b is also = ok_is a b (sym (is_read text a is) ∙ is_read text b also)

@@ -124,10 +124,4 @@ module _ (old new : MirrorData) (taken : List ℕ) (left : Option (List ℕ)) (a
   heard_again (Err no.Memory) (inl (same, either)) = inl (same, memory_again either)
   heard_again (Err no.Memory) (inr some) = inr (some_again no.Memory some)
   heard_again (Err no.OtherLog) h = h
-  heard_again (Err no.BadChunk) (same, either) = (same, either_again no.BadChunk either)
-  heard_again (Err no.BadLine) (same, either) = (same, either_again no.BadLine either)
-  heard_again (Err (no.Order last got)) (same, either) = (same, either_again (no.Order last got) either)
-  heard_again (Err (no.Gap last got)) (same, either) = (same, either_again (no.Gap last got) either)
-  heard_again (Err (no.Told code)) (same, either) = (same, either_again (no.Told code) either)
-  heard_again (Err no.CutShort) (same, either) = (same, either_again no.CutShort either)
-  heard_again (Err no.ReadFault) (same, either) = (same, either_again no.ReadFault either)
+  heard_again (Err why) h = (h.0, either_again why h.1)

@@ -32,20 +32,11 @@ use Rattle.watch_rules.specs.Bodies.{Line, Told, Bookmark, Closing, Lost}
 
 -- a refusal of a line is one of four
 abbrev pub IsOfLine : LinkNo → Type 0
-IsOfLine no.BadHead = ⊥
-IsOfLine no.BadChunk = ⊥
 IsOfLine no.BadLine = Unit {0}
 IsOfLine (no.Order last got) = Unit {0}
 IsOfLine (no.Gap last got) = Unit {0}
-IsOfLine (no.Refused code) = ⊥
 IsOfLine (no.Told code) = Unit {0}
-IsOfLine no.CutShort = ⊥
-IsOfLine no.ReadFault = ⊥
-IsOfLine no.WriteFault = ⊥
-IsOfLine no.TooLong = ⊥
-IsOfLine no.OtherLog = ⊥
-IsOfLine (no.Passed to at) = ⊥
-IsOfLine no.Memory = ⊥
+IsOfLine why = ⊥
 
 taken : (fault : TakeNo) → IsOfLine (taking_refusal fault)
 taken take.BadLine = tt
@@ -147,31 +138,12 @@ module _ (old new : MirrorData) (text : List ℕ) (back : LinesReadBack) (mirror
     pub hears_text : (result : Result Heard LinkNo) → HearsText (log_part old) text result (log_part new) → Hears old taken left result new
     hears_text (Ok (heard.Line to)) (found, reads, (takes, to_is)) = whole to found reads takes to_is
     hears_text (Ok (heard.Ended to)) never = absurd never
-    hears_text (Err (no.Passed to at)) (inl memory) = absurd (cc (memory.0))
     hears_text (Err (no.Passed to at)) (inr (found, reads, (takes, to_is, at_is, above))) = (partly (no.Passed to at) found reads takes, to_is, at_is, above)
     hears_text (Err no.Memory) (inl memory) = inl (memory.1, inr (record { text = text; read = read }))
     hears_text (Err no.Memory) (inr (found, reads, takes)) = inr (partly no.Memory found reads takes)
-    hears_text (Err no.BadHead) (inl memory) = absurd (cc (memory.0))
-    hears_text (Err no.BadHead) (inr (found, reads, (fault, same))) = absurd (of_line (log_part old) found no.BadHead fault)
-    hears_text (Err (no.Refused code)) (inl memory) = absurd (cc (memory.0))
-    hears_text (Err (no.Refused code)) (inr (found, reads, (fault, same))) = absurd (of_line (log_part old) found (no.Refused code) fault)
-    hears_text (Err no.WriteFault) (inl memory) = absurd (cc (memory.0))
-    hears_text (Err no.WriteFault) (inr (found, reads, (fault, same))) = absurd (of_line (log_part old) found no.WriteFault fault)
-    hears_text (Err no.TooLong) (inl memory) = absurd (cc (memory.0))
-    hears_text (Err no.TooLong) (inr (found, reads, (fault, same))) = absurd (of_line (log_part old) found no.TooLong fault)
-    hears_text (Err no.OtherLog) (inl memory) = absurd (cc (memory.0))
-    hears_text (Err no.OtherLog) (inr (found, reads, (fault, same))) = absurd (of_line (log_part old) found no.OtherLog fault)
-    hears_text (Err no.BadChunk) (inl memory) = absurd (cc (memory.0))
-    hears_text (Err no.BadChunk) (inr (found, reads, (fault, same))) = absurd (of_line (log_part old) found no.BadChunk fault)
-    hears_text (Err no.CutShort) (inl memory) = absurd (cc (memory.0))
-    hears_text (Err no.CutShort) (inr (found, reads, (fault, same))) = absurd (of_line (log_part old) found no.CutShort fault)
-    hears_text (Err no.ReadFault) (inl memory) = absurd (cc (memory.0))
-    hears_text (Err no.ReadFault) (inr (found, reads, (fault, same))) = absurd (of_line (log_part old) found no.ReadFault fault)
-    hears_text (Err no.BadLine) (inl memory) = absurd (cc (memory.0))
-    hears_text (Err no.BadLine) (inr (found, reads, (fault, same))) = (same, inr (refused no.BadLine found reads fault))
-    hears_text (Err (no.Order last got)) (inl memory) = absurd (cc (memory.0))
-    hears_text (Err (no.Order last got)) (inr (found, reads, (fault, same))) = (same, inr (refused (no.Order last got) found reads fault))
-    hears_text (Err (no.Gap last got)) (inl memory) = absurd (cc (memory.0))
-    hears_text (Err (no.Gap last got)) (inr (found, reads, (fault, same))) = (same, inr (refused (no.Gap last got) found reads fault))
-    hears_text (Err (no.Told code)) (inl memory) = absurd (cc (memory.0))
-    hears_text (Err (no.Told code)) (inr (found, reads, (fault, same))) = (same, inr (refused (no.Told code) found reads fault))
+    hears_text (Err why) (inl memory) = absurd (cc (memory.0))
+    hears_text (Err no.BadLine) (inr (found, reads, hears)) = (hears.1, inr (refused no.BadLine found reads hears.0))
+    hears_text (Err (no.Order last got)) (inr (found, reads, hears)) = (hears.1, inr (refused (no.Order last got) found reads hears.0))
+    hears_text (Err (no.Gap last got)) (inr (found, reads, hears)) = (hears.1, inr (refused (no.Gap last got) found reads hears.0))
+    hears_text (Err (no.Told code)) (inr (found, reads, hears)) = (hears.1, inr (refused (no.Told code) found reads hears.0))
+    hears_text (Err why) (inr (found, reads, hears)) = absurd (of_line (log_part old) found why hears.0)

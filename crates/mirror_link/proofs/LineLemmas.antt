@@ -43,8 +43,7 @@ as_view answer why to end is same = sym (is ∙ ap (λ n. hearing_refusal n why)
 refused : (old new : MirrorLogData) (read : Option PeerLine) (fault : Option TakeNo) (why : TakeNo) → line_fault old read ≡ option_map taking_refusal fault → fault ≡ Some why → new ≡ old
     → HearsRead old read (Err (taking_refusal why)) new
 refused old new read fault take.BadLine is some same = (is ∙ ap (option_map taking_refusal) some, same)
-refused old new read fault (take.Order last got) is some same = (is ∙ ap (option_map taking_refusal) some, same)
-refused old new read fault (take.Gap last got) is some same = (is ∙ ap (option_map taking_refusal) some, same)
+refused old new read fault why is some same = (is ∙ ap (option_map taking_refusal) some, same)
 
 -- a line that is `line`, as it is heard by this fault
 pub heard_as : (old new : MirrorLogData) (line : Line) (read : Option PeerLine) (fault : Option TakeNo) (result : Result ℕ MirrorNo) → line_fault old read ≡ option_map taking_refusal fault
@@ -86,18 +85,7 @@ partly old new read takes = record { selection = takes.takes.selection; more = t
 stays_read : (old new : MirrorLogData) (read : Option PeerLine) (why : LinkNo) → HearsRead old read (Err why) new → Stays old new
 stays_read old new read (no.Passed to at) hears = partly old new read hears.0
 stays_read old new read no.Memory hears = partly old new read hears
-stays_read old new read no.BadHead hears = unmoved old new hears.1
-stays_read old new read no.BadChunk hears = unmoved old new hears.1
-stays_read old new read no.BadLine hears = unmoved old new hears.1
-stays_read old new read (no.Order last got) hears = unmoved old new hears.1
-stays_read old new read (no.Gap last got) hears = unmoved old new hears.1
-stays_read old new read (no.Refused code) hears = unmoved old new hears.1
-stays_read old new read (no.Told code) hears = unmoved old new hears.1
-stays_read old new read no.CutShort hears = unmoved old new hears.1
-stays_read old new read no.ReadFault hears = unmoved old new hears.1
-stays_read old new read no.WriteFault hears = unmoved old new hears.1
-stays_read old new read no.TooLong hears = unmoved old new hears.1
-stays_read old new read no.OtherLog hears = unmoved old new hears.1
+stays_read old new read why hears = unmoved old new hears.1
 
 pub stays : (old new : MirrorLogData) (text : List ℕ) (result : Result Heard LinkNo) → HearsText old text result new → Stays old new
 stays old new text (Ok (heard.Line to)) (found, reads, hears) = whole old new found hears.0

@@ -37,18 +37,12 @@ asked_whole old opening (Err why) new text sent takes is =
   where
     not_written : (to base : ℕ) (fault : RebaseNo) → ¬ (rebasing_refusal to base fault ≡ WriteFault)
     not_written to base (rebase.Behind end) is = cc
-    not_written to base rebase.OtherLog is = cc
-    not_written to base rebase.TooFar is = cc
-    not_written to base (rebase.Passed at) is = cc
-    not_written to base rebase.Memory is = cc
+    not_written to base fault is = cc
 
 -- a log that doesn't begin anew rests
 pub rebase_rests : (old : MirrorLogData) (rows : List RowData) (base : ℕ) (why : RebaseNo) (new : MirrorLogData) → Rebases old rows base (Err why) new → Rests old new
-rebase_rests old rows base (rebase.Behind to) new is = is.0
-rebase_rests old rows base rebase.OtherLog new is = is.0
-rebase_rests old rows base rebase.TooFar new is = is.0
-rebase_rests old rows base (rebase.Passed at) new is = is.0
 rebase_rests old rows base rebase.Memory new is = is
+rebase_rests old rows base why new is = is.0
 
 -- and then its mirror stays one, whatever it answers
 pub stays_mirror : (label field : List ℕ) (log : MirrorLogData) (reading : ReaderData) (answer given : Option (Result Heard LinkNo)) (after : MirrorLogData)

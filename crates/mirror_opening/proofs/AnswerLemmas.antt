@@ -3,10 +3,9 @@ use Rattle.std.proofs.Common.{◌≡◌, ℕ, List, [], Bool, true, false, Optio
 use Rattle.std.specs.Prelude.{◌&&◌, if◌then◌else◌}
 use Rattle.edge_io.specs.Sent.{Sent, IsSentOn}
 use Rattle.kube_meta.specs.Rows.{RowData}
-use Rattle.line_stream.specs.Answers.{Counts}
 use Rattle.line_stream.specs.declared.refusal.LineNo.{LineNo}
 use Rattle.line_stream.specs.declared.refusal.LineNo.TheVariants as line
-use Rattle.select_all.specs.declared.selection.Kind.TheVariants.{Added, Modified, Deleted}
+use Rattle.select_all.specs.declared.selection.Kind.TheVariants.{Added}
 use Rattle.select_all.specs.declared.selection.Selection.{Selection}
 use Rattle.select_all.specs.Selecting.{selects}
 use Rattle.watch_read.specs.declared.peer_line.PeerLine.{PeerLine}
@@ -18,53 +17,18 @@ use Rattle.mirror_opening.specs.Asking.{IsAsked, CountsReads}
 use Rattle.mirror_opening.specs.Reading.{Adds, HasNoRows, HasNoOpening, opening_fault, is_above_last, are_upto}
 use Rattle.mirror_opening.specs.Refusals.{reading_refusal, asking_refusal}
 use Rattle.mirror_opening.specs.declared.refusal.LinkNo.{LinkNo}
-use Rattle.mirror_opening.specs.declared.refusal.LinkNo.TheVariants.{BadHead, BadChunk, BadLine, Order, Gap, Refused, Told, CutShort, ReadFault, WriteFault, TooLong, OtherLog, Passed, Memory}
-
--- the count of a source by a refusal of its reader
-pub counts_reads : (A B : Type 0) (fault : LineNo) (old new : ℕ) → Counts {A = A} (Err fault) old new → CountsReads {A = B} (Err (reading_refusal fault)) old new
-counts_reads A B line.BadHead old new counts = counts
-counts_reads A B (line.Refused code) old new counts = counts
-counts_reads A B line.BadChunk old new counts = counts
-counts_reads A B line.Overlong old new counts = counts
-counts_reads A B line.Unfinished old new counts = counts
-counts_reads A B line.Spent old new counts = counts
-counts_reads A B line.CutShort old new counts = counts
-counts_reads A B line.ReadFault old new counts = counts
-counts_reads A B line.Memory old new counts = counts
+use Rattle.mirror_opening.specs.declared.refusal.LinkNo.TheVariants.{BadHead, BadLine, Told, ReadFault, WriteFault, Memory}
 
 -- an answer that is no fault of the source
 pub quiet : (A : Type 0) (why : LinkNo) (old new : ℕ) → ¬ (why ≡ ReadFault) → new ≡ old → CountsReads {A = A} (Err why) old new
-quiet A BadHead old new other same = same
-quiet A BadChunk old new other same = same
-quiet A BadLine old new other same = same
-quiet A (Order last got) old new other same = same
-quiet A (Gap last got) old new other same = same
-quiet A (Refused code) old new other same = same
-quiet A (Told code) old new other same = same
-quiet A CutShort old new other same = same
 quiet A ReadFault old new other same = absurd (other refl)
-quiet A WriteFault old new other same = same
-quiet A TooLong old new other same = same
-quiet A OtherLog old new other same = same
-quiet A (Passed to at) old new other same = same
-quiet A Memory old new other same = same
+quiet A why old new other same = same
 
 -- a request that was sent on
 pub asked : (A : Type 0) (why : LinkNo) (text : List ℕ) (sent : Sent) → ¬ (why ≡ WriteFault) → IsSentOn text sent → IsAsked {A = A} (Err why) text sent
-asked A BadHead text sent other is = is
-asked A BadChunk text sent other is = is
-asked A BadLine text sent other is = is
-asked A (Order last got) text sent other is = is
-asked A (Gap last got) text sent other is = is
-asked A (Refused code) text sent other is = is
-asked A (Told code) text sent other is = is
-asked A CutShort text sent other is = is
-asked A ReadFault text sent other is = is
 asked A WriteFault text sent other is = absurd (other refl)
-asked A TooLong text sent other is = is
-asked A OtherLog text sent other is = is
-asked A (Passed to at) text sent other is = is
 asked A Memory text sent other is = inr is
+asked A why text sent other is = is
 
 -- and one that wasn't
 pub not_asked : (A : Type 0) (fault : AskNo) (text : List ℕ) (sent : Sent) → Asks (Err fault) text sent → IsAsked {A = A} (Err (asking_refusal fault)) text sent
@@ -80,10 +44,8 @@ either false why is = cc
 pub bad : (s : Selection) (rows : List RowData) (found : Option PeerLine) (why : LinkNo) → opening_fault s rows found ≡ Some why → ¬ (why ≡ ReadFault)
 bad s rows None why is fault = cc
 bad s rows (Some (peer.Told Added obj rev)) why is fault = let bad_line = either (selects s obj && is_above_last rows obj.key) why is in cc
-bad s rows (Some (peer.Told Modified obj rev)) why is fault = cc
-bad s rows (Some (peer.Told Deleted obj rev)) why is fault = cc
 bad s rows (Some (peer.Bookmark at closing)) why is fault = let bad_line = either (closing && are_upto rows at) why is in cc
-bad s rows (Some (peer.Error code)) why is fault = cc
+bad s rows (Some line) why is fault = cc
 
 pub adds_quietly : (s : Selection) (rows : List RowData) (found : Option PeerLine) (result : Result (Option ℕ) LinkNo) (later : List RowData) (old new : ℕ) →
     Adds s rows found result later → new ≡ old → CountsReads result old new
@@ -96,22 +58,13 @@ adds_quietly s rows found (Err why) later old new adds same =
 
 pub no_write : (fault : LineNo) → ¬ (reading_refusal fault ≡ WriteFault)
 no_write line.BadHead is = cc
-no_write (line.Refused code) is = cc
-no_write line.BadChunk is = cc
-no_write line.Overlong is = cc
-no_write line.Unfinished is = cc
-no_write line.Spent is = cc
-no_write line.CutShort is = cc
-no_write line.ReadFault is = cc
-no_write line.Memory is = cc
+no_write fault is = cc
 
 bad_line : (s : Selection) (rows : List RowData) (found : Option PeerLine) (why : LinkNo) → opening_fault s rows found ≡ Some why → ¬ (why ≡ WriteFault)
 bad_line s rows None why is fault = cc
 bad_line s rows (Some (peer.Told Added obj rev)) why is fault = let that = either (selects s obj && is_above_last rows obj.key) why is in cc
-bad_line s rows (Some (peer.Told Modified obj rev)) why is fault = cc
-bad_line s rows (Some (peer.Told Deleted obj rev)) why is fault = cc
 bad_line s rows (Some (peer.Bookmark at closing)) why is fault = let that = either (closing && are_upto rows at) why is in cc
-bad_line s rows (Some (peer.Error code)) why is fault = cc
+bad_line s rows (Some line) why is fault = cc
 
 pub was_asked : (s : Selection) (bytes : List ℕ) (left : Option (List ℕ)) (why : LinkNo) → HasNoRows s bytes left why → ¬ (why ≡ WriteFault)
 was_asked s bytes left why (inl memory) is = cc (memory, is)

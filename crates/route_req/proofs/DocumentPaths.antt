@@ -5,7 +5,7 @@ use Rattle.std.proofs.lemmas.Option.{none-some, same_Some}
 use Rattle.std.proofs.lemmas.Slice.Eq.{bytes_eq-Decides}
 use Rattle.kube_meta.specs.Names.{is_namespace}
 use Rattle.kube_meta.specs.declared.resources.Resource.{Resource}
-use Rattle.kube_meta.specs.declared.resources.Resource.TheVariants.{Pods, ConfigMaps, Deployments}
+use Rattle.kube_meta.specs.declared.resources.Resource.TheVariants.{Pods}
 use Rattle.discovery.specs.declared.documents.Document.{Document}
 use Rattle.discovery.specs.declared.documents.Document.TheVariants.{Version, CoreVersions, Groups, AppsGroup, CoreResources, AppsResources, Namespace, Probe}
 use Rattle.discovery.specs.declared.documents.Probe.TheVariants.{Livez, Readyz, Healthz}
@@ -26,6 +26,23 @@ first_found false x o y e = inr e
 pub same_text : (a b : List ℕ) → bytes_eq a b ≡ true → a ≡ b
 same_text a b = (bytes_eq-Decides a b).0
 
+-- what stands beside the first of some words that is the given one
+abbrev pub beside : {A : Type 0} → List (List ℕ × A) → List ℕ → Option A
+beside [] word = None
+beside (row ∷ rows) word = cond (bytes_eq word row.0) (Some row.1) (beside rows word)
+
+abbrev pub EachRow : {A : Type 0} → (List ℕ → A → Type 0) → List (List ℕ × A) → Type 0
+EachRow P [] = Unit {0}
+EachRow P (row ∷ rows) = P row.0 row.1 × EachRow P rows
+
+pub row_found : {A : Type 0} (P : List ℕ → A → Type 0) (rows : List (List ℕ × A)) (word : List ℕ) (y : A)
+    → EachRow P rows → beside rows word ≡ Some y → P word y
+row_found P [] word y each e = absurd (none-some y e)
+row_found P (row ∷ rows) word y each e = elim (first_found (bytes_eq word row.0) row.1 (beside rows word) y e) [
+  | inl p ↦ subst (P word) p.1 (subst (λ w. P w row.1) (sym (same_text word row.0 p.0)) each.0)
+  | inr later ↦ row_found P rows word y each.1 later
+]
+
 -- ---- a text that is found has the path
 
 abbrev pub Has : List (List ℕ) → Document → Type 0
@@ -34,30 +51,12 @@ Has path text = (path ≡ document_path text) × IsDocument text
 has_moved : (path path' : List (List ℕ)) (a b : Document) → path' ≡ path → a ≡ b → Has path a → Has path' b
 has_moved path path' a b e f h = subst (Has path') f (e ∙ h.0, h.1)
 
-word_has : (word own : List ℕ) (a b : Document) → bytes_eq word own ≡ true → a ≡ b → Has (own ∷ []) a → Has (word ∷ []) b
-word_has word own a b same e h = has_moved (own ∷ []) (word ∷ []) a b (ap (λ w. w ∷ []) (same_text word own same)) e h
-
 word_found : (word : List ℕ) (text : Document) → document_word word ≡ Some text → Has (word ∷ []) text
 word_found word text e =
-    elim (first_found (bytes_eq word (codes "version")) Version _ text e) [
-      | inl p ↦ word_has word (codes "version") Version text p.0 p.1 (refl, tt)
-      | inr e1 ↦ elim (first_found (bytes_eq word (codes "api")) CoreVersions _ text e1) [
-        | inl p ↦ word_has word (codes "api") CoreVersions text p.0 p.1 (refl, tt)
-        | inr e2 ↦ elim (first_found (bytes_eq word (codes "apis")) Groups _ text e2) [
-          | inl p ↦ word_has word (codes "apis") Groups text p.0 p.1 (refl, tt)
-          | inr e3 ↦ elim (first_found (bytes_eq word (codes "livez")) (Probe Livez) _ text e3) [
-            | inl p ↦ word_has word (codes "livez") (Probe Livez) text p.0 p.1 (refl, tt)
-            | inr e4 ↦ elim (first_found (bytes_eq word (codes "readyz")) (Probe Readyz) _ text e4) [
-              | inl p ↦ word_has word (codes "readyz") (Probe Readyz) text p.0 p.1 (refl, tt)
-              | inr e5 ↦ elim (first_found (bytes_eq word (codes "healthz")) (Probe Healthz) None text e5) [
-                | inl p ↦ word_has word (codes "healthz") (Probe Healthz) text p.0 p.1 (refl, tt)
-                | inr none ↦ absurd (none-some text none)
-              ]
-            ]
-          ]
-        ]
-      ]
-    ]
+    row_found (λ w t. Has (w ∷ []) t)
+    ((codes "version", Version) ∷ (codes "api", CoreVersions) ∷ (codes "apis", Groups)
+    ∷ (codes "livez", Probe Livez) ∷ (codes "readyz", Probe Readyz) ∷ (codes "healthz", Probe Healthz) ∷ []) word text
+    ((refl, tt), ((refl, tt), ((refl, tt), ((refl, tt), ((refl, tt), ((refl, tt), tt)))))) e
 
 -- two segments that are equal to two words
 pair_same : (base word own other : List ℕ) → (bytes_eq base own && bytes_eq word other) ≡ true → base ∷ word ∷ [] ≡ own ∷ other ∷ []
@@ -96,12 +95,11 @@ namespace_found base version word ns text e =
     ∙ ap (λ w. codes "api" ∷ codes "v1" ∷ w ∷ ns ∷ []) (same_text word (codes "namespaces") last.0)) (same_Some (Namespace ns) text t.1) (refl, last.1)
 
 pub text_found : (path : List (List ℕ)) (text : Document) → document_at path ≡ Some text → Has path text
-text_found [] text e = absurd (none-some text e)
 text_found (word ∷ []) text e = word_found word text e
 text_found (base ∷ word ∷ []) text e = pair_found base word text e
 text_found (base ∷ group ∷ version ∷ []) text e = apps_found base group version text e
 text_found (base ∷ version ∷ word ∷ ns ∷ []) text e = namespace_found base version word ns text e
-text_found (base ∷ version ∷ word ∷ ns ∷ more ∷ rest) text e = absurd (none-some text e)
+text_found path text e = absurd (none-some text e)
 
 -- ---- the slash behind a path
 
@@ -140,10 +138,6 @@ pub no_slash : (path rest : List (List ℕ)) (last : List ℕ) → path ≡ rest
 no_slash path rest last e some =
     e ∙ sym (ap before_slash e ∙ before_last rest last ∙ ap (λ kept. rest ++ kept) (kept_whole last some))
 
-pub nothing_there : (path : List (List ℕ)) → length path ≡ 0 → path ≡ before_slash path
-nothing_there [] e = refl
-nothing_there (first ∷ rest) e = absurd (omega arith)
-
 -- a namespace isn't empty
 namespace_kept : (ns : List ℕ) → is_namespace ns ≡ true → last_kept ns ≡ ns ∷ []
 namespace_kept [] good = absurd (cc)
@@ -155,42 +149,25 @@ namespace_at : (ns : List ℕ) → is_namespace ns ≡ true → document_at (cod
 namespace_at ns good = cond-true (is_namespace ns) (Some (Namespace ns)) None good
 
 pub text_at_path : (text : Document) → IsDocument text → document_at (before_slash (document_path text)) ≡ Some text
-text_at_path Version h = refl
-text_at_path CoreVersions h = refl
-text_at_path Groups h = refl
-text_at_path AppsGroup h = refl
-text_at_path CoreResources h = refl
-text_at_path AppsResources h = refl
 text_at_path (Namespace ns) h = ap (λ last. document_at (codes "api" ∷ codes "v1" ∷ codes "namespaces" ∷ last)) (namespace_kept ns h) ∙ namespace_at ns h
 text_at_path (Probe Livez) h = refl
-text_at_path (Probe Readyz) h = refl
-text_at_path (Probe Healthz) h = refl
+text_at_path text h = refl
 
 pub text_at_slash : (text : Document) → IsDocument text → document_at (before_slash (document_path text ++ [] ∷ [])) ≡ Some text
-text_at_slash Version h = refl
-text_at_slash CoreVersions h = refl
-text_at_slash Groups h = refl
-text_at_slash AppsGroup h = refl
-text_at_slash CoreResources h = refl
-text_at_slash AppsResources h = refl
 text_at_slash (Namespace ns) h = namespace_at ns h
 text_at_slash (Probe Livez) h = refl
-text_at_slash (Probe Readyz) h = refl
-text_at_slash (Probe Healthz) h = refl
+text_at_slash text h = refl
 
 -- ---- the paths of resources are no text's
 
 pub no_text_everywhere : (r : Resource) → document_at (before_slash (place_path (Everywhere r))) ≡ None
 no_text_everywhere Pods = refl
-no_text_everywhere ConfigMaps = refl
-no_text_everywhere Deployments = refl
+no_text_everywhere r = refl
 
 pub no_text_namespaced : (r : Resource) (ns : List ℕ) → document_at (before_slash (place_path (Namespaced r ns))) ≡ None
 no_text_namespaced Pods ns = refl
-no_text_namespaced ConfigMaps ns = refl
-no_text_namespaced Deployments ns = refl
+no_text_namespaced r ns = refl
 
 pub no_text_named : (r : Resource) (ns name : List ℕ) → document_at (before_slash (place_path (Named r ns name))) ≡ None
 no_text_named Pods ns name = refl
-no_text_named ConfigMaps ns name = refl
-no_text_named Deployments ns name = refl
+no_text_named r ns name = refl

@@ -1,62 +1,31 @@
 -- The writes that items ask for, one item after the other, and what is told of a text whose items don't all ask for one.
-use Rattle.std.proofs.Common.{◌≡◌, ◌≢◌, ℕ, suc, ◌+◌, ◌<◌, List, [], ◌∷◌, ◌++◌, length, map, take, get_or, false, Some, Result, Err, option_map, refl, sym, ap, subst, ◌∙◌, slice_get, arith}
+use Rattle.std.proofs.Common.{◌≡◌, ℕ, suc, ◌+◌, ◌<◌, List, [], ◌∷◌, ◌++◌, length, map, take, get_or, false, Some, Result, Err, option_map, refl, sym, ap, subst, ◌∙◌, slice_get, arith}
 use Rattle.std.proofs.lemmas.List.{map_more, take-map}
 use Rattle.std.proofs.lemmas.Option.{slice_get-map, slice_get_read}
 use Rattle.serde_json.specs.Data.{Data}
 use Rattle.serde_json.specs.View.{view}
 use Rattle.serde_json.specs.declared.value.Value.{Value}
-use Rattle.json_obj.specs.Objects.{IsTextOf, value_refusal}
 use Rattle.json_obj.specs.declared.refusals.ObjNo.{ObjNo}
-use Rattle.json_obj.specs.declared.refusals.ObjNo.TheVariants as object_no
 use Rattle.up_store.specs.Transactions.{target_of, IsFirstRepeat}
 use Rattle.up_store.specs.declared.writes.WriteAsk.{WriteAsk}
 use Rattle.up_store.specs.declared.transactions.TxNo.{TxNo}
 use Rattle.up_store.specs.declared.transactions.TxNo.TheVariants as tx_no
 use Rattle.route_req.specs.declared.transactions.ItemNo.{ItemNo}
 use Rattle.route_req.specs.declared.transactions.ItemNo.TheVariants as item_no
-use Rattle.route_req.specs.declared.transactions.TxTextNo.{TxTextNo}
-use Rattle.route_req.specs.declared.transactions.TxTextNo.TheVariants as text_no
-use Rattle.route_req.specs.Texts.{AsksItem, RefusesItem, is_item, AskAll, IsListOfItems, RefusesItems, RefusesText, placed, not_read, not_distinct}
+use Rattle.route_req.specs.Texts.{AsksItem, RefusesItem, is_item, AskAll, IsListOfItems, RefusesItems, RefusesText, placed, not_distinct}
 
 -- one item more
 pub AskAll-push : (ds : List Data) (asks : List WriteAsk) (d : Data) (ask : WriteAsk) →
     AskAll ds asks → AsksItem d ask → AskAll (ds ++ d ∷ []) (asks ++ ask ∷ [])
 AskAll-push [] [] d ask before this = (this, tt)
-AskAll-push [] (a ∷ asks) d ask before this = absurd before
-AskAll-push (x ∷ ds) [] d ask before this = absurd before
 AskAll-push (x ∷ ds) (a ∷ asks) d ask before this = (before.0, AskAll-push ds asks d ask before.1 this)
+AskAll-push ds asks d ask before this = absurd before
 
 -- there are as many writes as items
 pub AskAll-length : (ds : List Data) (asks : List WriteAsk) → AskAll ds asks → length ds ≡ length asks
 AskAll-length [] [] all = refl
-AskAll-length [] (a ∷ asks) all = absurd all
-AskAll-length (d ∷ ds) [] all = absurd all
 AskAll-length (d ∷ ds) (a ∷ asks) all = ap (λ n. suc n) (AskAll-length ds asks all.1)
-
--- a body that isn't read as a value is refused for the reason that is told
-pub RefusesText-not_read : (body : List ℕ) (fault : ObjNo)
-    → (fault ≡ object_no.NotJson → (d : Data) → ¬ (IsTextOf body d))
-    → (fault ≢ object_no.NotJson → fault ≢ object_no.Memory → (d : Data) × IsTextOf body d × (value_refusal d ≡ Some fault))
-    → RefusesText body (not_read fault)
-RefusesText-not_read body object_no.NotJson not_json refused = not_json refl
-RefusesText-not_read body object_no.Float not_json refused = refused (λ e. cc) (λ e. cc)
-RefusesText-not_read body object_no.TooDeep not_json refused = refused (λ e. cc) (λ e. cc)
-RefusesText-not_read body object_no.WrongKind not_json refused = tt
-RefusesText-not_read body object_no.BadMeta not_json refused = tt
-RefusesText-not_read body object_no.Memory not_json refused = tt
-
--- a list of items is refused for the item that is
-pub RefusesText-items : (body : List ℕ) (ds : List Data) → IsListOfItems body ds → (fault : TxTextNo) → RefusesItems ds fault → RefusesText body fault
-RefusesText-items body ds is (text_no.BadItem i) refused = (ds, refused.0, is, refused.1, refused.2)
-RefusesText-items body ds is (text_no.BadObject i why) refused = (ds, refused.0, is, refused.1, refused.2)
-RefusesText-items body ds is text_no.Memory refused = tt
-RefusesText-items body ds is text_no.NotJson refused = absurd refused
-RefusesText-items body ds is text_no.Float refused = absurd refused
-RefusesText-items body ds is text_no.TooDeep refused = absurd refused
-RefusesText-items body ds is text_no.NotList refused = absurd refused
-RefusesText-items body ds is text_no.Empty refused = absurd refused
-RefusesText-items body ds is text_no.TooManyItems refused = absurd refused
-RefusesText-items body ds is (text_no.Repeated i) refused = absurd refused
+AskAll-length ds asks all = absurd all
 
 -- ---- along the values
 

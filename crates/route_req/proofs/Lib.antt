@@ -4,8 +4,6 @@ pub mod Paths
 pub mod Wrapping
 pub mod PlainItems
 pub mod Readings
-pub mod LabelTexts
-pub mod FieldTexts
 pub mod Selections
 pub mod Outcomes
 pub mod OneAnswer

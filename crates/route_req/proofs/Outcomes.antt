@@ -1,8 +1,10 @@
 -- A request has one outcome.
 use Rattle.std.proofs.Common.{◌≡◌, ◌≢◌, ℕ, Bool, true, false, List, Option, Some, None, Result, Ok, Err, refl, sym, ap, subst, ◌∙◌, inl, inr, ◌⊎◌, codes, cond, bytes_eq}
 use Rattle.std.specs.Bool.{MatchBool}
+use Rattle.std.proofs.lemmas.Bool.{both_ways}
 use Rattle.std.proofs.lemmas.Option.{none-some, same_Some}
 use Rattle.serde_json.specs.Data.{Data}
+use Rattle.kube_meta.specs.declared.objects.Obj.{Obj}
 use Rattle.kube_meta.specs.declared.resources.Resource.{Resource}
 use Rattle.kube_meta.specs.Keys.{joined}
 use Rattle.http_read.specs.declared.request.Req.{Req}
@@ -17,7 +19,7 @@ use Rattle.list_rules.specs.Options.{QueryPairs, given, parameter_number, of_get
 use Rattle.list_rules.specs.Asking.{ask_of}
 use Rattle.watch_rules.specs.declared.ask.WatchAsk.{WatchAsk}
 use Rattle.watch_rules.specs.Options.{query_fault, MeansWatch}
-use Rattle.json_obj.specs.Objects.{IsTextOf, refusal}
+use Rattle.json_obj.specs.Objects.{IsTextOf, refusal, IsObjectOf, Stores}
 use Rattle.json_obj.specs.declared.refusals.ObjNo.{ObjNo}
 use Rattle.json_obj.specs.declared.refusals.ObjNo.TheVariants as object_no
 use Rattle.up_store.specs.declared.writes.WriteAsk.{WriteAsk}
@@ -28,7 +30,7 @@ use Rattle.route_req.specs.Texts.{AsksTransaction, RefusesText}
 use Rattle.route_req.specs.Asks.{is_watch, IsSelection, HasSelectorFault, compacts_at, HoldsNoObject, AsksList, AsksWatch, AsksRead, AsksCreate, AsksReplace, AsksGet, AsksCompact, AsksTransact, Asks, RefusesList, RefusesWatch, RefusesRead, RefusesObject, RefusesGet, RefusesCompact, RefusesTransact, Refuses, AsksAtPath, RefusesAtPath, IsRefusal}
 use Rattle.route_req.specs.Outcomes.{RoutesAreNotRefused, RefusalsAgree}
 use Rattle.route_req.specs.declared.places.Place.{Place}
-use Rattle.route_req.specs.declared.places.Place.TheVariants.{Described, Everywhere, Namespaced, Named, OfMetrics, OfCut, OfCompact, OfRestart, OfTransaction}
+use Rattle.route_req.specs.declared.places.Place.TheVariants.{Described, OfMetrics, OfCut, OfCompact, OfRestart}
 use Rattle.route_req.specs.declared.places.Action.{Action}
 use Rattle.route_req.specs.declared.places.Action.TheVariants.{Describe, Measure, Read, Create, Get, Replace, Remove, Cut, Compact, Restart, Transact}
 use Rattle.route_req.specs.declared.transactions.TxTextNo.{TxTextNo}
@@ -41,6 +43,7 @@ use Rattle.route_req.proofs.DocumentPaths.{if_found}
 use Rattle.route_req.proofs.Paths.{one_place}
 use Rattle.route_req.proofs.Readings.{one_text, texts_agree, text_unrefused}
 use Rattle.route_req.proofs.Selections.{one_selection}
+use Rattle.route_req.proofs.Wrapping.{Placed, act_plain}
 
 -- ---- what is told by a refusal: want of memory, or a reason of one kind
 
@@ -59,18 +62,14 @@ told_memory : {Why : Type 0} (wrap : Why → RouteNo) (Holds : Why → Type 0) (
 told_memory wrap Holds fault none (inl e) = e
 told_memory wrap Holds fault none (inr x) = absurd (none x.0 x.2)
 
-same_Err : {A B : Type 0} (x y : B) → ◌≡◌ {A = Result A B} (Err x) (Err y) → x ≡ y
-same_Err x y e = cc
-
 pub same_Ok : {A B : Type 0} (x y : A) → ◌≡◌ {A = Result A B} (Ok x) (Ok y) → x ≡ y
 same_Ok x y e = cc
 
 not_both : {A B : Type 0} (r : Result A B) (x : A) (y : B) → r ≡ Ok x → r ≡ Err y → ⊥
-not_both (Ok z) x y ok err = cc
-not_both (Err z) x y ok err = cc
+not_both r x y ok err = cc
 
 err_once : {A B : Type 0} (r : Result A B) (x y : B) → r ≡ Err x → r ≡ Err y → x ≡ y
-err_once r x y ex ey = same_Err x y (sym ex ∙ ey)
+err_once r x y ex ey = cc
 
 -- ---- the reasons
 
@@ -78,41 +77,18 @@ abbrev pub ListFault : Selection → QueryPairs → AskNo → Type 0
 ListFault s params why = ask_of s params ≡ Err why
 
 list_tells : (s : Selection) (params : QueryPairs) (fault : RouteNo) → RefusesList s params fault → Tells fault (λ why. route_no.List why) (ListFault s params)
-list_tells s params (route_no.List ask_no.BadRevision) is = inr (ask_no.BadRevision, refl, is)
-list_tells s params (route_no.List ask_no.BadMatch) is = inr (ask_no.BadMatch, refl, is)
-list_tells s params (route_no.List ask_no.MatchNeedsRevision) is = inr (ask_no.MatchNeedsRevision, refl, is)
-list_tells s params (route_no.List ask_no.ExactZero) is = inr (ask_no.ExactZero, refl, is)
-list_tells s params (route_no.List ask_no.MatchWithContinue) is = inr (ask_no.MatchWithContinue, refl, is)
-list_tells s params (route_no.List ask_no.RevisionWithContinue) is = inr (ask_no.RevisionWithContinue, refl, is)
-list_tells s params (route_no.List ask_no.InitialEventsOnList) is = inr (ask_no.InitialEventsOnList, refl, is)
-list_tells s params (route_no.List ask_no.BadLimit) is = inr (ask_no.BadLimit, refl, is)
-list_tells s params (route_no.List (ask_no.BadContinue token)) is = inr (ask_no.BadContinue token, refl, is)
 list_tells s params (route_no.List ask_no.Memory) is = absurd is
-list_tells s params route_no.ForeignSite is = absurd is
-list_tells s params route_no.NoPath is = absurd is
-list_tells s params route_no.NoMethod is = absurd is
-list_tells s params (route_no.Selector why) is = absurd is
-list_tells s params (route_no.Watch why) is = absurd is
-list_tells s params (route_no.Object why) is = absurd is
-list_tells s params route_no.Operation is = absurd is
-list_tells s params (route_no.Transaction why) is = absurd is
+list_tells s params (route_no.List why) is = inr (why, refl, is)
 list_tells s params route_no.Memory is = inl refl
+list_tells s params fault is = absurd is
 
 watch_tells : (params : QueryPairs) (fault : RouteNo) → RefusesWatch params fault → Tells fault (λ why. route_no.Watch why) (λ why. query_fault params ≡ Some why)
 watch_tells params (route_no.Watch why) is = inr (why, refl, is)
-watch_tells params (route_no.List why) is = absurd is
-watch_tells params route_no.ForeignSite is = absurd is
-watch_tells params route_no.NoPath is = absurd is
-watch_tells params route_no.NoMethod is = absurd is
-watch_tells params (route_no.Selector why) is = absurd is
-watch_tells params (route_no.Object why) is = absurd is
-watch_tells params route_no.Operation is = absurd is
-watch_tells params (route_no.Transaction why) is = absurd is
-watch_tells params route_no.Memory is = absurd is
+watch_tells params fault is = absurd is
 
 -- two texts have one first fault
 selector_faults_agree : (r : Resource) (ns : Option (List ℕ)) (params : QueryPairs) (x y : SelNo) → HasSelectorFault r ns params x → HasSelectorFault r ns params y → x ≡ y
-selector_faults_agree r ns params x y hx hy = same_Err x y (sym hx.1 ∙ hy.1)
+selector_faults_agree r ns params x y hx hy = err_once _ x y hx.1 hy.1
 
 -- a read: the selectors' reason, or that of the options of the selection
 abbrev pub ReadTells : Resource → Option (List ℕ) → QueryPairs → RouteNo → Type 0
@@ -121,95 +97,38 @@ ReadTells r ns params fault =
     ⊎ ((s : Selection) × IsSelection r ns params s × MatchBool (is_watch params) (RefusesWatch params fault) (RefusesList s params fault))
 
 read_tells : (r : Resource) (ns : Option (List ℕ)) (params : QueryPairs) (fault : RouteNo) → RefusesRead r ns params fault → ReadTells r ns params fault
-read_tells r ns params (route_no.Selector (select_no.Label why)) is = inl (inr (select_no.Label why, refl, is))
-read_tells r ns params (route_no.Selector (select_no.Field why)) is = inl (inr (select_no.Field why, refl, is))
 read_tells r ns params (route_no.Selector select_no.Memory) is = absurd is
-read_tells r ns params (route_no.List why) is = inr is
-read_tells r ns params (route_no.Watch why) is = inr is
-read_tells r ns params (route_no.Object why) is = inr is
-read_tells r ns params (route_no.Transaction why) is = inr is
-read_tells r ns params route_no.ForeignSite is = inr is
-read_tells r ns params route_no.NoPath is = inr is
-read_tells r ns params route_no.NoMethod is = inr is
-read_tells r ns params route_no.Operation is = inr is
+read_tells r ns params (route_no.Selector why) is = inl (inr (why, refl, is))
 read_tells r ns params route_no.Memory is = inl (inl refl)
+read_tells r ns params fault is = inr is
 
 body_tells : (r : Resource) (ns : List ℕ) (name : Option (List ℕ)) (body : List ℕ) (fault : RouteNo) → RefusesObject r ns name body fault
     → Tells fault (λ why. route_no.Object why) (HoldsNoObject r ns name body)
-body_tells r ns name body (route_no.Object object_no.NotJson) is = inr (object_no.NotJson, refl, is)
-body_tells r ns name body (route_no.Object object_no.Float) is = inr (object_no.Float, refl, is)
-body_tells r ns name body (route_no.Object object_no.TooDeep) is = inr (object_no.TooDeep, refl, is)
-body_tells r ns name body (route_no.Object object_no.WrongKind) is = inr (object_no.WrongKind, refl, is)
-body_tells r ns name body (route_no.Object object_no.BadMeta) is = inr (object_no.BadMeta, refl, is)
 body_tells r ns name body (route_no.Object object_no.Memory) is = absurd is
-body_tells r ns name body route_no.ForeignSite is = absurd is
-body_tells r ns name body route_no.NoPath is = absurd is
-body_tells r ns name body route_no.NoMethod is = absurd is
-body_tells r ns name body (route_no.Selector why) is = absurd is
-body_tells r ns name body (route_no.List why) is = absurd is
-body_tells r ns name body (route_no.Watch why) is = absurd is
-body_tells r ns name body route_no.Operation is = absurd is
-body_tells r ns name body (route_no.Transaction why) is = absurd is
+body_tells r ns name body (route_no.Object why) is = inr (why, refl, is)
 body_tells r ns name body route_no.Memory is = inl refl
+body_tells r ns name body fault is = absurd is
 
 get_tells : (params : QueryPairs) (fault : RouteNo) → RefusesGet params fault
     → Tells fault (λ why. route_no.List why) (λ why. of_get (parameter_number (given (codes "resourceVersion") params)) ≡ Err why)
-get_tells params (route_no.List ask_no.BadRevision) is = inr (ask_no.BadRevision, refl, is)
-get_tells params (route_no.List ask_no.BadMatch) is = inr (ask_no.BadMatch, refl, is)
-get_tells params (route_no.List ask_no.MatchNeedsRevision) is = inr (ask_no.MatchNeedsRevision, refl, is)
-get_tells params (route_no.List ask_no.ExactZero) is = inr (ask_no.ExactZero, refl, is)
-get_tells params (route_no.List ask_no.MatchWithContinue) is = inr (ask_no.MatchWithContinue, refl, is)
-get_tells params (route_no.List ask_no.RevisionWithContinue) is = inr (ask_no.RevisionWithContinue, refl, is)
-get_tells params (route_no.List ask_no.InitialEventsOnList) is = inr (ask_no.InitialEventsOnList, refl, is)
-get_tells params (route_no.List ask_no.BadLimit) is = inr (ask_no.BadLimit, refl, is)
-get_tells params (route_no.List (ask_no.BadContinue token)) is = inr (ask_no.BadContinue token, refl, is)
 get_tells params (route_no.List ask_no.Memory) is = absurd is
-get_tells params route_no.ForeignSite is = absurd is
-get_tells params route_no.NoPath is = absurd is
-get_tells params route_no.NoMethod is = absurd is
-get_tells params (route_no.Selector why) is = absurd is
-get_tells params (route_no.Watch why) is = absurd is
-get_tells params (route_no.Object why) is = absurd is
-get_tells params route_no.Operation is = absurd is
-get_tells params (route_no.Transaction why) is = absurd is
+get_tells params (route_no.List why) is = inr (why, refl, is)
 get_tells params route_no.Memory is = inl refl
+get_tells params fault is = absurd is
 
 compact_tells : (params : QueryPairs) (fault : RouteNo) → RefusesCompact params fault → (fault ≡ route_no.Operation) × ((at : ℕ) → compacts_at params ≡ Some (Ok at) → ⊥)
 compact_tells params route_no.Operation is = (refl, is)
-compact_tells params route_no.ForeignSite is = absurd is
-compact_tells params route_no.NoPath is = absurd is
-compact_tells params route_no.NoMethod is = absurd is
-compact_tells params (route_no.Selector why) is = absurd is
-compact_tells params (route_no.List why) is = absurd is
-compact_tells params (route_no.Watch why) is = absurd is
-compact_tells params (route_no.Object why) is = absurd is
-compact_tells params (route_no.Transaction why) is = absurd is
-compact_tells params route_no.Memory is = absurd is
+compact_tells params fault is = absurd is
 
 -- a text's reason, which isn't want of memory
 abbrev pub TextFault : List ℕ → TxTextNo → Type 0
 TextFault body why = RefusesText body why × (why ≡ text_no.Memory → ⊥)
 
 text_tells : (body : List ℕ) (fault : RouteNo) → RefusesTransact body fault → Tells fault (λ why. route_no.Transaction why) (TextFault body)
-text_tells body (route_no.Transaction text_no.NotJson) is = inr (text_no.NotJson, refl, (is, λ e. cc))
-text_tells body (route_no.Transaction text_no.Float) is = inr (text_no.Float, refl, (is, λ e. cc))
-text_tells body (route_no.Transaction text_no.TooDeep) is = inr (text_no.TooDeep, refl, (is, λ e. cc))
-text_tells body (route_no.Transaction text_no.NotList) is = inr (text_no.NotList, refl, (is, λ e. cc))
-text_tells body (route_no.Transaction text_no.Empty) is = inr (text_no.Empty, refl, (is, λ e. cc))
-text_tells body (route_no.Transaction text_no.TooManyItems) is = inr (text_no.TooManyItems, refl, (is, λ e. cc))
-text_tells body (route_no.Transaction (text_no.BadItem i)) is = inr (text_no.BadItem i, refl, (is, λ e. cc))
-text_tells body (route_no.Transaction (text_no.BadObject i why)) is = inr (text_no.BadObject i why, refl, (is, λ e. cc))
-text_tells body (route_no.Transaction (text_no.Repeated i)) is = inr (text_no.Repeated i, refl, (is, λ e. cc))
 text_tells body (route_no.Transaction text_no.Memory) is = absurd is
-text_tells body route_no.ForeignSite is = absurd is
-text_tells body route_no.NoPath is = absurd is
-text_tells body route_no.NoMethod is = absurd is
-text_tells body (route_no.Selector why) is = absurd is
-text_tells body (route_no.List why) is = absurd is
-text_tells body (route_no.Watch why) is = absurd is
-text_tells body (route_no.Object why) is = absurd is
-text_tells body route_no.Operation is = absurd is
+text_tells body (route_no.Transaction why) is = inr (why, refl, (is, λ e. cc))
 text_tells body route_no.Memory is = inl refl
+text_tells body fault is = absurd is
 
 -- ---- bodies
 
@@ -219,11 +138,7 @@ BodyFault r ns name body why = ((why ≡ object_no.NotJson) × ((d : Data) → I
 
 body_fault : (r : Resource) (ns : List ℕ) (name : Option (List ℕ)) (body : List ℕ) (why : ObjNo) → HoldsNoObject r ns name body why → BodyFault r ns name body why
 body_fault r ns name body object_no.NotJson is = inl (refl, is)
-body_fault r ns name body object_no.Float is = inr is
-body_fault r ns name body object_no.TooDeep is = inr is
-body_fault r ns name body object_no.WrongKind is = inr is
-body_fault r ns name body object_no.BadMeta is = inr is
-body_fault r ns name body object_no.Memory is = inr is
+body_fault r ns name body why is = inr is
 
 bodies_agree : (r : Resource) (ns : List ℕ) (name : Option (List ℕ)) (body : List ℕ) (x y : ObjNo) → HoldsNoObject r ns name body x → HoldsNoObject r ns name body y → x ≡ y
 bodies_agree r ns name body x y is also = by_faults (body_fault r ns name body x is) (body_fault r ns name body y also)
@@ -249,117 +164,39 @@ body_unrefused r ns name body d x is none refused = by_fault (body_fault r ns na
 
 pub list_asks : (s : Selection) (params : QueryPairs) (answer : Routed) → AsksList s params answer → (ask : ListAsk) × (answer ≡ routed.List ask) × (ask_of s params ≡ Ok ask)
 list_asks s params (routed.List ask) is = (ask, refl, is)
-list_asks s params (routed.Write ask) is = absurd is
-list_asks s params (routed.Get ask) is = absurd is
-list_asks s params (routed.Watch ask) is = absurd is
-list_asks s params (routed.Operate ask) is = absurd is
-list_asks s params (routed.Transact ask) is = absurd is
-list_asks s params (routed.Describe text) is = absurd is
-list_asks s params routed.Metrics is = absurd is
+list_asks s params answer is = absurd is
 
 pub watch_asks : (s : Selection) (params : QueryPairs) (answer : Routed) → AsksWatch s params answer → (ask : WatchAsk) × (answer ≡ routed.Watch ask) × MeansWatch s params ask
 watch_asks s params (routed.Watch ask) is = (ask, refl, is)
-watch_asks s params (routed.List ask) is = absurd is
-watch_asks s params (routed.Write ask) is = absurd is
-watch_asks s params (routed.Get ask) is = absurd is
-watch_asks s params (routed.Operate ask) is = absurd is
-watch_asks s params (routed.Transact ask) is = absurd is
-watch_asks s params (routed.Describe text) is = absurd is
-watch_asks s params routed.Metrics is = absurd is
+watch_asks s params answer is = absurd is
 
 pub get_asks : (r : Resource) (ns name : List ℕ) (params : QueryPairs) (answer : Routed) → AsksGet r ns name params answer
     → (ask : GetAsk) × (answer ≡ routed.Get ask) × (ask.resource ≡ r) × (ask.key ≡ joined ns name) × (of_get (parameter_number (given (codes "resourceVersion") params)) ≡ Ok ask.meaning)
 get_asks r ns name params (routed.Get ask) is = (ask, refl, is.0, is.1, is.2)
-get_asks r ns name params (routed.Watch ask) is = absurd is
-get_asks r ns name params (routed.List ask) is = absurd is
-get_asks r ns name params (routed.Write ask) is = absurd is
-get_asks r ns name params (routed.Operate ask) is = absurd is
-get_asks r ns name params (routed.Transact ask) is = absurd is
-get_asks r ns name params (routed.Describe text) is = absurd is
-get_asks r ns name params routed.Metrics is = absurd is
+get_asks r ns name params answer is = absurd is
 
--- a body that is stored: one text, that isn't refused
-abbrev pub IsStored : Resource → List ℕ → Option (List ℕ) → List ℕ → Type 0
-IsStored r ns name body = (d : Data) × IsTextOf body d × (refusal r ns name d ≡ None)
+pub create_asks : (r : Resource) (ns body : List ℕ) (answer : Routed) → AsksCreate r ns body answer
+    → (o : Obj) × (d : Data) × (answer ≡ routed.Write (write.Create r o)) × IsTextOf body d × (refusal r ns None d ≡ None) × IsObjectOf r ns d o
+create_asks r ns body (routed.Write (write.Create resource obj)) is =
+    (obj, is.1, ap (λ v. routed.Write (write.Create v obj)) is.0, is.2, is.3, is.4)
+create_asks r ns body answer is = absurd is
 
-create_asks : (r : Resource) (ns body : List ℕ) (answer : Routed) → AsksCreate r ns body answer → IsStored r ns None body
-create_asks r ns body (routed.Write (write.Create resource obj)) is = (is.1, is.2, is.3)
-create_asks r ns body (routed.Write (write.Replace resource obj given_rev)) is = absurd is
-create_asks r ns body (routed.Write (write.Remove resource key)) is = absurd is
-create_asks r ns body (routed.Get ask) is = absurd is
-create_asks r ns body (routed.Watch ask) is = absurd is
-create_asks r ns body (routed.List ask) is = absurd is
-create_asks r ns body (routed.Operate ask) is = absurd is
-create_asks r ns body (routed.Transact ask) is = absurd is
-create_asks r ns body (routed.Describe text) is = absurd is
-create_asks r ns body routed.Metrics is = absurd is
-
-replace_asks : (r : Resource) (ns name body : List ℕ) (answer : Routed) → AsksReplace r ns name body answer → IsStored r ns (Some name) body
-replace_asks r ns name body (routed.Write (write.Replace resource obj given_rev)) is = (is.1, is.2, is.3)
-replace_asks r ns name body (routed.Write (write.Create resource obj)) is = absurd is
-replace_asks r ns name body (routed.Write (write.Remove resource key)) is = absurd is
-replace_asks r ns name body (routed.Get ask) is = absurd is
-replace_asks r ns name body (routed.Watch ask) is = absurd is
-replace_asks r ns name body (routed.List ask) is = absurd is
-replace_asks r ns name body (routed.Operate ask) is = absurd is
-replace_asks r ns name body (routed.Transact ask) is = absurd is
-replace_asks r ns name body (routed.Describe text) is = absurd is
-replace_asks r ns name body routed.Metrics is = absurd is
+pub replace_asks : (r : Resource) (ns name body : List ℕ) (answer : Routed) → AsksReplace r ns name body answer
+    → (o : Obj) × (n : Option ℕ) × (d : Data) × (answer ≡ routed.Write (write.Replace r o n))
+    × IsTextOf body d × (refusal r ns (Some name) d ≡ None) × Stores r ns d (o, n)
+replace_asks r ns name body (routed.Write (write.Replace resource obj n)) is =
+    (obj, n, is.1, ap (λ v. routed.Write (write.Replace v obj n)) is.0, is.2, is.3, is.4)
+replace_asks r ns name body answer is = absurd is
 
 pub compact_asks : (params : QueryPairs) (answer : Routed) → AsksCompact params answer → (at : ℕ) × (answer ≡ routed.Operate (operate.Compact at)) × (compacts_at params ≡ Some (Ok at))
 compact_asks params (routed.Operate (operate.Compact at)) is = (at, refl, is)
-compact_asks params (routed.Operate operate.Cut) is = absurd is
-compact_asks params (routed.Operate operate.Restart) is = absurd is
-compact_asks params (routed.Write ask) is = absurd is
-compact_asks params (routed.Get ask) is = absurd is
-compact_asks params (routed.Watch ask) is = absurd is
-compact_asks params (routed.List ask) is = absurd is
-compact_asks params (routed.Transact ask) is = absurd is
-compact_asks params (routed.Describe text) is = absurd is
-compact_asks params routed.Metrics is = absurd is
+compact_asks params answer is = absurd is
 
 pub text_asks : (body : List ℕ) (answer : Routed) → AsksTransact body answer → (asks : List WriteAsk) × (answer ≡ routed.Transact asks) × AsksTransaction body asks
 text_asks body (routed.Transact asks) is = (asks, refl, is)
-text_asks body (routed.Operate ask) is = absurd is
-text_asks body (routed.Describe text) is = absurd is
-text_asks body routed.Metrics is = absurd is
-text_asks body (routed.Write ask) is = absurd is
-text_asks body (routed.Get ask) is = absurd is
-text_asks body (routed.Watch ask) is = absurd is
-text_asks body (routed.List ask) is = absurd is
+text_asks body answer is = absurd is
 
--- ---- what an action refuses isn't refused for its path, its method or its site
-
-abbrev pub Placed : RouteNo → Type 0
-Placed route_no.ForeignSite = ⊥
-Placed route_no.NoPath = ⊥
-Placed route_no.NoMethod = ⊥
-Placed fault = Unit {0}
-
-tells_placed : {Why : Type 0} (fault : RouteNo) (wrap : Why → RouteNo) (Holds : Why → Type 0) → ((why : Why) → Placed (wrap why)) → Tells fault wrap Holds → Placed fault
-tells_placed fault wrap Holds each (inl e) = subst Placed (sym e) tt
-tells_placed fault wrap Holds each (inr x) = subst Placed (sym x.1) (each x.0)
-
-kind_placed : (kind : Bool) (s : Selection) (params : QueryPairs) (fault : RouteNo) → MatchBool kind (RefusesWatch params fault) (RefusesList s params fault) → Placed fault
-kind_placed true s params fault is = tells_placed fault (λ why. route_no.Watch why) _ (λ why. tt) (watch_tells params fault is)
-kind_placed false s params fault is = tells_placed fault (λ why. route_no.List why) _ (λ why. tt) (list_tells s params fault is)
-
-read_placed : (r : Resource) (ns : Option (List ℕ)) (params : QueryPairs) (fault : RouteNo) → ReadTells r ns params fault → Placed fault
-read_placed r ns params fault (inl tells) = tells_placed fault (λ why. route_no.Selector why) _ (λ why. tt) tells
-read_placed r ns params fault (inr x) = kind_placed (is_watch params) x.0 params fault x.2
-
-acts_placed : (action : Action) (req : Req) (fault : RouteNo) → Refuses action req fault → Placed fault
-acts_placed (Describe text) req fault is = absurd is
-acts_placed Measure req fault is = absurd is
-acts_placed (Read r ns) req fault is = read_placed r ns req.params fault (read_tells r ns req.params fault is)
-acts_placed (Create r ns) req fault is = tells_placed fault (λ why. route_no.Object why) _ (λ why. tt) (body_tells r ns None req.body fault is)
-acts_placed (Get r ns name) req fault is = tells_placed fault (λ why. route_no.List why) _ (λ why. tt) (get_tells req.params fault is)
-acts_placed (Replace r ns name) req fault is = tells_placed fault (λ why. route_no.Object why) _ (λ why. tt) (body_tells r ns (Some name) req.body fault is)
-acts_placed (Remove r ns name) req fault is = subst Placed (sym is) tt
-acts_placed Cut req fault is = absurd is
-acts_placed Compact req fault is = subst Placed (sym (compact_tells req.params fault is).0) tt
-acts_placed Restart req fault is = absurd is
-acts_placed Transact req fault is = tells_placed fault (λ why. route_no.Transaction why) _ (λ why. tt) (text_tells req.body fault is)
+-- ---- what an action refuses, at the path that names it
 
 -- at a place whose requests take no memory, none is refused for want of it
 same_refuses : (req : Req) (own action : Action) (b : Bool) → cond b (Some own) None ≡ Some action → Refuses action req route_no.Memory → Refuses own req route_no.Memory
@@ -370,29 +207,21 @@ same_refuses req own action b e refused =
 memory_taken : (req : Req) (place : Place) (action : Action) → action_at place req.method ≡ Some action → Refuses action req route_no.Memory → takes_memory place ≡ true
 memory_taken req (Described text) action e refused = absurd (same_refuses req (Describe text) action (bytes_eq req.method (codes "GET")) e refused)
 memory_taken req OfMetrics action e refused = absurd (same_refuses req Measure action (bytes_eq req.method (codes "GET")) e refused)
-memory_taken req (Everywhere r) action e refused = refl
-memory_taken req (Namespaced r ns) action e refused = refl
-memory_taken req (Named r ns name) action e refused = refl
 memory_taken req OfCut action e refused = absurd (same_refuses req Cut action (bytes_eq req.method (codes "POST")) e refused)
 memory_taken req OfCompact action e refused = absurd (same_refuses req Compact action (bytes_eq req.method (codes "POST")) e refused)
 memory_taken req OfRestart action e refused = absurd (same_refuses req Restart action (bytes_eq req.method (codes "POST")) e refused)
-memory_taken req OfTransaction action e refused = refl
+memory_taken req place action e refused = refl
 
 -- what an action refuses is refused at the path that names it
 pub refused_at_path : (req : Req) (place : Place) (action : Action) (fault : RouteNo) → Names req.path place → action_at place req.method ≡ Some action → Refuses action req fault → RefusesAtPath req fault
-refused_at_path req place action fault names at refused = by_fault fault (acts_placed action req fault refused) refused
+refused_at_path req place action fault names at refused = by_fault fault (act_plain action req fault refused).1 refused
   where
     by_fault : (fault : RouteNo) → Placed fault → Refuses action req fault → RefusesAtPath req fault
     by_fault route_no.ForeignSite placed is = absurd placed
     by_fault route_no.NoPath placed is = absurd placed
     by_fault route_no.NoMethod placed is = absurd placed
-    by_fault (route_no.Selector why) placed is = (place, action, names, at, is)
-    by_fault (route_no.List why) placed is = (place, action, names, at, is)
-    by_fault (route_no.Watch why) placed is = (place, action, names, at, is)
-    by_fault (route_no.Object why) placed is = (place, action, names, at, is)
-    by_fault route_no.Operation placed is = (place, action, names, at, is)
-    by_fault (route_no.Transaction why) placed is = (place, action, names, at, is)
     by_fault route_no.Memory placed is = (place, names, memory_taken req place action at is)
+    by_fault fault placed is = (place, action, names, at, is)
 
 -- ---- an answer beside a refusal
 
@@ -414,37 +243,33 @@ read_excludes r ns params answer fault asked (inr refused) = by_kind (is_watch p
         told_memory (λ why. route_no.List why) (ListFault asked.0 params) fault (λ why bad. not_both (ask_of asked.0 params) ask.0 why ask.2 bad)
         (list_tells asked.0 params fault (subst (λ s. RefusesList s params fault) same refuses))
 
-body_excludes : (r : Resource) (ns : List ℕ) (name : Option (List ℕ)) (body : List ℕ) (fault : RouteNo) → IsStored r ns name body → RefusesObject r ns name body fault → fault ≡ route_no.Memory
-body_excludes r ns name body fault stored refused =
-    told_memory (λ why. route_no.Object why) (HoldsNoObject r ns name body) fault (λ why bad. body_unrefused r ns name body stored.0 why stored.1 stored.2 bad) (body_tells r ns name body fault refused)
-
-get_excludes : (r : Resource) (ns name : List ℕ) (params : QueryPairs) (answer : Routed) (fault : RouteNo) → AsksGet r ns name params answer → RefusesGet params fault → fault ≡ route_no.Memory
-get_excludes r ns name params answer fault asked refused =
-    let ask = get_asks r ns name params answer asked in
-    told_memory (λ why. route_no.List why) _ fault (λ why bad. not_both (of_get (parameter_number (given (codes "resourceVersion") params))) (ask.0).meaning why ask.4 bad) (get_tells params fault refused)
-
-compact_excludes : (params : QueryPairs) (answer : Routed) (fault : RouteNo) → AsksCompact params answer → RefusesCompact params fault → fault ≡ route_no.Memory
-compact_excludes params answer fault asked refused =
-    let ask = compact_asks params answer asked in
-    absurd ((compact_tells params fault refused).1 ask.0 ask.2)
-
-text_excludes : (body : List ℕ) (answer : Routed) (fault : RouteNo) → AsksTransact body answer → RefusesTransact body fault → fault ≡ route_no.Memory
-text_excludes body answer fault asked refused =
-    let ask = text_asks body answer asked in
-    told_memory (λ why. route_no.Transaction why) (TextFault body) fault (λ why bad. text_unrefused body ask.0 why ask.2 bad.0 bad.1) (text_tells body fault refused)
+body_excludes : (r : Resource) (ns : List ℕ) (name : Option (List ℕ)) (body : List ℕ) (fault : RouteNo) (d : Data)
+    → IsTextOf body d → refusal r ns name d ≡ None → RefusesObject r ns name body fault → fault ≡ route_no.Memory
+body_excludes r ns name body fault d is plain refused =
+    told_memory (λ why. route_no.Object why) (HoldsNoObject r ns name body) fault (λ why bad. body_unrefused r ns name body d why is plain bad)
+    (body_tells r ns name body fault refused)
 
 acts_exclude : (action : Action) (req : Req) (answer : Routed) (fault : RouteNo) → Asks action req answer → Refuses action req fault → fault ≡ route_no.Memory
-acts_exclude (Describe text) req answer fault asked refused = absurd refused
-acts_exclude Measure req answer fault asked refused = absurd refused
 acts_exclude (Read r ns) req answer fault asked refused = read_excludes r ns req.params answer fault asked (read_tells r ns req.params fault refused)
-acts_exclude (Create r ns) req answer fault asked refused = body_excludes r ns None req.body fault (create_asks r ns req.body answer asked) refused
-acts_exclude (Get r ns name) req answer fault asked refused = get_excludes r ns name req.params answer fault asked refused
-acts_exclude (Replace r ns name) req answer fault asked refused = body_excludes r ns (Some name) req.body fault (replace_asks r ns name req.body answer asked) refused
+acts_exclude (Create r ns) req answer fault asked refused =
+    let x = create_asks r ns req.body answer asked in
+    body_excludes r ns None req.body fault x.1 x.3 x.4 refused
+acts_exclude (Get r ns name) req answer fault asked refused =
+    let ask = get_asks r ns name req.params answer asked in
+    let meaning = of_get (parameter_number (given (codes "resourceVersion") req.params)) in
+    told_memory (λ why. route_no.List why) _ fault (λ why bad. not_both meaning (ask.0).meaning why ask.4 bad) (get_tells req.params fault refused)
+acts_exclude (Replace r ns name) req answer fault asked refused =
+    let x = replace_asks r ns name req.body answer asked in
+    body_excludes r ns (Some name) req.body fault x.2 x.4 x.5 refused
 acts_exclude (Remove r ns name) req answer fault asked refused = refused
-acts_exclude Cut req answer fault asked refused = absurd refused
-acts_exclude Compact req answer fault asked refused = compact_excludes req.params answer fault asked refused
-acts_exclude Restart req answer fault asked refused = absurd refused
-acts_exclude Transact req answer fault asked refused = text_excludes req.body answer fault asked refused
+acts_exclude Compact req answer fault asked refused =
+    let ask = compact_asks req.params answer asked in
+    absurd ((compact_tells req.params fault refused).1 ask.0 ask.2)
+acts_exclude Transact req answer fault asked refused =
+    let ask = text_asks req.body answer asked in
+    told_memory (λ why. route_no.Transaction why) (TextFault req.body) fault
+    (λ why bad. text_unrefused req.body ask.0 why ask.2 bad.0 bad.1) (text_tells req.body fault refused)
+acts_exclude action req answer fault asked refused = absurd refused
 
 -- ---- two refusals
 
@@ -472,19 +297,16 @@ body_agrees r ns name body a b ha hb na nb =
     told_once (λ why. route_no.Object why) (HoldsNoObject r ns name body) a b (bodies_agree r ns name body) (body_tells r ns name body a ha) (body_tells r ns name body b hb) na nb
 
 acts_agree : (action : Action) (req : Req) (a b : RouteNo) → Refuses action req a → Refuses action req b → a ≢ route_no.Memory → b ≢ route_no.Memory → a ≡ b
-acts_agree (Describe text) req a b ha hb na nb = absurd ha
-acts_agree Measure req a b ha hb na nb = absurd ha
 acts_agree (Read r ns) req a b ha hb na nb = read_agrees r ns req.params a b (read_tells r ns req.params a ha) (read_tells r ns req.params b hb) na nb
 acts_agree (Create r ns) req a b ha hb na nb = body_agrees r ns None req.body a b ha hb na nb
 acts_agree (Get r ns name) req a b ha hb na nb =
     told_once (λ why. route_no.List why) _ a b (λ x y hx hy. err_once (of_get (parameter_number (given (codes "resourceVersion") req.params))) x y hx hy) (get_tells req.params a ha) (get_tells req.params b hb) na nb
 acts_agree (Replace r ns name) req a b ha hb na nb = body_agrees r ns (Some name) req.body a b ha hb na nb
 acts_agree (Remove r ns name) req a b ha hb na nb = ha ∙ sym hb
-acts_agree Cut req a b ha hb na nb = absurd ha
 acts_agree Compact req a b ha hb na nb = (compact_tells req.params a ha).0 ∙ sym (compact_tells req.params b hb).0
-acts_agree Restart req a b ha hb na nb = absurd ha
 acts_agree Transact req a b ha hb na nb =
     told_once (λ why. route_no.Transaction why) (TextFault req.body) a b (λ x y hx hy. texts_agree req.body x y hx.0 hy.0 hx.1 hy.1) (text_tells req.body a ha) (text_tells req.body b hb) na nb
+acts_agree action req a b ha hb na nb = absurd ha
 
 -- ---- the whole
 
@@ -493,6 +315,10 @@ abbrev pub PlaceTells : Req → RouteNo → Type 0
 PlaceTells req fault =
     ((fault ≡ route_no.NoMethod) × (place : Place) × Names req.path place × (action_at place req.method ≡ None))
     ⊎ ((place : Place) × (action : Action) × Names req.path place × (action_at place req.method ≡ Some action) × Refuses action req fault)
+
+place_told : (req : Req) (fault : RouteNo) → PlaceTells req fault → (place : Place) × Names req.path place
+place_told req fault (inl x) = (x.1, x.2)
+place_told req fault (inr x) = (x.0, x.2)
 
 -- a refusal: no place, want of memory, or that
 abbrev pub Refusal : Req → RouteNo → Type 0
@@ -503,12 +329,7 @@ refusal_is req route_no.ForeignSite is = absurd is
 refusal_is req route_no.NoPath is = inl (refl, is)
 refusal_is req route_no.Memory is = inr (inl refl)
 refusal_is req route_no.NoMethod is = inr (inr (inl (refl, is.0, is.1, is.2)))
-refusal_is req (route_no.Selector why) is = inr (inr (inr is))
-refusal_is req (route_no.List why) is = inr (inr (inr is))
-refusal_is req (route_no.Watch why) is = inr (inr (inr is))
-refusal_is req (route_no.Object why) is = inr (inr (inr is))
-refusal_is req route_no.Operation is = inr (inr (inr is))
-refusal_is req (route_no.Transaction why) is = inr (inr (inr is))
+refusal_is req fault is = inr (inr (inr is))
 
 pub same_action : (req : Req) (p q : Place) (a b : Option Action) → Names req.path p → Names req.path q → action_at p req.method ≡ a → action_at q req.method ≡ b → a ≡ b
 same_action req p q a b np nq ea eb = sym ea ∙ ap (λ place. action_at place req.method) (one_place req.path p q np nq) ∙ eb
@@ -516,20 +337,7 @@ same_action req p q a b np nq ea eb = sym ea ∙ ap (λ place. action_at place r
 -- a refusal: of a browser's request for another site, or of what the path and the rest ask for
 sited : (req : Req) (fault : RouteNo) → IsRefusal req fault → ((fault ≡ route_no.ForeignSite) × (req.foreign ≡ true)) ⊎ ((req.foreign ≡ false) × RefusesAtPath req fault)
 sited req route_no.ForeignSite is = inl (refl, is)
-sited req route_no.NoPath is = inr is
-sited req route_no.NoMethod is = inr is
-sited req (route_no.Selector why) is = inr is
-sited req (route_no.List why) is = inr is
-sited req (route_no.Watch why) is = inr is
-sited req (route_no.Object why) is = inr is
-sited req route_no.Operation is = inr is
-sited req (route_no.Transaction why) is = inr is
-sited req route_no.Memory is = inr is
-
--- a request isn't both
-own_or_not : {P : Type 0} (b : Bool) → b ≡ true → b ≡ false → P
-own_or_not true foreign own = absurd (cc)
-own_or_not false foreign own = absurd (cc)
+sited req fault is = inr is
 
 asked_excludes : (req : Req) (answer : Routed) (fault : RouteNo) → AsksAtPath req answer → RefusesAtPath req fault → fault ≡ route_no.Memory
 asked_excludes req answer fault route refused = by_refusal (refusal_is req fault refused)
@@ -544,7 +352,7 @@ asked_excludes req answer fault route refused = by_refusal (refusal_is req fault
 
 pub routes_are_not_refused : RoutesAreNotRefused
 routes_are_not_refused req answer fault (own, route) refused = elim (sited req fault refused) [
-  | inl other ↦ own_or_not req.foreign other.1 own
+  | inl other ↦ absurd (both_ways req.foreign own other.1)
   | inr at ↦ asked_excludes req answer fault route at.1
 ]
 
@@ -559,20 +367,12 @@ asked_agree req a b ra rb na nb = by_refusals (refusal_is req a ra) (refusal_is 
         let same : y.1 ≡ x.1 = same_Some y.1 x.1 (same_action req y.0 x.0 (Some y.1) (Some x.1) y.2 x.2 y.3 x.3) in
         acts_agree x.1 req a b x.4 (subst (λ action. Refuses action req b) same y.4) na nb
 
-    named : PlaceTells req a → (place : Place) × Names req.path place
-    named (inl x) = (x.1, x.2)
-    named (inr x) = (x.0, x.2)
-
-    named_too : PlaceTells req b → (place : Place) × Names req.path place
-    named_too (inl x) = (x.1, x.2)
-    named_too (inr x) = (x.0, x.2)
-
     by_refusals : Refusal req a → Refusal req b → a ≡ b
     by_refusals (inl x) (inl y) = x.0 ∙ sym y.0
     by_refusals (inr (inl e)) tb = absurd (na e)
     by_refusals ta (inr (inl e)) = absurd (nb e)
-    by_refusals (inl x) (inr (inr y)) = let n = named_too y in absurd (x.1 n.0 n.1)
-    by_refusals (inr (inr x)) (inl y) = let n = named x in absurd (y.1 n.0 n.1)
+    by_refusals (inl x) (inr (inr y)) = let n = place_told req b y in absurd (x.1 n.0 n.1)
+    by_refusals (inr (inr x)) (inl y) = let n = place_told req a x in absurd (y.1 n.0 n.1)
     by_refusals (inr (inr x)) (inr (inr y)) = places x y
 
 pub refusals_agree : RefusalsAgree
@@ -581,6 +381,6 @@ refusals_agree req a b ra rb na nb = both (sited req a ra) (sited req b rb)
     both : ((a ≡ route_no.ForeignSite) × (req.foreign ≡ true)) ⊎ ((req.foreign ≡ false) × RefusesAtPath req a)
         → ((b ≡ route_no.ForeignSite) × (req.foreign ≡ true)) ⊎ ((req.foreign ≡ false) × RefusesAtPath req b) → a ≡ b
     both (inl x) (inl y) = x.0 ∙ sym y.0
-    both (inl x) (inr y) = own_or_not req.foreign x.1 y.0
-    both (inr x) (inl y) = own_or_not req.foreign y.1 x.0
+    both (inl x) (inr y) = absurd (both_ways req.foreign y.0 x.1)
+    both (inr x) (inl y) = absurd (both_ways req.foreign x.0 y.1)
     both (inr x) (inr y) = asked_agree req a b x.1 y.1 na nb

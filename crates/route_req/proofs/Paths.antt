@@ -10,7 +10,7 @@ use Rattle.kube_meta.specs.declared.resources.Resource.{Resource}
 use Rattle.route_req.specs.Places.{base_by, base_of, place_path, document_path, Names, NamesMaybe, PathsNameOnePlace, takes_memory, MayLackMemory}
 use Rattle.route_req.specs.Lookup.{behind, namespaced, named, own_word, own_place, metrics_place, place_behind, core_place, group_place, api_place, before_slash, document_at, place_found}
 use Rattle.discovery.specs.declared.documents.Document.{Document}
-use Rattle.route_req.proofs.DocumentPaths.{if_found, first_found, same_text, text_found, slashed, text_at_path, text_at_slash, no_text_everywhere, no_text_namespaced, no_text_named}
+use Rattle.route_req.proofs.DocumentPaths.{if_found, same_text, row_found, text_found, slashed, text_at_path, text_at_slash, no_text_everywhere, no_text_namespaced, no_text_named}
 use Rattle.route_req.specs.declared.places.Place.{Place}
 use Rattle.route_req.specs.declared.places.Place.TheVariants.{Described, Everywhere, Namespaced, Named, OfMetrics, OfCut, OfCompact, OfRestart, OfTransaction}
 
@@ -43,30 +43,15 @@ behind_found word (first ∷ more) rest e =
 moved : (path path' : List (List ℕ)) (p place : Place) → path' ≡ path → p ≡ place → Names path p → Names path' place
 moved path path' p place e f n = subst (Names path') f (subst (λ q. Names q p) (sym e) n)
 
-own_line : (word own : List ℕ) (p place : Place) → bytes_eq word own ≡ true → p ≡ place → Names (codes "watchcache" ∷ own ∷ []) p → Names (codes "watchcache" ∷ word ∷ []) place
-own_line word own p place same e n =
-    moved (codes "watchcache" ∷ own ∷ []) (codes "watchcache" ∷ word ∷ []) p place (ap (λ w. codes "watchcache" ∷ w ∷ []) (same_text word own same)) e n
-
 own_word_found : (word : List ℕ) (place : Place) → own_word word ≡ Some place → Names (codes "watchcache" ∷ word ∷ []) place
 own_word_found word place e =
-    elim (first_found (bytes_eq word (codes "cut")) OfCut _ place e) [
-      | inl p ↦ own_line word (codes "cut") OfCut place p.0 p.1 (refl, tt)
-      | inr e1 ↦ elim (first_found (bytes_eq word (codes "compact")) OfCompact _ place e1) [
-        | inl p ↦ own_line word (codes "compact") OfCompact place p.0 p.1 (refl, tt)
-        | inr e2 ↦ elim (first_found (bytes_eq word (codes "restart")) OfRestart _ place e2) [
-          | inl p ↦ own_line word (codes "restart") OfRestart place p.0 p.1 (refl, tt)
-          | inr e3 ↦ elim (first_found (bytes_eq word (codes "transaction")) OfTransaction None place e3) [
-            | inl p ↦ own_line word (codes "transaction") OfTransaction place p.0 p.1 (refl, tt)
-            | inr e4 ↦ absurd (none-some place e4)
-          ]
-        ]
-      ]
-    ]
+    row_found (λ w p. Names (codes "watchcache" ∷ w ∷ []) p)
+    ((codes "cut", OfCut) ∷ (codes "compact", OfCompact) ∷ (codes "restart", OfRestart) ∷ (codes "transaction", OfTransaction) ∷ []) word place
+    ((refl, tt), ((refl, tt), ((refl, tt), ((refl, tt), tt)))) e
 
 own_found : (rest : List (List ℕ)) (place : Place) → own_place rest ≡ Some place → Names (codes "watchcache" ∷ rest) place
-own_found [] place e = absurd (none-some place e)
 own_found (word ∷ []) place e = own_word_found word place e
-own_found (word ∷ more ∷ rest) place e = absurd (none-some place e)
+own_found rest place e = absurd (none-some place e)
 
 -- ---- the path of metrics
 
@@ -122,12 +107,10 @@ named_found group version word ns plural name place e =
     ∙ ap (λ w. base_of p.0 ++ codes "namespaces" ∷ ns ∷ w ∷ name ∷ []) o.1) p.2 (refl, and_parts (is_namespace ns) (is_object_name name) good.1)
 
 found_behind : (group version : List ℕ) (rest : List (List ℕ)) (place : Place) → place_behind group version rest ≡ Some place → Names (base_by group version ++ rest) place
-found_behind group version [] place e = absurd (none-some place e)
 found_behind group version (plural ∷ []) place e = everywhere_found group version plural place e
-found_behind group version (word ∷ ns ∷ []) place e = absurd (none-some place e)
 found_behind group version (word ∷ ns ∷ plural ∷ []) place e = namespaced_found group version word ns plural place e
 found_behind group version (word ∷ ns ∷ plural ∷ name ∷ []) place e = named_found group version word ns plural name place e
-found_behind group version (word ∷ ns ∷ plural ∷ name ∷ more ∷ rest) place e = absurd (none-some place e)
+found_behind group version rest place e = absurd (none-some place e)
 
 -- ---- whole paths
 
@@ -140,10 +123,10 @@ core_found [] place e = absurd (none-some place e)
 core_found (version ∷ rest) place e = found_behind [] version rest place e
 
 group_found : (rest : List (List ℕ)) (place : Place) → group_place rest ≡ Some place → Names (codes "apis" ∷ rest) place
-group_found [] place e = absurd (none-some place e)
-group_found (group ∷ []) place e = absurd (none-some place e)
 group_found ([] ∷ version ∷ rest) place e = absurd (none-some place e)
-group_found ((first ∷ more) ∷ version ∷ rest) place e = found_behind (first ∷ more) version rest place (sym (with_name first more (place_behind (first ∷ more) version rest)) ∙ e)
+group_found ((first ∷ more) ∷ version ∷ rest) place e =
+    found_behind (first ∷ more) version rest place (sym (with_name first more (place_behind (first ∷ more) version rest)) ∙ e)
+group_found rest place e = absurd (none-some place e)
 
 api_named_by : (path : List (List ℕ)) (place : Place) → api_place path ≡ Some place → Names path place
 api_named_by path place e =
@@ -210,18 +193,12 @@ found_for path (Named r ns name) (e, h) =
     ∙ cond-true (is_namespace ns && is_object_name name) (Some (Named r ns name)) None (and_from (is_namespace ns) (is_object_name name) h.0 h.1))
 found_for path OfMetrics (inl e, h) = ap place_found e
 found_for path OfMetrics (inr e, h) = ap place_found e
-found_for path OfCut (e, h) = ap place_found e
-found_for path OfCompact (e, h) = ap place_found e
-found_for path OfRestart (e, h) = ap place_found e
-found_for path OfTransaction (e, h) = ap place_found e
-
-looked_up : (path : List (List ℕ)) (found : Option Place) → place_found path ≡ found → NamesMaybe path found
-looked_up path None e = λ place n. none-some place (sym e ∙ found_for path place n)
-looked_up path (Some place) e = named_by path place e
+found_for path place (e, h) = ap place_found e
 
 -- what is looked up is what the path names
 pub NamesMaybe-found : (path : List (List ℕ)) (found : Option Place) → found ≡ place_found path → NamesMaybe path found
-NamesMaybe-found path found e = looked_up path found (sym e)
+NamesMaybe-found path None e = λ place n. none-some place (e ∙ found_for path place n)
+NamesMaybe-found path (Some place) e = named_by path place (sym e)
 
 pub one_place : PathsNameOnePlace
 one_place path a b n m = same_Some a b (sym (found_for path a n) ∙ found_for path b m)

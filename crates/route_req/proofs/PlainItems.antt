@@ -4,7 +4,7 @@ use Rattle.std.specs.Ordering.{nat_cmp, match_ordering}
 use Rattle.std.specs.Cmp.Lexicographic.{slice_cmp}
 use Rattle.std.proofs.lemmas.Bool.{or_parts, ltb-false, le-ltb}
 use Rattle.std.proofs.lemmas.Option.{none-some, same_Some}
-use Rattle.serde_json.specs.Data.{Data, null, boolean, number, string, array, object, Members, no_members, member, depth, items_depth, members_depth}
+use Rattle.serde_json.specs.Data.{Data, array, object, Members, no_members, member, depth, items_depth, members_depth}
 use Rattle.serde_json.specs.Find.{get, get_member, as_array, as_object}
 use Rattle.serde_json.specs.Written.{has_float, items_have_float, members_have_float}
 use Rattle.serde_json.specs.View.{items_of}
@@ -41,14 +41,10 @@ item_plain (x ∷ items) (suc i) d float deep at =
     item_plain items i d (or_parts (has_float x) (items_have_float (items_of items)) float).1 (omega (arith, deep)) at
 
 array_plain : (d : Data) (items : List Data) (i : ℕ) (found : Data) → IsPlain d → as_array d ≡ Some (items_of items) → slice_get items i ≡ Some found → IsPlain found
-array_plain null items i found plain is at = absurd (none-some (items_of items) is)
-array_plain (boolean b) items i found plain is at = absurd (none-some (items_of items) is)
-array_plain (number n) items i found plain is at = absurd (none-some (items_of items) is)
-array_plain (string s) items i found plain is at = absurd (none-some (items_of items) is)
-array_plain (object ms) items i found plain is at = absurd (none-some (items_of items) is)
 array_plain (array ds) items i found plain is at =
     let same : ds ≡ items_of items = same_Some ds (items_of items) is in
     item_plain items i found (ap items_have_float (sym same) ∙ plain.0) (omega (arith, plain.1, ap items_depth same)) at
+array_plain d items i found plain is at = absurd (none-some (items_of items) is)
 
 -- ---- members
 
@@ -65,12 +61,8 @@ member_plain name (member k x ms) d float deep at =
     (λ e. member_plain name ms d parts.1 (omega (arith, deep)) e) at
 
 get_plain : (name : List ℕ) (d found : Data) → IsPlain d → get name d ≡ Some found → IsPlain found
-get_plain name null found plain at = absurd (none-some found at)
-get_plain name (boolean b) found plain at = absurd (none-some found at)
-get_plain name (number n) found plain at = absurd (none-some found at)
-get_plain name (string s) found plain at = absurd (none-some found at)
-get_plain name (array ds) found plain at = absurd (none-some found at)
 get_plain name (object ms) found plain at = member_plain name ms found plain.0 (omega (arith, plain.1)) at
+get_plain name d found plain at = absurd (none-some found at)
 
 -- the value that is an object is the one that was looked at
 checked_is : (d found : Data) → checked_object d ≡ Some found → d ≡ found
@@ -89,6 +81,10 @@ object_plain d found plain at = by_member (get (codes "object") d) refl at
         let same = checked_is x found e in
         get_plain (codes "object") d found plain (is ∙ ap (λ (v : Data). Some v) same)
 
+pub array_objects_are_plain : (d : Data) (items : List Data) → value_refusal d ≡ None → as_array d ≡ Some (items_of items)
+    → (i : ℕ) (item inner : Data) → slice_get items i ≡ Some item → object_in item ≡ Some inner → value_refusal inner ≡ None
+array_objects_are_plain d items plain is i item inner at inside =
+    refused_none inner (object_plain item inner (array_plain d items i item (plain_of d plain) is at) inside)
+
 pub item_objects_are_plain : ItemObjectsArePlain
-item_objects_are_plain body items i d inner is at inside =
-    refused_none inner (object_plain d inner (array_plain is.0 items i d (plain_of is.0 is.1.1) is.2 at) inside)
+item_objects_are_plain body items i d inner is at inside = array_objects_are_plain is.0 items is.1.1 is.2 i d inner at inside

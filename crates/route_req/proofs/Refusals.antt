@@ -15,20 +15,9 @@ pub RefusesObject-told : (r : Resource) (ns : List ℕ) (name : Option (List ℕ
     → (fault ≢ object_no.NotJson → fault ≢ object_no.Memory → (d : Data) × IsTextOf body d × (refusal r ns name d ≡ Some fault))
     → RefusesObject r ns name body (refused_object fault)
 RefusesObject-told r ns name body object_no.NotJson not_json refused = not_json refl
-RefusesObject-told r ns name body object_no.Float not_json refused = refused (λ e. cc) (λ e. cc)
-RefusesObject-told r ns name body object_no.TooDeep not_json refused = refused (λ e. cc) (λ e. cc)
-RefusesObject-told r ns name body object_no.WrongKind not_json refused = refused (λ e. cc) (λ e. cc)
-RefusesObject-told r ns name body object_no.BadMeta not_json refused = refused (λ e. cc) (λ e. cc)
 RefusesObject-told r ns name body object_no.Memory not_json refused = tt
+RefusesObject-told r ns name body fault not_json refused = refused (λ e. cc) (λ e. cc)
 
 pub RefusesTransact-told : (body : List ℕ) (fault : TxTextNo) → RefusesText body fault → RefusesTransact body (refused_transaction fault)
-RefusesTransact-told body text_no.NotJson is = is
-RefusesTransact-told body text_no.Float is = is
-RefusesTransact-told body text_no.TooDeep is = is
-RefusesTransact-told body text_no.NotList is = is
-RefusesTransact-told body text_no.Empty is = is
-RefusesTransact-told body text_no.TooManyItems is = is
-RefusesTransact-told body (text_no.BadItem i) is = is
-RefusesTransact-told body (text_no.BadObject i why) is = is
-RefusesTransact-told body (text_no.Repeated i) is = is
 RefusesTransact-told body text_no.Memory is = tt
+RefusesTransact-told body fault is = is

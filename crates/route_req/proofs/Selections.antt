@@ -5,8 +5,8 @@ use Rattle.select_all.specs.declared.selection.Selection.{Selection}
 use Rattle.list_rules.specs.Options.{QueryPairs, parameter_text}
 use Rattle.route_req.specs.Asks.{IsSelection}
 use Rattle.route_req.specs.Outcomes.{SelectionsAgree}
-use Rattle.route_req.proofs.LabelTexts.{one_selector as one_label_selector}
-use Rattle.route_req.proofs.FieldTexts.{one_selector as one_field_selector}
+use Rattle.label_select.proofs.RequirementLaws.{one_selector as one_label_selector}
+use Rattle.field_select.proofs.Laws.{one_selector as one_field_selector}
 
 pub selections_agree : SelectionsAgree
 selections_agree r ns label field s t is also =

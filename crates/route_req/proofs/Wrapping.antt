@@ -1,5 +1,5 @@
 -- Want of memory is never a reason within another refusal.
-use Rattle.std.proofs.Common.{◌≡◌, ℕ, Bool, true, false, List, [], ◌∷◌, Option, Some, None, Result, Ok, Err, not, refl, sym, ap, ◌∙◌, if◌then◌else◌, codes, inl, inr}
+use Rattle.std.proofs.Common.{◌≡◌, ℕ, Bool, true, false, List, [], ◌∷◌, Option, Some, None, Result, Ok, Err, not, refl, sym, ap, subst, ◌∙◌, if◌then◌else◌, codes, inl, inr}
 use Rattle.std.specs.Bool.{MatchBool}
 use Rattle.std.specs.List.{list_all}
 use Rattle.std.proofs.lemmas.Bool.{and_parts, not-true}
@@ -33,9 +33,9 @@ use Rattle.list_rules.specs.Tokens.{token_read}
 use Rattle.json_obj.specs.declared.refusals.ObjNo.{ObjNo}
 use Rattle.json_obj.specs.declared.refusals.ObjNo.TheVariants as object_no
 use Rattle.route_req.specs.Texts as texts
-use Rattle.route_req.specs.Asks.{is_watch, of_selector, of_list, of_object, of_text, wraps_memory, RefusesList, RefusesWatch, RefusesRead, RefusesObject, RefusesGet, RefusesCompact, RefusesTransact, Refuses, IsRefusal}
+use Rattle.route_req.specs.Asks.{is_watch, of_selector, of_list, of_object, of_text, wraps_memory, RefusesList, RefusesWatch, RefusesRead, RefusesObject, RefusesGet, RefusesCompact, RefusesTransact, Refuses}
 use Rattle.route_req.specs.declared.places.Action.{Action}
-use Rattle.route_req.specs.declared.places.Action.TheVariants.{Describe, Measure, Read, Create, Get, Replace, Remove, Cut, Compact, Restart, Transact}
+use Rattle.route_req.specs.declared.places.Action.TheVariants.{Read, Create, Get, Replace, Remove, Compact, Transact}
 use Rattle.route_req.specs.declared.transactions.TxTextNo.TheVariants as text_no
 use Rattle.route_req.specs.declared.routing.RouteNo.{RouteNo}
 use Rattle.route_req.specs.declared.routing.RouteNo.TheVariants as route_no
@@ -46,15 +46,9 @@ use Rattle.route_req.specs.declared.routing.RouteNo.TheVariants as route_no
 selector_told : (resource : Resource) (ns : Option (List ℕ)) (labels : Result (List Requirement) LabelNo) (fields : Result (List Term) FieldNo) (why : SelNo)
     → both_read resource ns labels fields ≡ Err why → (why ≡ select_no.Memory → ⊥) → of_selector why ≡ false
 selector_told resource ns (Err label_no.Memory) fields why e other = absurd (other (cc))
-selector_told resource ns (Err (label_no.Syntax at)) fields why e other = let same : select_no.Label (label_no.Syntax at) ≡ why = cc in ap of_selector (sym same)
-selector_told resource ns (Err (label_no.BadKey at)) fields why e other = let same : select_no.Label (label_no.BadKey at) ≡ why = cc in ap of_selector (sym same)
-selector_told resource ns (Err (label_no.BadValue at)) fields why e other = let same : select_no.Label (label_no.BadValue at) ≡ why = cc in ap of_selector (sym same)
-selector_told resource ns (Err (label_no.EmptySet at)) fields why e other = let same : select_no.Label (label_no.EmptySet at) ≡ why = cc in ap of_selector (sym same)
-selector_told resource ns (Err label_no.TooLong) fields why e other = let same : select_no.Label label_no.TooLong ≡ why = cc in ap of_selector (sym same)
+selector_told resource ns (Err label) fields why e other = let same : select_no.Label label ≡ why = cc in ap of_selector (sym same)
 selector_told resource ns (Ok labels) (Err field_no.Memory) why e other = absurd (other (cc))
-selector_told resource ns (Ok labels) (Err (field_no.Syntax at)) why e other = let same : select_no.Field (field_no.Syntax at) ≡ why = cc in ap of_selector (sym same)
-selector_told resource ns (Ok labels) (Err field_no.TooLong) why e other = let same : select_no.Field field_no.TooLong ≡ why = cc in ap of_selector (sym same)
-selector_told resource ns (Ok labels) (Err (field_no.UnknownField at)) why e other = let same : select_no.Field (field_no.UnknownField at) ≡ why = cc in ap of_selector (sym same)
+selector_told resource ns (Ok labels) (Err field) why e other = let same : select_no.Field field ≡ why = cc in ap of_selector (sym same)
 selector_told resource ns (Ok labels) (Ok fields) why e other = absurd (cc)
 
 -- ---- options
@@ -75,8 +69,7 @@ token_told : (s : Selection) (o : Options) (label field : List ℕ) (read : Resu
     → later_page s o label field read ≡ Err why → (why ≡ ask_no.Memory → ⊥) → of_list why ≡ false
 token_told s o label field (Ok place) why e other = absurd (cc)
 token_told s o label field (Err token_no.Memory) why e other = absurd (other (cc))
-token_told s o label field (Err token_no.NotToken) why e other = let same : ask_no.BadContinue token_no.NotToken ≡ why = cc in ap of_list (sym same)
-token_told s o label field (Err token_no.OtherList) why e other = let same : ask_no.BadContinue token_no.OtherList ≡ why = cc in ap of_list (sym same)
+token_told s o label field (Err token) why e other = let same : ask_no.BadContinue token ≡ why = cc in ap of_list (sym same)
 
 page_told : (s : Selection) (o : Options) (label field : List ℕ) (token : Option (List ℕ)) (why : AskNo)
     → page_by s o label field token ≡ Err why → (why ≡ ask_no.Memory → ⊥) → of_list why ≡ false
@@ -97,9 +90,8 @@ list_told s params why e other =
     (λ paged. page_told s o (parameter_text (codes "labelSelector") params) (parameter_text (codes "fieldSelector") params) (given (codes "continue") params) why paged other)
 
 get_told : (n : Number) (why : AskNo) → of_get n ≡ Err why → of_list why ≡ false
-get_told number.Unset why e = absurd (cc)
 get_told number.Refused why e = let same : ask_no.BadRevision ≡ why = cc in ap of_list (sym same)
-get_told (number.Is r) why e = absurd (cc)
+get_told n why e = absurd (cc)
 
 -- ---- objects
 
@@ -109,12 +101,8 @@ members_told false true why e = ap of_object (sym (same_Some object_no.BadMeta w
 members_told false false why e = absurd (none-some why e)
 
 item_told : (i : ℕ) (why : ObjNo) → of_object why ≡ false → of_text (text_no.BadObject i why) ≡ false
-item_told i object_no.NotJson e = refl
-item_told i object_no.Float e = refl
-item_told i object_no.TooDeep e = refl
-item_told i object_no.WrongKind e = refl
-item_told i object_no.BadMeta e = refl
 item_told i object_no.Memory e = absurd (cc)
+item_told i why e = refl
 
 object_told : (d : Data) (why : ObjNo) → texts.RefusesItem d why → of_object why ≡ false
 object_told d why is = elim is [
@@ -124,157 +112,72 @@ object_told d why is = elim is [
 
 -- ---- what is asked for
 
-list_plain : (s : Selection) (params : QueryPairs) (fault : RouteNo) → RefusesList s params fault → wraps_memory fault ≡ false
-list_plain s params (route_no.List why) is = by_why why is
-  where
-    by_why : (why : AskNo) → RefusesList s params (route_no.List why) → of_list why ≡ false
-    by_why ask_no.BadRevision is = refl
-    by_why ask_no.BadMatch is = refl
-    by_why ask_no.MatchNeedsRevision is = refl
-    by_why ask_no.ExactZero is = refl
-    by_why ask_no.MatchWithContinue is = refl
-    by_why ask_no.RevisionWithContinue is = refl
-    by_why ask_no.InitialEventsOnList is = refl
-    by_why ask_no.BadLimit is = refl
-    by_why (ask_no.BadContinue token) is = list_told s params (ask_no.BadContinue token) is (λ e. cc)
-    by_why ask_no.Memory is = absurd is
-list_plain s params route_no.ForeignSite is = refl
-list_plain s params route_no.NoPath is = refl
-list_plain s params route_no.NoMethod is = refl
-list_plain s params (route_no.Selector why) is = absurd is
-list_plain s params (route_no.Watch why) is = refl
-list_plain s params (route_no.Object why) is = absurd is
-list_plain s params route_no.Operation is = refl
-list_plain s params (route_no.Transaction why) is = absurd is
-list_plain s params route_no.Memory is = refl
+abbrev pub Placed : RouteNo → Type 0
+Placed route_no.ForeignSite = ⊥
+Placed route_no.NoPath = ⊥
+Placed route_no.NoMethod = ⊥
+Placed fault = Unit {0}
 
-watch_plain : (params : QueryPairs) (fault : RouteNo) → RefusesWatch params fault → wraps_memory fault ≡ false
-watch_plain params (route_no.Watch why) is = refl
-watch_plain params route_no.ForeignSite is = refl
-watch_plain params route_no.NoPath is = refl
-watch_plain params route_no.NoMethod is = refl
-watch_plain params (route_no.Selector why) is = absurd is
-watch_plain params (route_no.List why) is = absurd is
-watch_plain params (route_no.Object why) is = absurd is
-watch_plain params route_no.Operation is = refl
-watch_plain params (route_no.Transaction why) is = absurd is
-watch_plain params route_no.Memory is = refl
+-- what an action refuses is no want of memory within, and isn't for its path, its method or its site
+abbrev pub IsPlain : RouteNo → Type 0
+IsPlain fault = (wraps_memory fault ≡ false) × Placed fault
 
-either_plain : (b : Bool) (s : Selection) (params : QueryPairs) (fault : RouteNo) → MatchBool b (RefusesWatch params fault) (RefusesList s params fault) → wraps_memory fault ≡ false
+list_plain : (s : Selection) (params : QueryPairs) (fault : RouteNo) → RefusesList s params fault → IsPlain fault
+list_plain s params (route_no.List (ask_no.BadContinue token)) is = (list_told s params (ask_no.BadContinue token) is (λ e. cc), tt)
+list_plain s params (route_no.List ask_no.Memory) is = absurd is
+list_plain s params (route_no.List why) is = (refl, tt)
+list_plain s params route_no.Memory is = (refl, tt)
+list_plain s params fault is = absurd is
+
+watch_plain : (params : QueryPairs) (fault : RouteNo) → RefusesWatch params fault → IsPlain fault
+watch_plain params (route_no.Watch why) is = (refl, tt)
+watch_plain params fault is = absurd is
+
+either_plain : (b : Bool) (s : Selection) (params : QueryPairs) (fault : RouteNo)
+    → MatchBool b (RefusesWatch params fault) (RefusesList s params fault) → IsPlain fault
 either_plain true s params fault is = watch_plain params fault is
 either_plain false s params fault is = list_plain s params fault is
 
-read_plain : (r : Resource) (ns : Option (List ℕ)) (params : QueryPairs) (fault : RouteNo) → RefusesRead r ns params fault → wraps_memory fault ≡ false
+read_plain : (r : Resource) (ns : Option (List ℕ)) (params : QueryPairs) (fault : RouteNo) → RefusesRead r ns params fault → IsPlain fault
 read_plain r ns params (route_no.Selector select_no.Memory) is = absurd is
-read_plain r ns params (route_no.Selector (select_no.Label why)) is =
-    selector_told r ns (label_selector_of (parameter_text (codes "labelSelector") params)) (field_selector_of r (parameter_text (codes "fieldSelector") params)) (select_no.Label why) is.1 (λ e. cc)
-read_plain r ns params (route_no.Selector (select_no.Field why)) is =
-    selector_told r ns (label_selector_of (parameter_text (codes "labelSelector") params)) (field_selector_of r (parameter_text (codes "fieldSelector") params)) (select_no.Field why) is.1 (λ e. cc)
-read_plain r ns params (route_no.List why) is = either_plain (is_watch params) is.0 params (route_no.List why) is.2
-read_plain r ns params (route_no.Watch why) is = refl
-read_plain r ns params (route_no.Object why) is = either_plain (is_watch params) is.0 params (route_no.Object why) is.2
-read_plain r ns params (route_no.Transaction why) is = either_plain (is_watch params) is.0 params (route_no.Transaction why) is.2
-read_plain r ns params route_no.ForeignSite is = refl
-read_plain r ns params route_no.NoPath is = refl
-read_plain r ns params route_no.NoMethod is = refl
-read_plain r ns params route_no.Operation is = refl
-read_plain r ns params route_no.Memory is = refl
+read_plain r ns params (route_no.Selector why) is =
+    let label = label_selector_of (parameter_text (codes "labelSelector") params) in
+    let field = field_selector_of r (parameter_text (codes "fieldSelector") params) in
+    (selector_told r ns label field why is.1 (λ e. cc), tt)
+read_plain r ns params route_no.Memory is = (refl, tt)
+read_plain r ns params fault is = either_plain (is_watch params) is.0 params fault is.2
 
-body_plain : (r : Resource) (ns : List ℕ) (name : Option (List ℕ)) (body : List ℕ) (fault : RouteNo) → RefusesObject r ns name body fault → wraps_memory fault ≡ false
-body_plain r ns name body (route_no.Object object_no.NotJson) is = refl
-body_plain r ns name body (route_no.Object object_no.Float) is = refl
-body_plain r ns name body (route_no.Object object_no.TooDeep) is = refl
-body_plain r ns name body (route_no.Object object_no.WrongKind) is = refl
-body_plain r ns name body (route_no.Object object_no.BadMeta) is = refl
+body_plain : (r : Resource) (ns : List ℕ) (name : Option (List ℕ)) (body : List ℕ) (fault : RouteNo) → RefusesObject r ns name body fault → IsPlain fault
 body_plain r ns name body (route_no.Object object_no.Memory) is = absurd is
-body_plain r ns name body route_no.ForeignSite is = refl
-body_plain r ns name body route_no.NoPath is = refl
-body_plain r ns name body route_no.NoMethod is = refl
-body_plain r ns name body (route_no.Selector why) is = absurd is
-body_plain r ns name body (route_no.List why) is = absurd is
-body_plain r ns name body (route_no.Watch why) is = refl
-body_plain r ns name body route_no.Operation is = refl
-body_plain r ns name body (route_no.Transaction why) is = absurd is
-body_plain r ns name body route_no.Memory is = refl
+body_plain r ns name body (route_no.Object why) is = (refl, tt)
+body_plain r ns name body route_no.Memory is = (refl, tt)
+body_plain r ns name body fault is = absurd is
 
-get_plain : (params : QueryPairs) (fault : RouteNo) → RefusesGet params fault → wraps_memory fault ≡ false
-get_plain params (route_no.List why) is = by_why why is
-  where
-    by_why : (why : AskNo) → RefusesGet params (route_no.List why) → of_list why ≡ false
-    by_why ask_no.BadRevision is = refl
-    by_why ask_no.BadMatch is = refl
-    by_why ask_no.MatchNeedsRevision is = refl
-    by_why ask_no.ExactZero is = refl
-    by_why ask_no.MatchWithContinue is = refl
-    by_why ask_no.RevisionWithContinue is = refl
-    by_why ask_no.InitialEventsOnList is = refl
-    by_why ask_no.BadLimit is = refl
-    by_why (ask_no.BadContinue token) is = get_told (parameter_number (given (codes "resourceVersion") params)) (ask_no.BadContinue token) is
-    by_why ask_no.Memory is = absurd is
-get_plain params route_no.ForeignSite is = refl
-get_plain params route_no.NoPath is = refl
-get_plain params route_no.NoMethod is = refl
-get_plain params (route_no.Selector why) is = absurd is
-get_plain params (route_no.Watch why) is = refl
-get_plain params (route_no.Object why) is = absurd is
-get_plain params route_no.Operation is = refl
-get_plain params (route_no.Transaction why) is = absurd is
-get_plain params route_no.Memory is = refl
+get_plain : (params : QueryPairs) (fault : RouteNo) → RefusesGet params fault → IsPlain fault
+get_plain params (route_no.List (ask_no.BadContinue token)) is =
+    (get_told (parameter_number (given (codes "resourceVersion") params)) (ask_no.BadContinue token) is, tt)
+get_plain params (route_no.List ask_no.Memory) is = absurd is
+get_plain params (route_no.List why) is = (refl, tt)
+get_plain params route_no.Memory is = (refl, tt)
+get_plain params fault is = absurd is
 
-text_plain : (body : List ℕ) (fault : RouteNo) → RefusesTransact body fault → wraps_memory fault ≡ false
-text_plain body (route_no.Transaction text_no.NotJson) is = refl
-text_plain body (route_no.Transaction text_no.Float) is = refl
-text_plain body (route_no.Transaction text_no.TooDeep) is = refl
-text_plain body (route_no.Transaction text_no.NotList) is = refl
-text_plain body (route_no.Transaction text_no.Empty) is = refl
-text_plain body (route_no.Transaction text_no.TooManyItems) is = refl
-text_plain body (route_no.Transaction (text_no.BadItem i)) is = refl
-text_plain body (route_no.Transaction (text_no.BadObject i why)) is = item_told i why (object_told is.1 why is.4)
-text_plain body (route_no.Transaction (text_no.Repeated i)) is = refl
+text_plain : (body : List ℕ) (fault : RouteNo) → RefusesTransact body fault → IsPlain fault
+text_plain body (route_no.Transaction (text_no.BadObject i why)) is = (item_told i why (object_told is.1 why is.4), tt)
 text_plain body (route_no.Transaction text_no.Memory) is = absurd is
-text_plain body route_no.ForeignSite is = refl
-text_plain body route_no.NoPath is = refl
-text_plain body route_no.NoMethod is = refl
-text_plain body (route_no.Selector why) is = absurd is
-text_plain body (route_no.List why) is = absurd is
-text_plain body (route_no.Watch why) is = refl
-text_plain body (route_no.Object why) is = absurd is
-text_plain body route_no.Operation is = refl
-text_plain body route_no.Memory is = refl
+text_plain body (route_no.Transaction why) is = (refl, tt)
+text_plain body route_no.Memory is = (refl, tt)
+text_plain body fault is = absurd is
 
-compact_plain : (params : QueryPairs) (fault : RouteNo) → RefusesCompact params fault → wraps_memory fault ≡ false
-compact_plain params route_no.Operation is = refl
-compact_plain params route_no.ForeignSite is = refl
-compact_plain params route_no.NoPath is = refl
-compact_plain params route_no.NoMethod is = refl
-compact_plain params (route_no.Selector why) is = absurd is
-compact_plain params (route_no.List why) is = absurd is
-compact_plain params (route_no.Watch why) is = refl
-compact_plain params (route_no.Object why) is = absurd is
-compact_plain params (route_no.Transaction why) is = absurd is
-compact_plain params route_no.Memory is = refl
+compact_plain : (params : QueryPairs) (fault : RouteNo) → RefusesCompact params fault → IsPlain fault
+compact_plain params route_no.Operation is = (refl, tt)
+compact_plain params fault is = absurd is
 
-pub act_plain : (action : Action) (req : Req) (fault : RouteNo) → Refuses action req fault → wraps_memory fault ≡ false
-act_plain (Describe text) req fault is = absurd is
-act_plain Measure req fault is = absurd is
+pub act_plain : (action : Action) (req : Req) (fault : RouteNo) → Refuses action req fault → IsPlain fault
 act_plain (Read r ns) req fault is = read_plain r ns req.params fault is
 act_plain (Create r ns) req fault is = body_plain r ns None req.body fault is
 act_plain (Get r ns name) req fault is = get_plain req.params fault is
 act_plain (Replace r ns name) req fault is = body_plain r ns (Some name) req.body fault is
-act_plain (Remove r ns name) req fault is = ap wraps_memory is
-act_plain Cut req fault is = absurd is
+act_plain (Remove r ns name) req fault is = subst IsPlain (sym is) (refl, tt)
 act_plain Compact req fault is = compact_plain req.params fault is
-act_plain Restart req fault is = absurd is
 act_plain Transact req fault is = text_plain req.body fault is
-
-pub refusals_are_plain : (req : Req) (fault : RouteNo) → IsRefusal req fault → wraps_memory fault ≡ false
-refusals_are_plain req route_no.ForeignSite is = refl
-refusals_are_plain req route_no.NoPath is = refl
-refusals_are_plain req route_no.NoMethod is = refl
-refusals_are_plain req route_no.Memory is = refl
-refusals_are_plain req route_no.Operation is = refl
-refusals_are_plain req (route_no.Watch why) is = refl
-refusals_are_plain req (route_no.Selector why) (own, is) = act_plain is.1 req (route_no.Selector why) is.4
-refusals_are_plain req (route_no.List why) (own, is) = act_plain is.1 req (route_no.List why) is.4
-refusals_are_plain req (route_no.Object why) (own, is) = act_plain is.1 req (route_no.Object why) is.4
-refusals_are_plain req (route_no.Transaction why) (own, is) = act_plain is.1 req (route_no.Transaction why) is.4
+act_plain action req fault is = absurd is

@@ -198,17 +198,14 @@ RefusesTransact body fault = ⊥
 -- why a request is refused although its path and its method say an action; what describes the server, metrics, a cut and a
 -- restart never are
 abbrev pub Refuses : Action → Req → RouteNo → Type 0
-Refuses (Describe text) req fault = ⊥
-Refuses Measure req fault = ⊥
 Refuses (Read r ns) req fault = RefusesRead r ns req.params fault
 Refuses (Create r ns) req fault = RefusesObject r ns None req.body fault
 Refuses (Get r ns name) req fault = RefusesGet req.params fault
 Refuses (Replace r ns name) req fault = RefusesObject r ns (Some name) req.body fault
 Refuses (Remove r ns name) req fault = fault ≡ route_no.Memory
-Refuses Cut req fault = ⊥
 Refuses Compact req fault = RefusesCompact req.params fault
-Refuses Restart req fault = ⊥
 Refuses Transact req fault = RefusesTransact req.body fault
+Refuses action req fault = ⊥
 
 -- ---- the path before the method, and both before all else
 

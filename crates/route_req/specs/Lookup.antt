@@ -25,12 +25,10 @@ named word ns resource name =
 
 -- the place of the segments behind what the paths of a group's version begin with
 abbrev pub place_behind : List ℕ → List ℕ → List (List ℕ) → Option Place
-place_behind group version [] = None
 place_behind group version (plural ∷ []) = option_map (λ r. Everywhere r) (of_group group version plural)
-place_behind group version (word ∷ ns ∷ []) = None
 place_behind group version (word ∷ ns ∷ plural ∷ []) = namespaced word ns (of_group group version plural)
 place_behind group version (word ∷ ns ∷ plural ∷ name ∷ []) = named word ns (of_group group version plural) name
-place_behind group version (word ∷ ns ∷ plural ∷ name ∷ more ∷ rest) = None
+place_behind group version path = None
 
 -- behind `api`
 abbrev pub core_place : List (List ℕ) → Option Place
@@ -39,9 +37,8 @@ core_place (version ∷ rest) = place_behind [] version rest
 
 -- behind `apis`, where a group has a name
 abbrev pub group_place : List (List ℕ) → Option Place
-group_place [] = None
-group_place (group ∷ []) = None
 group_place (group ∷ version ∷ rest) = if length group == 0 then None else place_behind group version rest
+group_place path = None
 
 abbrev pub own_word : List ℕ → Option Place
 own_word word =
@@ -52,15 +49,14 @@ own_word word =
 
 -- the place of the segments behind `watchcache`
 abbrev pub own_place : List (List ℕ) → Option Place
-own_place [] = None
 own_place (word ∷ []) = own_word word
-own_place (word ∷ more ∷ rest) = None
+own_place path = None
 
 -- the place of the segments behind `metrics`
 abbrev pub metrics_place : List (List ℕ) → Option Place
 metrics_place [] = Some OfMetrics
 metrics_place (last ∷ []) = if length last == 0 then Some OfMetrics else None
-metrics_place (last ∷ more ∷ rest) = None
+metrics_place path = None
 
 -- of the server's own paths first, then of the core group, then of the others
 abbrev pub api_place : List (List ℕ) → Option Place
@@ -107,12 +103,11 @@ namespace_document base version word ns =
 
 -- the text of a path that has no slash behind it
 abbrev pub document_at : List (List ℕ) → Option Document
-document_at [] = None
 document_at (word ∷ []) = document_word word
 document_at (base ∷ word ∷ []) = document_pair base word
 document_at (base ∷ group ∷ version ∷ []) = apps_document base group version
 document_at (base ∷ version ∷ word ∷ ns ∷ []) = namespace_document base version word ns
-document_at (base ∷ version ∷ word ∷ ns ∷ more ∷ rest) = None
+document_at path = None
 
 -- what describes the server first, then all else
 abbrev pub place_found : List (List ℕ) → Option Place

@@ -70,14 +70,9 @@ IsDocument text = Unit {0}
 -- the namespace and the name that a place has are in the grammars of such names
 abbrev pub IsPlace : Place → Type 0
 IsPlace (Described text) = IsDocument text
-IsPlace (Everywhere r) = Unit {0}
 IsPlace (Namespaced r ns) = IsNamespace ns
 IsPlace (Named r ns name) = IsNamespace ns × IsObjectName name
-IsPlace OfMetrics = Unit {0}
-IsPlace OfCut = Unit {0}
-IsPlace OfCompact = Unit {0}
-IsPlace OfRestart = Unit {0}
-IsPlace OfTransaction = Unit {0}
+IsPlace place = Unit {0}
 
 -- the path names the place
 abbrev pub Names : List (List ℕ) → Place → Type 0
@@ -94,14 +89,14 @@ PathsNameOnePlace = (path : List (List ℕ)) (a b : Place) → Names path a → 
 
 -- ---- the table of methods
 
--- the own paths have POST alone
-abbrev pub posted : Action → List ℕ → Option Action
-posted action method = if bytes_eq method (codes "POST") then Some action else None
+-- a place that has one method alone
+abbrev pub only : List ℕ → Action → List ℕ → Option Action
+only own action method = if bytes_eq method own then Some action else None
 
 -- what a method asks for at a place, if the place has it
 abbrev pub action_at : Place → List ℕ → Option Action
-action_at (Described text) method = if bytes_eq method (codes "GET") then Some (Describe text) else None
-action_at (Everywhere r) method = if bytes_eq method (codes "GET") then Some (Read r None) else None
+action_at (Described text) method = only (codes "GET") (Describe text) method
+action_at (Everywhere r) method = only (codes "GET") (Read r None) method
 action_at (Namespaced r ns) method =
     if bytes_eq method (codes "GET") then Some (Read r (Some ns)) else
     (if bytes_eq method (codes "POST") then Some (Create r ns) else None)
@@ -109,25 +104,20 @@ action_at (Named r ns name) method =
     if bytes_eq method (codes "GET") then Some (Get r ns name) else
     (if bytes_eq method (codes "PUT") then Some (Replace r ns name) else
     (if bytes_eq method (codes "DELETE") then Some (Remove r ns name) else None))
-action_at OfMetrics method = if bytes_eq method (codes "GET") then Some Measure else None
-action_at OfCut method = posted Cut method
-action_at OfCompact method = posted Compact method
-action_at OfRestart method = posted Restart method
-action_at OfTransaction method = posted Transact method
+action_at OfMetrics method = only (codes "GET") Measure method
+action_at OfCut method = only (codes "POST") Cut method
+action_at OfCompact method = only (codes "POST") Compact method
+action_at OfRestart method = only (codes "POST") Restart method
+action_at OfTransaction method = only (codes "POST") Transact method
 
 -- the namespace and the name of what is asked for are in the grammars
 abbrev pub IsAction : Action → Type 0
 IsAction (Describe text) = IsDocument text
-IsAction Measure = Unit {0}
-IsAction (Read r ns) = Unit {0}
 IsAction (Create r ns) = IsNamespace ns
 IsAction (Get r ns name) = IsNamespace ns × IsObjectName name
 IsAction (Replace r ns name) = IsNamespace ns × IsObjectName name
 IsAction (Remove r ns name) = IsNamespace ns × IsObjectName name
-IsAction Cut = Unit {0}
-IsAction Compact = Unit {0}
-IsAction Restart = Unit {0}
-IsAction Transact = Unit {0}
+IsAction action = Unit {0}
 
 -- ---- memory
 
@@ -142,11 +132,8 @@ takes_memory (Described text) = keeps_name text
 takes_memory (Everywhere r) = true
 takes_memory (Namespaced r ns) = true
 takes_memory (Named r ns name) = true
-takes_memory OfMetrics = false
-takes_memory OfCut = false
-takes_memory OfCompact = false
-takes_memory OfRestart = false
 takes_memory OfTransaction = true
+takes_memory place = false
 
 -- a request with this path may fail for want of memory: it names a place whose requests take some
 abbrev pub MayLackMemory : List (List ℕ) → Type 0

@@ -113,9 +113,8 @@ RefusesItem d why =
 -- each item asks for the write at its place
 abbrev pub AskAll : List Data → List WriteAsk → Type 0
 AskAll [] [] = Unit {0}
-AskAll [] (ask ∷ asks) = ⊥
-AskAll (d ∷ ds) [] = ⊥
 AskAll (d ∷ ds) (ask ∷ asks) = AsksItem d ask × AskAll ds asks
+AskAll ds asks = ⊥
 
 -- ---- the whole text
 

@@ -226,14 +226,14 @@ pub(crate) fn action_at(place: Place, method: &str) -> Option<Action>
 {
     match place {
         Place::Described(document) => described(document, method),
-        Place::Everywhere(resource) => at_all(resource, method),
+        Place::Everywhere(resource) => only("GET", Action::Read(resource, None), method),
         Place::Namespaced(resource, ns) => at_namespace(resource, ns, method),
         Place::Named(resource, ns, name) => at_object(resource, ns, name, method),
-        Place::OfMetrics => measured(method),
-        Place::OfCut => posted(Action::Cut, method),
-        Place::OfCompact => posted(Action::Compact, method),
-        Place::OfRestart => posted(Action::Restart, method),
-        Place::OfTransaction => posted(Action::Transact, method),
+        Place::OfMetrics => only("GET", Action::Measure, method),
+        Place::OfCut => only("POST", Action::Cut, method),
+        Place::OfCompact => only("POST", Action::Compact, method),
+        Place::OfRestart => only("POST", Action::Restart, method),
+        Place::OfTransaction => only("POST", Action::Transact, method),
     }
 }
 
@@ -244,26 +244,6 @@ fn described(document: Document, method: &str) -> Option<Action>
 {
     match method {
         "GET" => Some(Action::Describe(document)),
-        _ => None,
-    }
-}
-
-fn measured(method: &str) -> Option<Action>
-    ensures value { result ≡ places.action_at Place.OfMetrics method.now }
-    ensures form { IfSome result places.IsAction }
-{
-    match method {
-        "GET" => Some(Action::Measure),
-        _ => None,
-    }
-}
-
-fn at_all(resource: Resource, method: &str) -> Option<Action>
-    ensures value { result ≡ places.action_at (Place.Everywhere resource) method.now }
-    ensures form { IfSome result places.IsAction }
-{
-    match method {
-        "GET" => Some(Action::Read(resource, None)),
         _ => None,
     }
 }
@@ -294,14 +274,11 @@ fn at_object(resource: Resource, ns: Text, name: Text, method: &str) -> Option<A
     }
 }
 
-// The action, where the method is POST.
-fn posted(action: Action, method: &str) -> Option<Action>
+// The action, where the method is the one that the place has.
+fn only(own: &str, action: Action, method: &str) -> Option<Action>
     requires { places.IsAction action }
-    ensures value { result ≡ places.posted action method.now }
+    ensures value { result ≡ places.only own.now action method.now }
     ensures form { IfSome result places.IsAction }
 {
-    match method {
-        "POST" => Some(action),
-        _ => None,
-    }
+    if method == own { Some(action) } else { None }
 }

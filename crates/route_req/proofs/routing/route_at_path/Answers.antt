@@ -9,7 +9,7 @@ use Rattle.route_req.proofs.routing.route_at_path.Goals as goal
 pub returns-in-Some-action_at-clause-plain : goal.returns-in-Some-action_at-clause-plain
 returns-in-Some-action_at-clause-plain c =
     IfErr-weaker c.act.result (Refuses c.in-Some-action_at.action c.args.req.now) (λ fault. wraps_memory fault ≡ false)
-    (λ fault is. act_plain c.in-Some-action_at.action c.args.req.now fault is) c.act.ensures.refused
+    (λ fault is. (act_plain c.in-Some-action_at.action c.args.req.now fault is).0) c.act.ensures.refused
 
 pub returns-in-Some-action_at-clause-refused : goal.returns-in-Some-action_at-clause-refused
 returns-in-Some-action_at-clause-refused c =
