@@ -1,5 +1,5 @@
 -- What calls come to that emit a text or send it, one after another.
-use Rattle.std.proofs.Common.{◌≡◌, ℕ, List, [], ◌∷◌, ◌++◌, Bool, refl, sym, ap, ◌∙◌, subst, append-nil, Ok, Err, Some}
+use Rattle.std.proofs.Common.{◌≡◌, ℕ, List, [], ◌∷◌, ◌++◌, Bool, refl, sym, ◌∙◌, subst, arith, append-nil, Ok, Err, Some}
 use Rattle.std.specs.Prelude.{Option, Result, IsErrAnd}
 use Rattle.edge_io.specs.Counts.{Rose}
 use Rattle.edge_io.proofs.ToldLemmas.{AppendedSome-second, AppendedSome-first, AppendedSome-nil, appended-nil}
@@ -26,36 +26,25 @@ flush-broken a b f g kept rose = (([], [], refl, kept ∙ sym (appended-nil a)),
 -- a call that the sink failed broke its text off
 pub emits-broken : {A : Type 0} (r : Result A Broken) (text : List ℕ) (sent : Sent)
     → IsErrAnd r (λ why. why ≡ Fault) → IsBrokenOff text sent → Emits r text sent
-emits-broken (Ok v) text sent failed p = absurd failed
-emits-broken (Err Fault) text sent failed p = p
-emits-broken (Err Memory) text sent failed p = absurd (cc)
+emits-broken r text sent failed p = grind arith
 
 pub sends-broken : {A : Type 0} (r : Result A Broken) (text : List ℕ) (sent : Sent)
     → IsErrAnd r (λ why. why ≡ Fault) → IsBrokenOff text sent → Sends r text sent
-sends-broken (Ok v) text sent failed p = absurd failed
-sends-broken (Err Fault) text sent failed p = (p, tt)
-sends-broken (Err Memory) text sent failed p = absurd (cc)
+sends-broken r text sent failed p = grind arith
 
 -- a call that had no memory before anything was written
 pub sends-nothing : {A : Type 0} (r : Result A Broken) (a : Option (List ℕ)) (s : Type 0) (f : ℕ) (text : List ℕ)
     → IsErrAnd r (λ why. why ≡ Memory) → Sends r text (sent_of a a s s f f)
-sends-nothing (Ok v) a s f text failed = absurd failed
-sends-nothing (Err Fault) a s f text failed = absurd (cc)
-sends-nothing (Err Memory) a s f text failed = ((AppendedSome-nil a text, refl), tt)
+sends-nothing r a s f text failed = let none = AppendedSome-nil a text in grind (arith, none)
 
 -- a call that passes an error on
 pub emits-error : (A : Type 0) {B : Type 0} (r : Result B Broken) (why : Broken) (text : List ℕ) (sent : Sent)
     → IsErrAnd r (λ e. e ≡ why) → Emits {A = A} (Err why) text sent → Emits r text sent
-emits-error A (Ok v) why text sent failed p = absurd failed
-emits-error A (Err Fault) Fault text sent failed p = p
-emits-error A (Err Fault) Memory text sent failed p = absurd (cc)
-emits-error A (Err Memory) Fault text sent failed p = absurd (cc)
-emits-error A (Err Memory) Memory text sent failed p = p
+emits-error A r why text sent failed p = grind (arith, p)
 
 pub sends-error : (A : Type 0) {B : Type 0} (r : Result B Broken) (why : Broken) (text : List ℕ) (sent : Sent)
     → IsErrAnd r (λ e. e ≡ why) → Emits {A = A} (Err why) text sent → Sends r text sent
-sends-error A (Ok v) why text sent failed p = absurd failed
-sends-error A {B} (Err e) why text sent failed p = (emits-error A {B = B} (Err e) why text sent failed p, tt)
+sends-error A r why text sent failed p = grind (arith, p)
 
 -- the text is this one
 pub emits-as : {A : Type 0} (r : Result A Broken) (text other : List ℕ) (sent : Sent) → text ≡ other → Emits r text sent → Emits r other sent
@@ -94,12 +83,7 @@ pub content-sends : {A : Type 0} (r : Result A Broken) (sent : Sent) (kind : Con
     → kind ≡ content.kind → code ≡ content.code → retry ≡ content.retry → text ≡ content.text
     → Sends r (typed_reply_text kind code retry close (text ++ 10 ∷ [])) sent → Sends r (content_text close (Some content)) sent
 content-sends r sent kind code retry close text content kind_is code_is retry_is text_is p =
-    sends-as r (typed_reply_text kind code retry close (text ++ 10 ∷ [])) (content_text close (Some content)) sent
-    (ap (λ k. typed_reply_text k code retry close (text ++ 10 ∷ [])) kind_is
-    ∙ ap (λ c. typed_reply_text content.kind c retry close (text ++ 10 ∷ [])) code_is
-    ∙ ap (λ b. typed_reply_text content.kind content.code b close (text ++ 10 ∷ [])) retry_is
-    ∙ ap (λ t. typed_reply_text content.kind content.code content.retry close (t ++ 10 ∷ [])) text_is)
-    p
+    sends-as r (typed_reply_text kind code retry close (text ++ 10 ∷ [])) (content_text close (Some content)) sent (cc (kind_is, code_is, retry_is, text_is)) p
 
 -- what is sent is what is told
 pub told-sends : {A : Type 0} (r : Result A Broken) (sent : Sent) (close : Bool) (told other : Option Failure) → told ≡ other

@@ -51,7 +51,8 @@ pub(crate) fn send_typed_pieces<K: Sink>(
         return Err(Broken::Memory);
     };
     begin_typed_reply(sink, kind, code, retry, close, length)?;
-    write_body(sink, pieces)
+    parts(sink, pieces)?;
+    end_reply(sink)
 }
 
 // How long the body is: the text and the line feed.
@@ -59,13 +60,6 @@ fn body_length(pieces: &[&[u8]]) -> Option<u64>
     ensures { IfSome result (λ n. n ≡ length (flat_map (λ piece. piece.now) pieces.now ++ 10 ∷ [])) }
 {
     length_in(pieces)?.checked_add(1)
-}
-
-fn write_body<K: Sink>(sink: &mut K, pieces: &[&[u8]]) -> Result<(), Broken>
-    ensures { Sends result (flat_map (λ piece. piece.now) pieces.now ++ 10 ∷ []) (sent_through K.written K.settled K.faults sink.old sink.new) }
-{
-    parts(sink, pieces)?;
-    end_reply(sink)
 }
 
 /// Writes the line feed that ends a reply, and sends the reply on.

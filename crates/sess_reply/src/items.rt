@@ -81,19 +81,6 @@ pub(crate) fn write_list<K: Sink>(
         (sent_through K.written K.settled K.faults sink.old sink.new) }
 {
     parts(sink, front)?;
-    write_rest(sink, form, items, back)
-}
-
-// Writes the items and the pieces after them.
-fn write_rest<K: Sink>(
-    sink: &mut K,
-    form: Form,
-    items: &Items,
-    back: &[&[u8]],
-) -> Result<(), Failed>
-    ensures { Writes result (rows_text form (rows_of items.now) ++ flat_map (λ piece. piece.now) back.now)
-        (sent_through K.written K.settled K.faults sink.old sink.new) }
-{
     write_items(sink, form, items)?;
     parts(sink, back)
 }

@@ -95,20 +95,6 @@ fn send_items<K: Sink>(
         return Err(Broken::Memory);
     };
     begin_reply(sink, 200, false, close, length)?;
-    write_body(sink, form, front, items, back)
-}
-
-// Writes the body of a list, and sends the reply on.
-fn write_body<K: Sink>(
-    sink: &mut K,
-    form: Form,
-    front: &[&[u8]],
-    items: &Items,
-    back: &[&[u8]],
-) -> Result<(), Broken>
-    ensures { Sends result (between (flat_map (λ piece. piece.now) front.now) form (rows_of items.now) (flat_map (λ piece. piece.now) back.now) ++ 10 ∷ [])
-        (sent_through K.written K.settled K.faults sink.old sink.new) }
-{
     write_list(sink, form, front, items, back)?;
     end_reply(sink)
 }

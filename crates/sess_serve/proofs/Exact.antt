@@ -1,7 +1,6 @@
 -- The laws of sessions: ends come exactly where they should.
-use Rattle.std.proofs.Common.{◌≡◌, ◌∙◌, ◌++◌, ◌⊎◌, ℕ, ◌-◌, ◌<◌, ◌≤◌, suc, true, false, List, [], ◌∷◌, length, Some, refl, sym, ap, subst, inl, inr, arith}
+use Rattle.std.proofs.Common.{◌≡◌, ◌∙◌, ◌++◌, ◌⊎◌, ℕ, ◌-◌, ◌<◌, ◌≤◌, suc, true, List, [], ◌∷◌, length, Some, refl, sym, ap, subst, inl, inr, arith}
 use Rattle.std.specs.Prelude.{map, All}
-use Rattle.std.proofs.lemmas.Bool.{false≢true}
 use Rattle.std.proofs.lemmas.List.{append-nil}
 use Rattle.std.proofs.lemmas.List.Elements.{All-head, All-tail}
 use Rattle.edge_io.specs.Counts.{Rose}
@@ -16,7 +15,7 @@ use Rattle.http_read.proofs.LawLemmas.{one-way, not-nothing, not-refused, not-cu
 use Rattle.http_read.proofs.EndingLemmas.{some-stay, endings}
 use Rattle.sess_turns.specs.Terms.{Terms}
 use Rattle.sess_turns.specs.declared.ends.WatchEnd.{WatchEnd}
-use Rattle.sess_serve.specs.Answers.{Answer, replied, streamed, is_stream}
+use Rattle.sess_serve.specs.Answers.{Answer, is_stream}
 use Rattle.sess_serve.specs.Steps.{Exchange}
 use Rattle.sess_serve.specs.Ends.{Stays, IsKeptOpen, Last, IsWatchEnd, Ended}
 use Rattle.sess_serve.specs.Session.{requests_of}
@@ -74,15 +73,7 @@ watched-both : (x : List ℕ) (v w : Settled) → IsWatched v → IsWatched w �
 watched-both x v w h k = inr (inl (h, k))
 
 finished-both : (x : List ℕ) (v w : Settled) → IsFinished v → IsFinished w → AreOneWay x v w
-finished-both x finished finished h k = inl refl
-finished-both x finished full h k = absurd k
-finished-both x finished cut h k = absurd k
-finished-both x finished (watched how) h k = absurd k
-finished-both x finished (refused fault) h k = absurd k
-finished-both x full w h k = absurd h
-finished-both x cut w h k = absurd h
-finished-both x (watched how) w h k = absurd h
-finished-both x (refused fault) w h k = absurd h
+finished-both x v w h k = grind arith
 
 pub ends-exact : EndsAreExact
 ends-exact limit input [] [] x y v w rx ry ex ey agree =
@@ -106,27 +97,11 @@ ends-exact limit input (r ∷ rs) (s ∷ ss) x y v w rx ry ex ey agree =
         let other : ry.0 ≡ y = subst (λ hs. ReadsSome ry.0 (requests_in hs) y) f ry.2 in
         (e ∙ sym f, sym one ∙ same.1 ∙ other)
 
-    closes : (a b : Heard) → a ≡ b → a.request.close ≡ false → b.request.close ≡ true → ⊥
-    closes a b e f t = false≢true (sym f ∙ ap (λ (h : Heard). h.request.close) e ∙ t)
-
-    streams : (a b : Heard) → a ≡ b → a.streamed ≡ false → b.streamed ≡ true → ⊥
-    streams a b e f t = false≢true (sym f ∙ ap (λ (h : Heard). h.streamed) e ∙ t)
-
     heads : (EndsWith (limit - 1) rs x v → EndsWith (limit - 1) ss y w → (rs ≡ ss) × (x ≡ y) × AreOneWay x v w)
         → (StaysOpen r × EndsWith (limit - 1) rs x v) ⊎ ((IsFinishing r × (rs ≡ []) × IsFinished v) ⊎ ((r.streamed ≡ true) × (rs ≡ []) × IsWatched v))
         → (StaysOpen s × EndsWith (limit - 1) ss y w) ⊎ ((IsFinishing s × (ss ≡ []) × IsFinished w) ⊎ ((s.streamed ≡ true) × (ss ≡ []) × IsWatched w))
         → ((r ∷ rs) ≡ (s ∷ ss)) × (x ≡ y) × AreOneWay x v w
-    heads again (inl a) (inl b) =
-        let more = again a.1 b.1 in
-        ((λ i. is i ∷ more.0 i), more.1, more.2)
-    heads again (inl a) (inr (inl b)) = absurd (closes r s is a.0.0 b.0.0)
-    heads again (inl a) (inr (inr b)) = absurd (streams r s is a.0.1 b.0)
-    heads again (inr (inl a)) (inl b) = absurd (closes s r (sym is) b.0.0 a.0.0)
-    heads again (inr (inl a)) (inr (inl b)) = let more = alike a.1 b.1 in ((λ i. is i ∷ more.0 i), more.1, finished-both x v w a.2 b.2)
-    heads again (inr (inl a)) (inr (inr b)) = absurd (streams r s is a.0.1 b.0)
-    heads again (inr (inr a)) (inl b) = absurd (streams s r (sym is) b.0.1 a.0)
-    heads again (inr (inr a)) (inr (inl b)) = absurd (streams s r (sym is) b.0.1 a.0)
-    heads again (inr (inr a)) (inr (inr b)) = let more = alike a.1 b.1 in ((λ i. is i ∷ more.0 i), more.1, watched-both x v w a.2 b.2)
+    heads again a b = grind (arith, is, again, alike, finished-both x v w, watched-both x v w)
 
 -- ---- from sessions
 
@@ -167,8 +142,7 @@ ends-at terms es last rest way how =
     (ends-last terms.settings.requests last.before last.last rest way last.goes_on.stay last.goes_on.few how)
 
 watch-streams : (answer : Answer) (how : WatchEnd) → IsWatchEnd answer how → is_stream answer ≡ true
-watch-streams (replied reply) how h = absurd h
-watch-streams (streamed ask stream) how h = refl
+watch-streams answer how h = grind arith
 
 -- where the input is exhausted, what is left is nothing
 goes-here : (terms : Terms) (es : List Exchange) (rest : List ℕ) (way : Settled) → IsKeptOpen terms es

@@ -23,33 +23,32 @@ use Rattle.sess_reply.specs.declared.broken.Broken.TheVariants as broken
 use Rattle.sess_turns.specs.Terms.{Terms}
 use Rattle.sess_turns.specs.declared.ends.WatchEnd.{WatchEnd}
 use Rattle.sess_serve.specs.Ends.{Begins, SoleMemory}
-use Rattle.sess_serve.specs.Serving.{AnsweredAs, Answered, Ends, IsRound, RoundIs, end_after, IsStopped, StopsAs, RefusalEnds, CountsAt}
+use Rattle.sess_serve.specs.Serving.{Given, Exchanged, AnsweredAs, Answered, Ends, IsRound, RoundIs, end_after, IsStopped, StopsAs, RefusalEnds, CountsAt}
 use Rattle.sess_serve.specs.declared.ends.SessionEnd.{SessionEnd}
 use Rattle.sess_serve.specs.declared.ends.SessionEnd.TheVariants.{Done, Watched, ReadFault, WriteFault, CutShort, Refused, TooMany, Memory}
 
 module _ (terms : Terms) (whole : Type 0) (p q : Pass RevisionData) (old_reader new_reader : ReaderState) (old new : Ends) (f f' : ℕ) (g g' : ℕ) where
   -- ---- a request was read and answered
 
-  -- what was begun for the request is what was begun for the bytes
-  lacking : (bytes after : List ℕ) (req : Req) → ReadsOne bytes req after → (q.seen ≡ p.seen) ⊎ IsSomeAnd terms.sole_history (λ history. Begins terms history p req q) → SoleMemory terms p bytes q
-  lacking bytes after req reads (inl same) = inl same
-  lacking bytes after req reads (inr done) = inr (req, after, reads, done)
+  module _ (bytes after written : List ℕ) (readings : List Reading) (req : Req) (reads : ReadsOne bytes req after) where
+    -- what was begun for the request is what was begun for the bytes
+    lacking : (q.seen ≡ p.seen) ⊎ IsSomeAnd terms.sole_history (λ history. Begins terms history p req q) → SoleMemory terms p bytes q
+    lacking (inl same) = inl same
+    lacking (inr done) = inr (req, after, reads, done)
 
-  goes : (bytes after written : List ℕ) (readings : List Reading) (req : Req) (s t : Type 0) (came : Result (Option WatchEnd) Broken) (close : Bool) → req.close ≡ close
-      → ReadsOne bytes req after → AnsweredAs terms whole p req written readings q came → Counts came (sent_of old.written new.written s t g g')
-      → RoundIs terms whole p bytes after written readings q (Rose f f') (Rose g g') new.left (end_after came close)
-  goes bytes after written readings req s t (Ok None) true closes reads (given, replied, out) counts =
-      inl (record { request = req; reads = reads; given = given }, record { closes = closes; by_reply = replied }, out)
-  goes bytes after written readings req s t (Ok None) false closes reads (given, replied, out) counts =
-      (record { request = req; reads = reads; given = given }, record { open_ = closes; by_reply = replied }, out)
-  goes bytes after written readings req s t (Ok (Some how)) close closes reads (given, ends, out) counts =
-      (record { request = req; reads = reads; given = given }, ends, out)
-  goes bytes after written readings req s t (Err broken.Fault) close closes reads (given, begun) counts =
-      (counts, inl (record { request = req; reads = reads; given = given }, begun))
-  goes bytes after written readings req s t (Err broken.Memory) close closes reads (inl (given, begun)) counts =
-      inl (record { request = req; reads = reads; given = given }, begun)
-  goes bytes after written readings req s t (Err broken.Memory) close closes reads (inr un) counts =
-      inr (inr (record { nothing = un.nothing; unread = un.unread; onward = un.onward; sole = λ w. lacking bytes after req reads (un.sole w) }))
+    abbrev one : Given terms whole p req readings q → Exchanged terms whole p bytes after readings q
+    one given = record { request = req; reads = reads; given = given }
+
+    goes : (s t : Type 0) (came : Result (Option WatchEnd) Broken) (close : Bool) → req.close ≡ close → AnsweredAs terms whole p req written readings q came
+        → Counts came (sent_of old.written new.written s t g g') → RoundIs terms whole p bytes after written readings q (Rose f f') (Rose g g') new.left
+        (end_after came close)
+    goes s t (Ok None) true closes (given, replied, out) counts = inl (one given, record { closes = closes; by_reply = replied }, out)
+    goes s t (Ok None) false closes (given, replied, out) counts = (one given, record { open_ = closes; by_reply = replied }, out)
+    goes s t (Ok (Some how)) close closes (given, ends, out) counts = (one given, ends, out)
+    goes s t (Err broken.Fault) close closes (given, begun) counts = (counts, inl (one given, begun))
+    goes s t (Err broken.Memory) close closes (inl (given, begun)) counts = inl (one given, begun)
+    goes s t (Err broken.Memory) close closes (inr un) counts =
+        inr (inr (record { nothing = un.nothing; unread = un.unread; onward = un.onward; sole = λ w. lacking (un.sole w) }))
 
   pub round-answered : (s t : Type 0) (req : Req) (came : Result (Option WatchEnd) Broken) (result : Option SessionEnd)
       → AnswersNext old_reader new_reader old.left new.left f f' (Ok (Some req))
@@ -64,7 +63,8 @@ module _ (terms : Terms) (whole : Type 0) (p q : Pass RevisionData) (old_reader 
     sink = answered.sink;
     noted = answered.noted;
     round = subst (RoundIs terms whole p (old_reader.kept ++ reading.taken) new_reader.kept answered.written answered.readings q (Rose f f') (Rose g g') new.left) (sym is)
-        (goes (old_reader.kept ++ reading.taken) new_reader.kept answered.written answered.readings req s t came req.close refl reading.answers answered.answered answered.counts);
+        (goes (old_reader.kept ++ reading.taken) new_reader.kept answered.written answered.readings req reading.answers s t came req.close refl
+        answered.answered answered.counts);
   }
 
   -- ---- no request was read
@@ -98,13 +98,10 @@ module _ (terms : Terms) (whole : Type 0) (p q : Pass RevisionData) (old_reader 
 
     pub stops : (s t : Type 0) (bytes after written : List ℕ) (fault : ReqNo) (how : SessionEnd) → ReadsNext bytes (Err fault) after new.left f f' → StopsAs fault written how → CountsAt how (sent_of old.written new.written s t g g')
         → RoundIs terms whole p bytes after written [] q (Rose f f') (Rose g g') new.left (Some how)
-    stops s t bytes after written req_no.CutShort how reads (none, is) counts =
-        subst (λ h. RoundIs terms whole p bytes after written [] q (Rose f f') (Rose g g') new.left (Some h)) (sym is) ((none, refl, same), reads.0, reads.1)
-    stops s t bytes after written req_no.ReadFault how reads (none, is) counts =
-        subst (λ h. RoundIs terms whole p bytes after written [] q (Rose f f') (Rose g g') new.left (Some h)) (sym is) ((none, refl, same), reads.1, reads.0)
+    stops s t bytes after written req_no.CutShort how reads (none, is) counts = rw is ((none, refl, same), reads.0, reads.1)
+    stops s t bytes after written req_no.ReadFault how reads (none, is) counts = rw is ((none, refl, same), reads.1, reads.0)
     stops s t bytes after written req_no.Memory how reads (none, is) counts =
-        subst (λ h. RoundIs terms whole p bytes after written [] q (Rose f f') (Rose g g') new.left (Some h)) (sym is)
-        (inr (inr (record {
+        rw is (inr (inr (record {
           nothing = none;
           unread = refl;
           onward = subst (IsOnward p) same (onwards_do_join.0 p);

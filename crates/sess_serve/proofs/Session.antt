@@ -1,21 +1,20 @@
 -- How a session goes on by one request, and how it ends.
-use Rattle.std.proofs.Common.{◌≡◌, ◌∙◌, ◌++◌, ℕ, ◌+◌, ◌<◌, Bool, List, [], ◌∷◌, length, Option, Some, None, refl, sym, ap, subst, inl, inr}
+use Rattle.std.proofs.Common.{◌≡◌, ◌∙◌, ◌++◌, ℕ, ◌+◌, ◌<◌, Bool, List, [], ◌∷◌, length, Option, Some, None, refl, sym, ap, subst, inl, inr, arith}
 use Rattle.std.specs.Prelude.{All}
 use Rattle.std.proofs.lemmas.List.{append_assoc, append-nil, length-append}
+use Rattle.std.proofs.lemmas.Grind.{flat_map-append}
 use Rattle.std.proofs.lemmas.List.Elements.{All-nil, All-push}
 use mathlib.Core.List.{IsPrefix}
-use Rattle.edge_io.specs.Counts.{Rose}
 use Rattle.edge_io.specs.Told.{prepended, appended, Noted}
 use Rattle.edge_io.specs.declared.clock.Reading.{Reading}
 use Rattle.edge_io.proofs.ToldLemmas.{appended-appended, appended-nil, prepended-prepended, prepended-nil, Noted-nil, Noted-join}
 use Rattle.http_read.specs.Requests.{ReadsOne, ReadsSome}
-use Rattle.http_read.specs.declared.request.Req.{Req}
 use Rattle.http_read.proofs.EndingLemmas.{some-stay}
 use Rattle.kube_meta.specs.Rows.{RowData}
 use Rattle.up_api.specs.declared.settings.Settings.{Settings}
 use Rattle.rev_front.specs.Passes.{Pass}
 use Rattle.rev_log.specs.Changes.{RevisionData}
-use Rattle.client_api.specs.Facts.{Facts, IsOnward}
+use Rattle.client_api.specs.Facts.{Facts, Watched as Watching, IsOnward}
 use Rattle.client_api.proofs.LawLemmas.{onwards_do_join}
 use Rattle.sess_reply.specs.Replies.{request_refusal_text}
 use Rattle.sess_turns.specs.Terms.{Terms, terms_of}
@@ -24,9 +23,9 @@ use Rattle.sess_serve.specs.declared.ends.SessionEnd.TheVariants.{Done, Watched,
 use Rattle.sess_serve.specs.Answers.{answer_readings}
 use Rattle.sess_serve.specs.Steps.{Exchange, Step, Run, AreAlone, IsAlone}
 use Rattle.sess_serve.specs.Texts.{answer_text, answer_texts, answer_bytes}
-use Rattle.sess_serve.specs.Ends.{Traffic, Stays, IsKeptOpen, Last, BrokenOff, BrokenRefusal}
+use Rattle.sess_serve.specs.Ends.{Traffic, Stays, IsKeptOpen, Last, BrokenOff, BrokenRefusal, Ended, Knows, KnowsAlone}
 use Rattle.sess_serve.specs.Session.{IsSession, requests_of, readings_in}
-use Rattle.sess_serve.specs.Serving.{Given, Exchanged, exchange_of, RefusalBegun, RoundIs, IsRound, Ends}
+use Rattle.sess_serve.specs.Serving.{Exchanged, exchange_of, RefusalBegun, RoundIs, IsRound, Ends}
 
 -- ---- one more at the end
 
@@ -46,15 +45,11 @@ alone-push terms p mid [] e same all sole = (subst (λ a. IsAlone terms a e.answ
 alone-push terms p mid (f ∷ es) e (first, others) all sole = (all.0, alone-push terms f.pass mid es e others all.1 sole)
 
 texts-push : (terms : Terms) (es : List Exchange) (e : Exchange) → answer_texts terms (es ++ e ∷ []) ≡ answer_texts terms es ++ answer_text terms e
-texts-push terms [] e = append-nil (answer_text terms e)
-texts-push terms (f ∷ es) e = ap (λ t. answer_text terms f ++ t) (texts-push terms es e) ∙ sym (append_assoc (answer_text terms f) (answer_texts terms es) (answer_text terms e))
+texts-push terms es e = flat_map-append (answer_text terms) es (e ∷ []) ∙ ap (λ t. answer_texts terms es ++ t) (append-nil (answer_text terms e))
 
 readings-push : (es : List Exchange) (e : Exchange) → readings_in (es ++ e ∷ []) ≡ readings_in es ++ answer_readings e.answer
-readings-push [] e = append-nil (answer_readings e.answer)
-readings-push (f ∷ es) e = ap (λ t. answer_readings f.answer ++ t) (readings-push es e) ∙ sym (append_assoc (answer_readings f.answer) (readings_in es) (answer_readings e.answer))
-
-length-push : (es : List Exchange) (e : Exchange) → length (es ++ e ∷ []) ≡ length es + 1
-length-push es e = length-append es (e ∷ [])
+readings-push es e =
+    flat_map-append (λ (x : Exchange). answer_readings x.answer) es (e ∷ []) ∙ ap (λ t. readings_in es ++ t) (append-nil (answer_readings e.answer))
 
 -- a text and then a beginning of a further one is a beginning of both
 prefix-after : (front text written begun all whole : List ℕ) → written ≡ front → IsPrefix begun text → whole ≡ front ++ text → all ≡ written ++ begun → IsPrefix all whole
@@ -74,13 +69,13 @@ pub record Sofar (terms : Terms) (whole : Type 0) (p : Pass RevisionData) (taken
   pub stay : All Stays exchanges
   pub count : length exchanges ≡ n
 
-step-of : (terms : Terms) (whole : Type 0) (p q : Pass RevisionData) (req : Req) (readings : List Reading) (g : Given terms whole p req readings q) → Step terms p (exchange_of req g.answer q)
-step-of terms whole p q req readings g = record { answers = g.answers; says = g.says; onward = g.onward }
-
 module _ (terms : Terms) (whole now : Type 0) (still : whole → now) (p : Pass RevisionData) (taken written : List ℕ) (readings : List Reading) (kept : List ℕ) (q : Pass RevisionData) (n : ℕ)
     (sofar : Sofar terms whole p taken written readings kept q n) (more : List ℕ) (text : List ℕ) (times : List Reading) (after : List ℕ) (q' : Pass RevisionData) where
   reads' : ReadsSome (taken ++ more) (requests_of sofar.exchanges) (kept ++ more)
   reads' = some-stay taken more (requests_of sofar.exchanges) kept sofar.reads
+
+  goes-on : n < terms.settings.requests → IsKeptOpen terms sofar.exchanges
+  goes-on room = record { stay = sofar.stay; few = subst (λ k. k < terms.settings.requests) (sym sofar.count) room }
 
   -- with one more exchange
   module _ (x : Exchanged terms now q (kept ++ more) after times q') where
@@ -94,7 +89,7 @@ module _ (terms : Terms) (whole now : Type 0) (still : whole → now) (p : Pass 
     pushed-reads = reads-push (taken ++ more) (kept ++ more) after sofar.exchanges last reads' x.reads
 
     pushed-run : Run terms p pushed q'
-    pushed-run = run-push terms p q sofar.exchanges last sofar.run (step-of terms now q q' x.request times x.given)
+    pushed-run = run-push terms p q sofar.exchanges last sofar.run (record { answers = x.given.answers; says = x.given.says; onward = x.given.onward })
 
     pushed-sole : whole → AreAlone terms p pushed
     pushed-sole w = alone-push terms p q sofar.exchanges last sofar.run (sofar.sole w) (x.given.sole (still w))
@@ -118,7 +113,7 @@ module _ (terms : Terms) (whole now : Type 0) (still : whole → now) (p : Pass 
       text = pushed-text e;
       readings_are = pushed-readings;
       stay = All-push Stays sofar.exchanges last sofar.stay stays;
-      count = length-push sofar.exchanges last ∙ ap (λ k. k + 1) sofar.count;
+      count = length-append sofar.exchanges (last ∷ []) ∙ ap (λ k. k + 1) sofar.count;
     }
 
     module _ (room : n < terms.settings.requests) where
@@ -127,7 +122,7 @@ module _ (terms : Terms) (whole now : Type 0) (still : whole → now) (p : Pass 
         before = sofar.exchanges;
         last = last;
         parted = refl;
-        goes_on = record { stay = sofar.stay; few = subst (λ k. k < terms.settings.requests) (sym sofar.count) room };
+        goes_on = goes-on room;
       }
 
       broken-off : IsPrefix text (answer_bytes terms x.request x.given.answer) → BrokenOff terms pushed (written ++ text)
@@ -137,9 +132,6 @@ module _ (terms : Terms) (whole now : Type 0) (still : whole → now) (p : Pass 
             sofar.text begun (texts-push terms sofar.exchanges last) refl;
         others = (text, ap (λ w. w ++ text) (sym sofar.text));
       }
-
-  goes-on : n < terms.settings.requests → IsKeptOpen terms sofar.exchanges
-  goes-on room = record { stay = sofar.stay; few = subst (λ k. k < terms.settings.requests) (sym sofar.count) room }
 
   silent-text : text ≡ [] → written ++ text ≡ answer_texts terms sofar.exchanges
   silent-text none = ap (λ t. written ++ t) none ∙ append-nil written ∙ sofar.text
@@ -161,129 +153,56 @@ module _ (terms : Terms) (whole now : Type 0) (still : whole → now) (p : Pass 
     abbrev traffic : Traffic
     traffic = record { taken = taken ++ more; written = written ++ text; readings = readings ++ times; read_fault = read_fault; write_fault = write_fault; left = left }
 
-    -- the session ended in a round
-    ends : (how : SessionEnd) → RoundIs terms now q (kept ++ more) after text times q' read_fault write_fault left (Some how) → IsSession terms whole p traffic q' how
-    ends Done (inl (x, closed, e)) = record {
+    -- it ended with one more exchange
+    with-one : (how : SessionEnd) (x : Exchanged terms now q (kept ++ more) after times q') → Knows how q' q' → KnowsAlone terms how q' after q'
+        → Ended terms (pushed x) after traffic how → IsSession terms whole p traffic q' how
+    with-one how x knows alone ended = record {
       exchanges = pushed x;
       last = q';
       rest = after;
       reads = pushed-reads x;
       run = pushed-run x;
-      knows = refl;
-      sole = λ w. (pushed-sole x w, tt);
+      knows = knows;
+      sole = λ w. (pushed-sole x w, alone);
       readings = pushed-readings x;
-      ended = (pushed-text x e, inl (last-of x room, closed));
+      ended = ended;
     }
-    ends Done (inr (silent, nothing, exhausted)) = record {
+
+    -- it ended with those so far
+    with-none : (how : SessionEnd) → times ≡ [] → Knows how q q' → (now → KnowsAlone terms how q (kept ++ more) q')
+        → Ended terms sofar.exchanges (kept ++ more) traffic how → IsSession terms whole p traffic q' how
+    with-none how unread knows alone ended = record {
       exchanges = sofar.exchanges;
       last = q;
       rest = kept ++ more;
       reads = reads';
       run = sofar.run;
-      knows = silent.2;
-      sole = λ w. (sofar.sole w, tt);
-      readings = silent-readings silent.1;
-      ended = (silent-text silent.0, inr (goes-on room, nothing, exhausted));
-    }
-    ends (Watched how) (x, is, e) = record {
-      exchanges = pushed x;
-      last = q';
-      rest = after;
-      reads = pushed-reads x;
-      run = pushed-run x;
-      knows = refl;
-      sole = λ w. (pushed-sole x w, tt);
-      readings = pushed-readings x;
-      ended = (pushed-text x e, (last-of x room, is));
-    }
-    ends CutShort (silent, cut, exhausted) = record {
-      exchanges = sofar.exchanges;
-      last = q;
-      rest = kept ++ more;
-      reads = reads';
-      run = sofar.run;
-      knows = silent.2;
-      sole = λ w. (sofar.sole w, tt);
-      readings = silent-readings silent.1;
-      ended = (silent-text silent.0, goes-on room, cut, exhausted);
-    }
-    ends ReadFault (silent, unfinished, rose) = record {
-      exchanges = sofar.exchanges;
-      last = q;
-      rest = kept ++ more;
-      reads = reads';
-      run = sofar.run;
-      knows = silent.2;
-      sole = λ w. (sofar.sole w, tt);
-      readings = silent-readings silent.1;
-      ended = (silent-text silent.0, goes-on room, unfinished, rose);
-    }
-    ends (Refused fault) (e, refused, unread, same) = record {
-      exchanges = sofar.exchanges;
-      last = q;
-      rest = kept ++ more;
-      reads = reads';
-      run = sofar.run;
-      knows = same;
-      sole = λ w. (sofar.sole w, tt);
+      knows = knows;
+      sole = λ w. (sofar.sole w, alone (still w));
       readings = silent-readings unread;
-      ended = (ap (λ w. w ++ text) sofar.text ∙ ap (λ t. answer_texts terms sofar.exchanges ++ t) e, goes-on room, refused);
+      ended = ended;
     }
-    ends WriteFault (rose, inl (x, begun)) = record {
-      exchanges = pushed x;
-      last = q';
-      rest = after;
-      reads = pushed-reads x;
-      run = pushed-run x;
-      knows = refl;
-      sole = λ w. (pushed-sole x w, tt);
-      readings = pushed-readings x;
-      ended = (rose, inl (broken-off x room begun));
-    }
-    ends WriteFault (rose, inr begun) = record {
-      exchanges = sofar.exchanges;
-      last = q;
-      rest = kept ++ more;
-      reads = reads';
-      run = sofar.run;
-      knows = begun.4;
-      sole = λ w. (sofar.sole w, tt);
-      readings = silent-readings begun.3;
-      ended = (rose, inr (refusal-begun room begun));
-    }
-    ends Memory (inl (x, begun)) = record {
-      exchanges = pushed x;
-      last = q';
-      rest = after;
-      reads = pushed-reads x;
-      run = pushed-run x;
-      knows = onwards_do_join.0 q';
-      sole = λ w. (pushed-sole x w, inl refl);
-      readings = pushed-readings x;
-      ended = inr (inl (broken-off x room begun));
-    }
-    ends Memory (inr (inl begun)) = record {
-      exchanges = sofar.exchanges;
-      last = q;
-      rest = kept ++ more;
-      reads = reads';
-      run = sofar.run;
-      knows = subst (IsOnward q) begun.4 (onwards_do_join.0 q);
-      sole = λ w. (sofar.sole w, inl (ap (λ (a : Pass RevisionData). a.seen) (sym begun.4)));
-      readings = silent-readings begun.3;
-      ended = inr (inr (refusal-begun room begun));
-    }
-    ends Memory (inr (inr unfinished)) = record {
-      exchanges = sofar.exchanges;
-      last = q;
-      rest = kept ++ more;
-      reads = reads';
-      run = sofar.run;
-      knows = unfinished.onward;
-      sole = λ w. (sofar.sole w, unfinished.sole (still w));
-      readings = silent-readings unfinished.unread;
-      ended = inl (silent-text unfinished.nothing, goes-on room);
-    }
+
+    -- the session ended in a round
+    ends : (how : SessionEnd) → RoundIs terms now q (kept ++ more) after text times q' read_fault write_fault left (Some how)
+        → IsSession terms whole p traffic q' how
+    ends Done (inl (x, closed, e)) = with-one Done x refl tt (pushed-text x e, inl (last-of x room, closed))
+    ends Done (inr (silent, nothing, exhausted)) =
+        with-none Done silent.1 silent.2 (λ _. tt) (silent-text silent.0, inr (goes-on room, nothing, exhausted))
+    ends (Watched how) (x, is, e) = with-one (Watched how) x refl tt (pushed-text x e, (last-of x room, is))
+    ends CutShort (silent, cut, exhausted) = with-none CutShort silent.1 silent.2 (λ _. tt) (silent-text silent.0, goes-on room, cut, exhausted)
+    ends ReadFault (silent, unfinished, rose) = with-none ReadFault silent.1 silent.2 (λ _. tt) (silent-text silent.0, goes-on room, unfinished, rose)
+    ends (Refused fault) (e, refused, unread, same) =
+        with-none (Refused fault) unread same (λ _. tt)
+        (ap (λ w. w ++ text) sofar.text ∙ ap (λ t. answer_texts terms sofar.exchanges ++ t) e, goes-on room, refused)
+    ends WriteFault (rose, inl (x, begun)) = with-one WriteFault x refl tt (rose, inl (broken-off x room begun))
+    ends WriteFault (rose, inr begun) = with-none WriteFault begun.3 begun.4 (λ _. tt) (rose, inr (refusal-begun room begun))
+    ends Memory (inl (x, begun)) = with-one Memory x (onwards_do_join.0 q') (inl refl) (inr (inl (broken-off x room begun)))
+    ends Memory (inr (inl begun)) =
+        with-none Memory begun.3 (subst (IsOnward q) begun.4 (onwards_do_join.0 q))
+        (λ _. inl (ap (λ (a : Pass RevisionData). a.seen) (sym begun.4))) (inr (inr (refusal-begun room begun)))
+    ends Memory (inr (inr unfinished)) =
+        with-none Memory unfinished.unread unfinished.onward unfinished.sole (inl (silent-text unfinished.nothing, goes-on room))
     ends TooMany h = absurd h
 
 -- as many requests as are allowed were answered
@@ -302,30 +221,16 @@ full terms whole p taken written readings kept q n read_fault write_fault left s
   ended = (sofar.text, sofar.stay, sofar.count ∙ same);
 }
 
--- a fault in the last round is a fault in the call
-ends-rose : (terms : Terms) (whole : Type 0) (p : Pass RevisionData) (bytes after text : List ℕ) (times : List Reading) (q : Pass RevisionData) (r s v w : Type 0) (left : Option (List ℕ)) (how : SessionEnd)
-    → (r → v) → (s → w) → RoundIs terms whole p bytes after text times q r s left (Some how) → RoundIs terms whole p bytes after text times q v w left (Some how)
-ends-rose terms whole p bytes after text times q r s v w left Done f g h = h
-ends-rose terms whole p bytes after text times q r s v w left (Watched how) f g h = h
-ends-rose terms whole p bytes after text times q r s v w left CutShort f g h = h
-ends-rose terms whole p bytes after text times q r s v w left ReadFault f g (silent, unfinished, rose) = (silent, unfinished, f rose)
-ends-rose terms whole p bytes after text times q r s v w left (Refused fault) f g h = h
-ends-rose terms whole p bytes after text times q r s v w left WriteFault f g (rose, what) = (g rose, what)
-ends-rose terms whole p bytes after text times q r s v w left Memory f g h = h
-ends-rose terms whole p bytes after text times q r s v w left TooMany f g h = h
-
 -- what doesn't change between turns
-pub terms-same : (base : List RowData) (mirror : Bool) (s : Settings) (f g : Facts) (h : ℕ) → g ≡ record f { heard = h } → terms_of base mirror g s ≡ terms_of base mirror f s
-terms-same base mirror s f g h e = ap (λ x. terms_of base mirror x s) e
-
-pub rose-from : (a b c : ℕ) → b ≡ a → Rose b c → Rose a c
-rose-from a b c same rose = subst (λ n. Rose n c) same rose
+pub terms-same : (base : List RowData) (mirror : Bool) (s : Settings) (f g : Facts) (w : Option Watching) (h : ℕ) → g ≡ record f { watching = w; heard = h }
+    → terms_of base mirror g s ≡ terms_of base mirror f s
+terms-same base mirror s f g w h e = ap (λ x. terms_of base mirror x s) e
 
 pub facts-next : (f g h : Facts) → g ≡ record f { heard = g.heard } → h ≡ record g { heard = h.heard } → h ≡ record f { heard = h.heard }
-facts-next f g h first second = second ∙ ap (λ (x : Facts). record x { heard = h.heard }) first
+facts-next f g h first second = grind arith
 
 pub facts-idle : (f g : Facts) → f.watching ≡ None → g ≡ record f { heard = g.heard } → g.watching ≡ None
-facts-idle f g idle e = ap (λ (x : Facts). x.watching) e ∙ idle
+facts-idle f g idle e = grind arith
 
 -- ---- from round to round
 
@@ -383,9 +288,9 @@ module _ (terms terms' : Terms) (same : terms' ≡ terms) (whole now : Type 0) (
         sofar = next terms whole now still p loop.taken loop.written loop.readings kept q n loop.sofar round.taken round.written round.readings after q' round.round.0 round.round.1 round.round.2;
       }
 
-  pub loop-ends : (v w : Type 0) (how : SessionEnd) → (r → v) → (s → w) → n < terms.settings.requests → IsRound terms' now q kept after mid last r s q' (Some how)
-      → IsSessionBetween terms whole p first last q' v w how
-  loop-ends v w how f g room x =
+  pub loop-ends : (how : SessionEnd) → n < terms.settings.requests → IsRound terms' now q kept after mid last r s q' (Some how)
+      → IsSessionBetween terms whole p first last q' r s how
+  loop-ends how room x =
       let round : IsRound terms now q kept after mid last r s q' (Some how) = subst (λ t. IsRound t now q kept after mid last r s q' (Some how)) same x in (
         loop.taken ++ round.taken,
         loop.written ++ round.written,
@@ -393,8 +298,8 @@ module _ (terms terms' : Terms) (same : terms' ≡ terms) (whole now : Type 0) (
         loop.source ∙ ap (prepended loop.taken) round.source ∙ prepended-prepended loop.taken round.taken last.left,
         round.sink ∙ ap (λ m. appended m round.written) loop.sink ∙ appended-appended first.written loop.written round.written,
         Noted-join first.readings mid.readings last.readings loop.readings round.readings loop.noted round.noted,
-        ends terms whole now still p loop.taken loop.written loop.readings kept q n loop.sofar round.taken round.written round.readings after q' v w last.left room how
-            (ends-rose terms now q (kept ++ round.taken) after round.written round.readings q' r s v w last.left how f g round.round),
+        ends terms whole now still p loop.taken loop.written loop.readings kept q n loop.sofar round.taken round.written round.readings after q' r s
+            last.left room how round.round,
       )
 
 pub loop-full : (terms : Terms) (whole : Type 0) (p : Pass RevisionData) (first last : Ends) (kept : List ℕ) (q : Pass RevisionData) (n : ℕ) (v w : Type 0) → Loop terms whole p first last kept q n

@@ -1,5 +1,5 @@
 -- The turns of a watch, as the session tells of them.
-use Rattle.std.proofs.Common.{◌≡◌, ◌≢◌, List, [], ◌∷◌, Some, None, Result, refl, ap, subst}
+use Rattle.std.proofs.Common.{◌≡◌, ◌≢◌, List, [], ◌∷◌, Some, None, Result, ap, subst, arith}
 use Rattle.edge_io.specs.declared.clock.Reading.{Reading}
 use Rattle.rev_front.specs.Passes.{Pass}
 use Rattle.rev_log.specs.Changes.{RevisionData}
@@ -57,13 +57,4 @@ stream-under terms terms' view ask started whole before p outside answer q same 
 
 -- a refusal that isn't want of memory
 pub unrouted-is : (req : Req) (fault : RouteNo) → fault ≢ route_no.Memory → IsRefusal req fault → IsUnrouted req fault
-unrouted-is req route_no.Memory told refused = absurd (told refl)
-unrouted-is req route_no.ForeignSite told refused = refused
-unrouted-is req route_no.NoPath told refused = refused
-unrouted-is req route_no.NoMethod told refused = refused
-unrouted-is req (route_no.Selector why) told refused = refused
-unrouted-is req (route_no.List why) told refused = refused
-unrouted-is req (route_no.Watch why) told refused = refused
-unrouted-is req (route_no.Object why) told refused = refused
-unrouted-is req route_no.Operation told refused = refused
-unrouted-is req (route_no.Transaction why) told refused = refused
+unrouted-is req fault told refused = grind arith

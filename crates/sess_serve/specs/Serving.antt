@@ -19,7 +19,6 @@ use Rattle.sess_reply.specs.declared.broken.Broken.TheVariants as broken
 use Rattle.sess_turns.specs.Streams.{Outside}
 use Rattle.sess_turns.specs.Terms.{Terms}
 use Rattle.sess_turns.specs.declared.ends.WatchEnd.{WatchEnd}
-use Rattle.sess_turns.specs.declared.ends.WatchEnd.TheVariants as watch_end
 use Rattle.sess_serve.specs.Answers.{Answer, IsAnswerTo, is_stream, answer_readings}
 use Rattle.sess_serve.specs.Ends.{Stays, IsClosed, IsWatchEnd, Begins, SoleMemory, UnlessBroken}
 use Rattle.sess_serve.specs.Steps.{Exchange, Says, IsAlone}
@@ -45,12 +44,15 @@ pub record Unanswered (terms : Terms) (whole : Type 0) (p : Pass RevisionData) (
   pub onward : IsOnward p q
   pub sole : whole → (q.seen ≡ p.seen) ⊎ IsSomeAnd terms.sole_history (λ history. Begins terms history p req q)
 
+-- a reply is no end of a watch, and a stream came to this one
+abbrev pub ComesTo : Answer → Option WatchEnd → Type 0
+ComesTo answer None = is_stream answer ≡ false
+ComesTo answer (Some how) = IsWatchEnd answer how
+
 -- the answer was written: a reply, or a stream to its end; or a beginning of it was; or there was no memory for it
 abbrev pub AnsweredAs : Terms → Type 0 → Pass RevisionData → Req → List ℕ → List Reading → Pass RevisionData → Result (Option WatchEnd) Broken → Type 0
-AnsweredAs terms whole p req written readings q (Ok None) =
-    (given : Given terms whole p req readings q) × (is_stream given.answer ≡ false) × (written ≡ answer_bytes terms req given.answer)
-AnsweredAs terms whole p req written readings q (Ok (Some how)) =
-    (given : Given terms whole p req readings q) × IsWatchEnd given.answer how × (written ≡ answer_bytes terms req given.answer)
+AnsweredAs terms whole p req written readings q (Ok end) =
+    (given : Given terms whole p req readings q) × ComesTo given.answer end × (written ≡ answer_bytes terms req given.answer)
 AnsweredAs terms whole p req written readings q (Err broken.Fault) =
     (given : Given terms whole p req readings q) × IsPrefix written (answer_bytes terms req given.answer)
 AnsweredAs terms whole p req written readings q (Err broken.Memory) =
@@ -70,26 +72,15 @@ pub record Answered (terms : Terms) (whole : Type 0) (p : Pass RevisionData) (re
 
 -- ---- what steps answer
 
--- a reply leaves no end of a watch
-abbrev pub by_reply : Result ⊤ Broken → Result (Option WatchEnd) Broken
-by_reply (Ok done) = Ok None
-by_reply (Err why) = Err why
+-- what was sent, with the end of a watch where it is one's
+abbrev pub sent_with : {A : Type 0} → (A → Option WatchEnd) → Result A Broken → Result (Option WatchEnd) Broken
+sent_with end (Ok done) = Ok (end done)
+sent_with end (Err why) = Err why
 
-abbrev pub by_stream : Result WatchEnd Broken → Result (Option WatchEnd) Broken
-by_stream (Ok how) = Ok (Some how)
-by_stream (Err why) = Err why
-
-abbrev pub by_loss : ℕ → ℕ → Result ⊤ Broken → Result (Option WatchEnd) Broken
-by_loss at floor (Ok done) = Ok (Some (watch_end.Lost at floor))
-by_loss at floor (Err why) = Err why
-
--- the same of a request that is answered by a reply, with no reading of the clock
-pub record Replied (terms : Terms) (whole : Type 0) (p : Pass RevisionData) (req : Req) (sent : Sent) (q : Pass RevisionData) (came : Result ⊤ Broken) : Type 0 where
-  pub written : List ℕ
-  pub sink : sent.written_new ≡ appended sent.written_old written
-  pub replied : AnsweredAs terms whole p req written [] q (by_reply came)
-  pub counts : Counts came sent
-  pub settled : OnOk came sent.settled_new
+-- a request is answered by a reply, with no reading of the clock
+abbrev pub Replied : Terms → Type 0 → Pass RevisionData → Req → Sent → Pass RevisionData → Result (Option WatchEnd) Broken → Type 0
+Replied terms whole p req sent q came =
+    (readings : Option (List Reading)) → Answered terms whole p req (record { readings_old = readings; readings_new = readings; sent = sent }) q came
 
 -- there was memory, so that this holds
 abbrev pub UnlessMemory : {A : Type 0} → Result A Broken → Type 0 → Type 0

@@ -3,7 +3,7 @@
 ghost use Rattle.std.specs.Prelude.{◌≡◌, ◌≤◌, None};
 ghost use Rattle.edge_io.specs.Sent.{sent_through};
 ghost use Rattle.up_api.specs.Settings.{AreInRange};
-ghost use Rattle.route_req.specs.Asks.{IsRoute, IsRefusal};
+ghost use Rattle.route_req.specs.Asks.{IsRoute};
 ghost use Rattle.sess_turns.specs.Streams.{outside_of};
 ghost use Rattle.sess_turns.specs.Terms.{terms_of};
 ghost use Rattle.sess_serve.specs.Serving.{Answered, UnlessMemory};
@@ -41,30 +41,10 @@ pub fn answer<C: Client, K: Sink, T: Clock>(
 {
     match route(alloc, req) {
         Ok(routed) => act(alloc, client, sink, clock, req, &routed, settings),
-        Err(fault) => refuse(alloc, client, sink, clock, req, fault, settings),
-    }
-}
-
-// A request that has no route.
-fn refuse<C: Client, K: Sink, T: Clock>(
-    alloc: Global,
-    client: &C,
-    sink: &mut K,
-    clock: &T,
-    req: &Req,
-    fault: RouteNo,
-    settings: &Settings,
-) -> Result<Option<WatchEnd>, Broken>
-    requires { IsRefusal req.now fault }
-    ensures { Answered (terms_of C.base C.mirror (C.facts client.now) settings.now) (C.whole client.now) (C.pass client.now) req.now
-        (outside_of T.readings clock.now clock.now (sent_through K.written K.settled K.faults sink.old sink.new)) (C.pass client.now) result }
-{
-    let _ = client;
-    let _ = clock;
-    let _ = settings;
-    match fault {
-        RouteNo::Memory => Err(Broken::Memory),
-        _ => by_reply(send_unrouted(alloc, sink, req.close, fault)),
+        Err(fault) => match fault {
+            RouteNo::Memory => Err(Broken::Memory),
+            _ => by_reply(send_unrouted(alloc, sink, req.close, fault)),
+        },
     }
 }
 
@@ -88,13 +68,13 @@ fn act<C: Client, K: Sink, T: Clock>(
     ensures kept { C.whole client.old → UnlessMemory result (C.whole client.new) }
 {
     match routed {
-        Routed::Write(ask) => by_reply(step_write(alloc, client, sink, req, ask)),
-        Routed::Get(ask) => by_reply(step_get(alloc, client, sink, req, ask)),
-        Routed::List(ask) => by_reply(step_list(alloc, client, sink, req, ask)),
+        Routed::Write(ask) => step_write(alloc, client, sink, req, ask),
+        Routed::Get(ask) => step_get(alloc, client, sink, req, ask),
+        Routed::List(ask) => step_list(alloc, client, sink, req, ask),
         Routed::Watch(ask) => step_watch(alloc, client, sink, clock, req, ask, settings),
-        Routed::Operate(ask) => by_reply(step_operate(alloc, client, sink, req, *ask)),
-        Routed::Transact(ask) => by_reply(step_transact(alloc, client, sink, req, ask)),
-        Routed::Describe(document) => by_reply(step_describe(client, sink, req, document)),
-        Routed::Metrics => by_reply(step_metrics(alloc, client, sink, req)),
+        Routed::Operate(ask) => step_operate(alloc, client, sink, req, *ask),
+        Routed::Transact(ask) => step_transact(alloc, client, sink, req, ask),
+        Routed::Describe(document) => step_describe(client, sink, req, document),
+        Routed::Metrics => step_metrics(alloc, client, sink, req),
     }
 }

@@ -8,10 +8,10 @@ ghost use Rattle.route_req.specs.Asks.{IsRoute};
 ghost use Rattle.route_req.specs.declared.routing.Routed.TheVariants as routed;
 ghost use Rattle.sess_turns.specs.Terms.{terms_of};
 ghost use Rattle.up_api.specs.declared.settings.Settings.{Settings};
-ghost use Rattle.sess_serve.specs.Answers.{readiness};
 ghost use Rattle.sess_serve.specs.Serving.{Replied, UnlessMemory};
 
-use client_api::{Client, Got, ListNo, Listed};
+use crate::watching::by_reply;
+use client_api::{Client, ListNo};
 use discovery::{Document, Probe};
 use edge_io::Sink;
 use http_read::Req;
@@ -20,6 +20,7 @@ use sess_reply::{
     Broken, form_of, send_described, send_got, send_listed, send_metered, send_operated,
     send_transacted, send_unready, send_written,
 };
+use sess_turns::WatchEnd;
 use std::alloc::Global;
 use up_store::{OpNo, Operate, Transaction, TxWriteNo, WriteAsk, WriteNo, Written};
 
@@ -37,13 +38,7 @@ fn is_told_transaction(answer: &Result<Vec<Written>, TxWriteNo>) -> bool
     !matches!(answer, Err(TxWriteNo::Memory))
 }
 
-fn is_told_get(answer: &Result<Got, ListNo>) -> bool
-    ensures { MatchBool result (IsToldRead answer.now) (answer.now ≡ Err ListNo.Memory) }
-{
-    !matches!(answer, Err(ListNo::Memory))
-}
-
-fn is_told_list(answer: &Result<Listed, ListNo>) -> bool
+fn is_told_read<T>(answer: &Result<T, ListNo>) -> bool
     ensures { MatchBool result (IsToldRead answer.now) (answer.now ≡ Err ListNo.Memory) }
 {
     !matches!(answer, Err(ListNo::Memory))
@@ -62,7 +57,7 @@ pub fn step_write<C: Client, K: Sink>(
     sink: &mut K,
     req: &Req,
     ask: &WriteAsk,
-) -> Result<(), Broken>
+) -> Result<Option<WatchEnd>, Broken>
     requires { IsRoute req.now (routed.Write ask.now) }
     ensures replied { (s : Settings) → Replied (terms_of C.base C.mirror (C.facts client.old) s) (C.whole client.old)
         (C.pass client.old) req.now (sent_through K.written K.settled K.faults sink.old sink.new) (C.pass client.new) result }
@@ -71,7 +66,7 @@ pub fn step_write<C: Client, K: Sink>(
 {
     let answer = client.write(ask);
     if is_told_write(&answer) {
-        send_written(alloc, sink, req.close, ask, &answer)
+        by_reply(send_written(alloc, sink, req.close, ask, &answer))
     } else {
         Err(Broken::Memory)
     }
@@ -84,7 +79,7 @@ pub fn step_transact<C: Client, K: Sink>(
     sink: &mut K,
     req: &Req,
     ask: &Transaction,
-) -> Result<(), Broken>
+) -> Result<Option<WatchEnd>, Broken>
     requires { IsRoute req.now (routed.Transact ask.now) }
     ensures replied { (s : Settings) → Replied (terms_of C.base C.mirror (C.facts client.old) s) (C.whole client.old)
         (C.pass client.old) req.now (sent_through K.written K.settled K.faults sink.old sink.new) (C.pass client.new) result }
@@ -93,7 +88,7 @@ pub fn step_transact<C: Client, K: Sink>(
 {
     let answer = client.transact(ask);
     if is_told_transaction(&answer) {
-        send_transacted(alloc, sink, req.close, ask, &answer)
+        by_reply(send_transacted(alloc, sink, req.close, ask, &answer))
     } else {
         Err(Broken::Memory)
     }
@@ -106,7 +101,7 @@ pub fn step_get<C: Client, K: Sink>(
     sink: &mut K,
     req: &Req,
     ask: &GetAsk,
-) -> Result<(), Broken>
+) -> Result<Option<WatchEnd>, Broken>
     requires { IsRoute req.now (routed.Get ask.now) }
     ensures replied { (s : Settings) → Replied (terms_of C.base C.mirror (C.facts client.old) s) (C.whole client.old)
         (C.pass client.old) req.now (sent_through K.written K.settled K.faults sink.old sink.new) (C.pass client.new) result }
@@ -114,8 +109,8 @@ pub fn step_get<C: Client, K: Sink>(
     ensures kept { C.whole client.old → UnlessMemory result (C.whole client.new) }
 {
     let answer = client.get(ask);
-    if is_told_get(&answer) {
-        send_got(alloc, sink, form_of(req), req.close, ask, &answer)
+    if is_told_read(&answer) {
+        by_reply(send_got(alloc, sink, form_of(req), req.close, ask, &answer))
     } else {
         Err(Broken::Memory)
     }
@@ -128,7 +123,7 @@ pub fn step_list<C: Client, K: Sink>(
     sink: &mut K,
     req: &Req,
     ask: &ListAsk,
-) -> Result<(), Broken>
+) -> Result<Option<WatchEnd>, Broken>
     requires { IsRoute req.now (routed.List ask.now) }
     ensures replied { (s : Settings) → Replied (terms_of C.base C.mirror (C.facts client.old) s) (C.whole client.old)
         (C.pass client.old) req.now (sent_through K.written K.settled K.faults sink.old sink.new) (C.pass client.new) result }
@@ -136,8 +131,8 @@ pub fn step_list<C: Client, K: Sink>(
     ensures kept { C.whole client.old → UnlessMemory result (C.whole client.new) }
 {
     let answer = client.list(ask);
-    if is_told_list(&answer) {
-        send_listed(alloc, sink, form_of(req), req.close, ask, &answer)
+    if is_told_read(&answer) {
+        by_reply(send_listed(alloc, sink, form_of(req), req.close, ask, &answer))
     } else {
         Err(Broken::Memory)
     }
@@ -150,7 +145,7 @@ pub fn step_operate<C: Client, K: Sink>(
     sink: &mut K,
     req: &Req,
     ask: Operate,
-) -> Result<(), Broken>
+) -> Result<Option<WatchEnd>, Broken>
     requires { IsRoute req.now (routed.Operate ask) }
     ensures replied { (s : Settings) → Replied (terms_of C.base C.mirror (C.facts client.old) s) (C.whole client.old)
         (C.pass client.old) req.now (sent_through K.written K.settled K.faults sink.old sink.new) (C.pass client.new) result }
@@ -159,7 +154,7 @@ pub fn step_operate<C: Client, K: Sink>(
 {
     let answer = client.operate(ask);
     if is_told_operation(answer) {
-        send_operated(alloc, sink, req.close, ask, answer)
+        by_reply(send_operated(alloc, sink, req.close, ask, answer))
     } else {
         Err(Broken::Memory)
     }
@@ -171,7 +166,7 @@ pub fn step_metrics<C: Client, K: Sink>(
     client: &mut C,
     sink: &mut K,
     req: &Req,
-) -> Result<(), Broken>
+) -> Result<Option<WatchEnd>, Broken>
     requires { IsRoute req.now routed.Metrics }
     ensures replied { (s : Settings) → Replied (terms_of C.base C.mirror (C.facts client.old) s) (C.whole client.old)
         (C.pass client.old) req.now (sent_through K.written K.settled K.faults sink.old sink.new) (C.pass client.new) result }
@@ -179,7 +174,7 @@ pub fn step_metrics<C: Client, K: Sink>(
     ensures kept { C.whole client.old → UnlessMemory result (C.whole client.new) }
 {
     match client.metrics() {
-        Ok(told) => send_metered(alloc, sink, req.close, &told),
+        Ok(told) => by_reply(send_metered(alloc, sink, req.close, &told)),
         Err(_) => Err(Broken::Memory),
     }
 }
@@ -190,26 +185,15 @@ pub fn step_describe<C: Client, K: Sink>(
     sink: &mut K,
     req: &Req,
     document: &Document,
-) -> Result<(), Broken>
+) -> Result<Option<WatchEnd>, Broken>
     requires { IsRoute req.now (routed.Describe document.now) }
     ensures { (s : Settings) → Replied (terms_of C.base C.mirror (C.facts client.now) s) (C.whole client.now)
         (C.pass client.now) req.now (sent_through K.written K.settled K.faults sink.old sink.new) (C.pass client.now) result }
 {
     match document {
-        Document::Probe(Probe::Readyz) => step_readiness(client, sink, req),
-        _ => send_described(sink, req.close, document),
-    }
-}
-
-// Whether the server is ready.
-fn step_readiness<C: Client, K: Sink>(client: &C, sink: &mut K, req: &Req) -> Result<(), Broken>
-    requires { IsRoute req.now (routed.Describe readiness) }
-    ensures { (s : Settings) → Replied (terms_of C.base C.mirror (C.facts client.now) s) (C.whole client.now)
-        (C.pass client.now) req.now (sent_through K.written K.settled K.faults sink.old sink.new) (C.pass client.now) result }
-{
-    if client.is_ready() {
-        send_described(sink, req.close, &Document::Probe(Probe::Readyz))
-    } else {
-        send_unready(sink, req.close)
+        Document::Probe(Probe::Readyz) if !client.is_ready() => {
+            by_reply(send_unready(sink, req.close))
+        }
+        _ => by_reply(send_described(sink, req.close, document)),
     }
 }

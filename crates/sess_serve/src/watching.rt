@@ -8,8 +8,7 @@ ghost use Rattle.route_req.specs.declared.routing.Routed.TheVariants as routed;
 ghost use Rattle.sess_turns.specs.Streams.{outside_of};
 ghost use Rattle.sess_turns.specs.Terms.{terms_of};
 ghost use Rattle.sess_serve.specs.Answers.{IsPlainOrUpgrade};
-ghost use Rattle.sess_serve.specs.Serving as serving;
-ghost use Rattle.sess_serve.specs.Serving.{Answered, UnlessMemory};
+ghost use Rattle.sess_serve.specs.Serving.{Answered, UnlessMemory, sent_with};
 ghost use Rattle.sess_serve.specs.Texts as texts;
 
 use crate::view::{is_plain_or_upgrade, view_of};
@@ -24,7 +23,7 @@ use watch_rules::WatchAsk;
 
 /// How a request came out that was answered by a reply.
 pub fn by_reply(sent: Result<(), Broken>) -> Result<Option<WatchEnd>, Broken>
-    ensures { result ≡ serving.by_reply sent }
+    ensures { result ≡ sent_with (λ done. None) sent }
 {
     match sent {
         Ok(()) => Ok(None),
@@ -34,7 +33,7 @@ pub fn by_reply(sent: Result<(), Broken>) -> Result<Option<WatchEnd>, Broken>
 
 /// How a request came out that was answered by a stream.
 fn by_stream(ended: Result<WatchEnd, Broken>) -> Result<Option<WatchEnd>, Broken>
-    ensures { result ≡ serving.by_stream ended }
+    ensures { result ≡ sent_with Some ended }
 {
     match ended {
         Ok(how) => Ok(Some(how)),
@@ -44,7 +43,7 @@ fn by_stream(ended: Result<WatchEnd, Broken>) -> Result<Option<WatchEnd>, Broken
 
 /// How it came out where the stream told that the start is gone.
 fn by_loss(sent: Result<(), Broken>, at: u64, floor: u64) -> Result<Option<WatchEnd>, Broken>
-    ensures { result ≡ serving.by_loss at floor sent }
+    ensures { result ≡ sent_with (λ done. Some (WatchEnd.Lost at floor)) sent }
 {
     match sent {
         Ok(()) => Ok(Some(WatchEnd::Lost { at, floor })),

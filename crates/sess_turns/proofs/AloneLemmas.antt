@@ -1,11 +1,11 @@
 -- A log that nobody else holds: reads that follow each other change nothing of it.
-use Rattle.std.proofs.Common.{◌≡◌, ℕ, [], ◌++◌, refl, ap, sym, subst, ◌∙◌, append_assoc, append-nil, Some, None}
+use Rattle.std.proofs.Common.{◌≡◌, ℕ, [], ◌++◌, refl, ap, sym, subst, ◌∙◌, append_assoc, append-nil, arith}
 use Rattle.std.specs.Prelude.{All}
 use Rattle.std.proofs.lemmas.List.Elements.{All-append, All-nil}
 use Rattle.rev_front.specs.Passes.{Pass, Whole, end_from}
 use Rattle.rev_log.specs.Changes.{RevisionData}
 use Rattle.client_api.specs.Alone.{IsSoleRead}
-use Rattle.sess_turns.specs.Turns.{Finish, timed_out, stopped, lost, spent, broken, AloneFinish}
+use Rattle.sess_turns.specs.Turns.{Finish, AloneFinish}
 
 pub sole-same : (p q : Pass RevisionData) → q ≡ p → IsSoleRead p q
 sole-same p q e =
@@ -29,9 +29,7 @@ sole-join p m q first second =
 
 -- after turns that only read, a finish leaves what it leaves
 pub finish-join : (p m q : Pass RevisionData) (finish : Finish) → IsSoleRead p m → AloneFinish m finish q → AloneFinish p finish q
-finish-join p m q (timed_out now) first last = sole-join p m q first last
-finish-join p m q (stopped now) first last = sole-join p m q first last
-finish-join p m q (lost turn at floor) first last = sole-join p m q first last
-finish-join p m q spent first last = sole-join p m q first last
-finish-join p m q (broken None) first last = sole-join p m q first last
-finish-join p m q (broken (Some now)) first last = last ∙ ap (λ (w : Whole RevisionData). w.log) first.same
+finish-join p m q finish first last =
+    let reads : IsSoleRead m q → IsSoleRead p q = sole-join p m q first in
+    let same : m.seen ≡ p.seen = ap (λ (w : Whole RevisionData). w.log) first.same in
+    grind (arith, reads, same)

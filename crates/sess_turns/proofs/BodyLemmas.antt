@@ -1,5 +1,5 @@
 -- The lines of a watch, turn by turn, are those of a lawful body.
-use Rattle.std.proofs.Common.{◌≡◌, ℕ, ◌≤◌, Bool, true, false, ◌&&◌, List, [], ◌∷◌, ◌++◌, refl, sym, subst, ◌∙◌, append_assoc, append-nil, Some, None}
+use Rattle.std.proofs.Common.{◌≡◌, ℕ, ◌≤◌, Bool, true, false, ◌&&◌, List, [], ◌∷◌, ◌++◌, refl, sym, subst, ◌∙◌, append_assoc, append-nil, arith, Some, None}
 use Rattle.std.proofs.lemmas.Bool.{leb-true}
 use Rattle.std.specs.Prelude.{IsTrue, if◌then◌else◌}
 use Rattle.edge_io.specs.declared.clock.Reading.{Reading}
@@ -23,12 +23,10 @@ use Rattle.sess_turns.specs.Turns.{Turn, Turns, IsWatchTurns, first_progress, wa
 use Rattle.sess_turns.specs.Laws.{TurnsAreBodies}
 
 and-first : (a b : Bool) → (a && b) ≡ true → a ≡ true
-and-first true b e = refl
-and-first false b e = e
+and-first a b e = grind arith
 
 and-second : (a b : Bool) → (a && b) ≡ true → b ≡ true
-and-second true b e = e
-and-second false b e = absurd (cc e)
+and-second a b e = grind arith
 
 module _ (terms : Terms) (ask : WatchAsk) (at : ℕ) where
   -- lines that tell a body which goes on, up to a position

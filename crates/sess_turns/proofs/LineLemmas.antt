@@ -1,5 +1,5 @@
 -- Lines that are written one after the other.
-use Rattle.std.proofs.Common.{◌≡◌, ℕ, ◌<◌, ◌≤◌, Bool, true, false, List, [], ◌∷◌, ◌++◌, length, take, drop, map, get_or, suc, refl, ap, sym, ◌∙◌, append-nil, take_all, Err}
+use Rattle.std.proofs.Common.{◌≡◌, ℕ, ◌<◌, ◌≤◌, Bool, true, false, List, [], ◌∷◌, ◌++◌, length, take, drop, map, get_or, suc, ap, sym, ◌∙◌, append-nil, take_all, arith, Err}
 use Rattle.std.specs.Prelude.{Option, Result, IsErrAnd, if◌then◌else◌}
 use Rattle.std.specs.List.{flat_map}
 use Rattle.std.proofs.lemmas.Grind.{flat_map-append}
@@ -73,11 +73,9 @@ opening-frames view ask begun at rows is =
 
 -- a text that is asked for
 pub asked-is : (text : List ℕ) (asked : Bool) → asked ≡ true → text ≡ (if asked then text else [])
-asked-is text true e = refl
-asked-is text false e = absurd (cc e)
+asked-is text asked e = grind arith
 
 -- the bookmark of a quiet turn that is due
 pub due-frames : (view : View) (resource : Resource) (upto : ℕ) (due : Bool) → due ≡ true
     → frame_of view resource (Bookmark upto) ++ [] ≡ frames_of view resource (if due then Bookmark upto ∷ [] else [])
-due-frames view resource upto true e = refl
-due-frames view resource upto false e = absurd (cc e)
+due-frames view resource upto due e = grind arith

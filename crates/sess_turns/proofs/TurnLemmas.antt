@@ -120,8 +120,7 @@ some-same a b e = cc e
 
 -- an answer that passes an error on
 err-is : (answer : Result WatchEnd Broken) (why : Broken) → IsErrAnd answer (λ e. e ≡ why) → Err why ≡ answer
-err-is (Ok how) why failed = absurd failed
-err-is (Err other) why failed = ap Err (sym failed)
+err-is answer why failed = grind arith
 
 -- a turn of a client whose facts are those that the watch began with, and who knows the log whole where it did then
 module _ (terms same : Terms) (is : same ≡ terms) (view : View) (ask : WatchAsk) (start : Reading) (whole later : Type 0) (keeps : whole → later)

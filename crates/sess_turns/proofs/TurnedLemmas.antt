@@ -1,10 +1,9 @@
 -- What one turn of a watch comes to: it goes on, its time is over, it is lost, or it is broken off.
 use Rattle.std.proofs.Common.{◌≡◌, ℕ, ◌<◌, Bool, List, [], ◌∷◌, ◌++◌, refl, ap, sym, subst, ◌∙◌, append-nil, arith, Option, Some, None, Result, Ok, Err}
-use Rattle.std.specs.Prelude.{IfOk, IsErrAnd, is_some, if◌then◌else◌}
+use Rattle.std.specs.Prelude.{IfOk, is_some, if◌then◌else◌}
 use Rattle.edge_io.specs.declared.clock.Reading.{Reading}
 use Rattle.edge_io.specs.Told.{AppendedSome, Noted}
 use Rattle.edge_io.proofs.ToldLemmas.{AppendedSome-nil}
-use Rattle.edge_io.specs.Sent.{Sent}
 use Rattle.rev_front.specs.Passes.{Pass}
 use Rattle.rev_log.specs.Changes.{RevisionData}
 use Rattle.watch_rules.specs.declared.ask.WatchAsk.{WatchAsk}
@@ -14,31 +13,17 @@ use Rattle.client_api.specs.declared.answers.Took.TheVariants.{Events, Quiet, Lo
 use Rattle.client_api.specs.Alone.{IsSoleRead}
 use Rattle.client_api.specs.Facts.{IsOnward}
 use Rattle.client_api.specs.Laws.{position_after, IsLasting}
-use Rattle.sess_reply.specs.Sending.{Emits, Sends}
+use Rattle.sess_reply.specs.Sending.{Sends}
 use Rattle.sess_reply.specs.declared.broken.Broken.{Broken}
 use Rattle.sess_reply.specs.declared.broken.Broken.TheVariants.{Memory}
 use Rattle.sess_reply.proofs.SendLemmas.{sends-as, sends-error}
 use Rattle.sess_turns.specs.declared.ends.WatchEnd.{WatchEnd}
 use Rattle.sess_turns.specs.declared.ends.WatchEnd.TheVariants as ends
 use Rattle.sess_turns.specs.declared.view.View.{View}
-use Rattle.up_api.specs.declared.settings.Settings.{Settings}
 use Rattle.sess_turns.specs.Terms.{Terms}
 use Rattle.sess_turns.specs.Turns.{Turn, Finish, lost, broken, Progress, IsStreamTurn, MayGoOn, Finishes, IsNumber, AloneFinish, after_turn, mark_after, told_lines, lines_of_turn, last_lines, last_readings, end_of_watch, most_turns}
 use Rattle.sess_turns.specs.Streams.{Outside, Names, frames_of, framed, end_text}
 use Rattle.sess_turns.specs.Steps.{Stops, IsTurned, Tells}
-
--- what the client gave isn't told whole
-pub tells-broken : (A : Type 0) (settings : Settings) (view : View) (ask : WatchAsk) (position mark now : ℕ) (took : Took) → IsLasting took →
-    (answer : Result (Option WatchEnd) Broken) (why : Broken) (to later : ℕ) (sent : Sent) (text : List ℕ) → IsErrAnd answer (λ e. e ≡ why) →
-    text ≡ frames_of view ask.selection.resource (told_lines settings ask position mark now took) → Emits {A = A} (Err why) text sent →
-    Tells settings view ask position mark now took answer to later sent
-tells-broken A settings view ask position mark now (Lost at floor) lasts answer why to later sent text failed same p = absurd lasts
-tells-broken A settings view ask position mark now (Events from upto lines) lasts (Ok ended) why to later sent text failed same p = absurd failed
-tells-broken A settings view ask position mark now (Events from upto lines) lasts (Err other) why to later sent text failed same p =
-    (tt, sends-as {A = Option WatchEnd} (Err other) text _ sent same (sends-error A {B = Option WatchEnd} (Err other) why text sent failed p))
-tells-broken A settings view ask position mark now (Quiet upto reached) lasts (Ok ended) why to later sent text failed same p = absurd failed
-tells-broken A settings view ask position mark now (Quiet upto reached) lasts (Err other) why to later sent text failed same p =
-    (tt, sends-as {A = Option WatchEnd} (Err other) text _ sent same (sends-error A {B = Option WatchEnd} (Err other) why text sent failed p))
 
 module _ (terms : Terms) (view : View) (ask : WatchAsk) (start : Reading) (whole : Type 0) (s : Progress) (outside : Outside) where
   -- the stream is ended where the watch stands

@@ -7,7 +7,6 @@ use Rattle.rev_front.specs.Passes.{Pass}
 use Rattle.rev_log.specs.Changes.{RevisionData}
 use Rattle.watch_rules.specs.declared.ask.WatchAsk.{WatchAsk}
 use Rattle.client_api.specs.Alone.{IsSoleRead}
-use Rattle.client_api.specs.Answers.{BegunData}
 use Rattle.client_api.specs.declared.answers.Took.{Took}
 use Rattle.client_api.specs.declared.answers.Took.TheVariants.{Lost}
 use Rattle.client_api.specs.Laws.{IsLasting, position_after}
@@ -19,8 +18,8 @@ use Rattle.sess_turns.specs.declared.ends.WatchEnd.TheVariants as ends
 use Rattle.sess_turns.specs.declared.view.View.{View}
 use Rattle.up_api.specs.declared.settings.Settings.{Settings}
 use Rattle.sess_turns.specs.Terms.{Terms}
-use Rattle.sess_turns.specs.Turns.{Turn, Turns, Finish, Progress, IsStreamTurn, Follow, Finishes, IsNumber, most_turns, IsWatchTurns, watch_lines, AloneFinish, after_turn, mark_after, told_lines, lines_of_turn, lines_from, last_lines, turn_readings, end_of_watch}
-use Rattle.sess_turns.specs.Streams.{Outside, Names, framed, frames_of, end_text, stream_text}
+use Rattle.sess_turns.specs.Turns.{Turn, Finish, Progress, IsStreamTurn, Follow, Finishes, IsNumber, most_turns, AloneFinish, after_turn, mark_after, told_lines, lines_of_turn, lines_from, last_lines, turn_readings, end_of_watch}
+use Rattle.sess_turns.specs.Streams.{Outside, Names, framed, frames_of, end_text}
 
 -- one turn, after which the watch goes on
 pub record Lasts (terms : Terms) (view : View) (ask : WatchAsk) (start : Reading) (whole : Type 0) (s : Progress) (now : Progress) (outside : Outside) : Type 0 where
@@ -65,14 +64,3 @@ Tells settings view ask position mark now (Lost at floor) answer to later sent =
 Tells settings view ask position mark now took answer to later sent =
     IfOk answer (λ ended. (ended ≡ None) × (to ≡ position_after took position) × (later ≡ mark_after settings ask mark now took))
     × Sends answer (frames_of view ask.selection.resource (told_lines settings ask position mark now took)) sent
-
--- the stream after the first reading: as of the whole stream, but for that reading
-pub record Goes (terms : Terms) (view : View) (ask : WatchAsk) (begun : BegunData) (start : Reading) (whole : Type 0) (p : Pass RevisionData) (outside : Outside)
-    (answer : Result WatchEnd Broken) (q : Pass RevisionData) : Type 0 where
-  pub watch : Turns
-  pub begins : (watch.begun ≡ begun) × (watch.start ≡ start)
-  pub turns : IsWatchTurns terms ask p watch q
-  pub ends : Names answer watch.finish
-  pub readings : Noted outside.readings_old outside.readings_new (turn_readings watch.turns watch.finish)
-  pub sends : Sends answer (stream_text view ask.selection.resource (watch_lines terms ask p watch) (is_some (end_of_watch watch.finish))) outside.sent
-  pub sole : whole → AloneFinish p watch.finish q

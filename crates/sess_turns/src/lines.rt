@@ -1,6 +1,6 @@
 //! The lines of a stream, written in their frames.
 
-ghost use Rattle.std.specs.Prelude.{◌≡◌, ℕ, decimal, map};
+ghost use Rattle.std.specs.Prelude.{map};
 ghost use Rattle.edge_io.specs.Sent.{sent_through};
 ghost use Rattle.watch_rules.specs.Bodies.{Told, initial_lines, opening_lines};
 ghost use Rattle.sess_reply.specs.Sending.{Emits};
@@ -114,20 +114,6 @@ pub(crate) fn lost<K: Sink>(
     let mut floor_buffer = Buffer::new();
     let asked_digits = asked_buffer.format(at).as_bytes();
     let floor_digits = floor_buffer.format(floor).as_bytes();
-    expired(sink, framing, asked_digits, floor_digits)
-}
-
-// The same, around the digits of the two revisions.
-fn expired<'a, K: Sink>(
-    sink: &mut K,
-    framing: &Framing,
-    asked_digits: &'a [u8],
-    floor_digits: &'a [u8],
-) -> Result<(), Broken>
-    ensures { (at floor : ℕ) → asked_digits.now ≡ decimal at → floor_digits.now ≡ decimal floor →
-        Emits result (framed framing.now (expired_line at floor))
-        (sent_through K.written K.settled K.faults sink.old sink.new) }
-{
     let object = expired_pieces(asked_digits, floor_digits);
     event(sink, framing, EventType::Error, &object)
 }

@@ -1,13 +1,14 @@
 //! The whole stream of a watch.
 
-ghost use Rattle.std.specs.Prelude.{◌≡◌, ◌≢◌, ◌≤◌, ◌++◌, Some, None, Err};
+ghost use Rattle.std.specs.Prelude.{◌≡◌, ◌≢◌, ◌≤◌, List, [], ◌∷◌, ◌++◌, Option, Some, None, Err};
 ghost use Rattle.edge_io.specs.Sent.{sent_through};
+ghost use Rattle.edge_io.specs.Told.{Noted};
+ghost use Rattle.edge_io.specs.declared.clock.Reading.{Reading as ReadingData};
 ghost use Rattle.up_api.specs.Settings.{AreInRange};
 ghost use Rattle.sess_turns.specs.Terms.{terms_of};
 ghost use Rattle.watch_rules.specs.Bodies.{opening_lines};
 ghost use Rattle.sess_reply.specs.Sending.{Sends};
 ghost use Rattle.sess_turns.specs.Streams.{IsStreamed, outside_of, gone_text, head_text, frames_of};
-ghost use Rattle.sess_turns.specs.Steps.{Goes};
 
 use crate::ends::WatchEnd;
 use crate::frames::{begin, end};
@@ -48,7 +49,7 @@ pub fn serve_stream<C: Client, K: Sink, T: Clock>(
     answer
 }
 
-// The stream after the first reading of the clock.
+// The stream after the first reading of the clock, which was noted.
 fn stream<C: Client, K: Sink, T: Clock>(
     client: &mut C,
     sink: &mut K,
@@ -62,9 +63,10 @@ fn stream<C: Client, K: Sink, T: Clock>(
     requires watching { (C.facts client.old).watching ≡ Some (record { selection = ask.now.selection; position = begun.now.at }) }
     requires settings { AreInRange settings.now }
     requires heard { T.last clock.old ≤ (C.facts client.old).heard }
-    ensures goes { Goes (terms_of C.base C.mirror (C.facts client.old) settings.now) view.now ask.now begun.now start (C.whole client.old)
-        (C.pass client.old)
-        (outside_of T.readings clock.old clock.new (sent_through K.written K.settled K.faults sink.old sink.new)) result (C.pass client.new) }
+    ensures streamed { (readings : Option (List ReadingData)) → Noted readings (T.readings clock.old) (start ∷ []) →
+        IsStreamed (terms_of C.base C.mirror (C.facts client.old) settings.now) view.now ask.now begun.now (C.whole client.old) (C.pass client.old)
+        (record { readings_old = readings; readings_new = T.readings clock.new; sent = sent_through K.written K.settled K.faults sink.old sink.new })
+        result (C.pass client.new) }
     ensures same { C.facts client.new ≡ record (C.facts client.old) { watching = (C.facts client.new).watching; heard = (C.facts client.new).heard } }
     ensures heard { T.last clock.new ≤ (C.facts client.new).heard }
     ensures kept { C.whole client.old → result ≢ Err Broken.Memory → C.whole client.new }

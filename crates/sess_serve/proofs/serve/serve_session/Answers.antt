@@ -1,6 +1,6 @@
 use Rattle.std.proofs.Common.{◌∙◌, ◌<◌, ◌≡◌, [], None, ap, arith, refl}
 use Rattle.http_read.specs.Readers.{ReaderState}
-use Rattle.sess_serve.proofs.Session.{loop-start, loop-next, loop-ends, loop-full, none-begun, terms-same, rose-from, facts-next, facts-idle}
+use Rattle.sess_serve.proofs.Session.{loop-start, loop-next, loop-ends, loop-full, none-begun, terms-same, facts-next, facts-idle}
 use Rattle.sess_serve.proofs.Ending.{read-map, write-map}
 use Rattle.sess_serve.proofs.serve.serve_session.Goals as goal
 
@@ -29,7 +29,8 @@ loop-answered-preserved g c =
     let i = c.loop-answered.invariant in
     let e = c.in-None.ensures in
     record {
-      turns = loop-next _ _ (terms-same _ _ _ (g.C.Client.facts c.args.client.now) _ _ i.facts) _ _ i.kept _ _ _ _ _ _ _ _ c.loop-answered.answered _ _ i.turns e.round;
+      turns = loop-next _ _ (terms-same _ _ _ (g.C.Client.facts c.args.client.now) _ _ _ i.facts) _ _ i.kept _ _ _ _ _ _ _ _ c.loop-answered.answered _ _
+          i.turns e.round;
       facts = facts-next (g.C.Client.facts c.args.client.now) _ _ i.facts e.facts;
       heard = λ h. e.heard (i.heard h);
       kept = λ w. e.kept (i.kept w);
@@ -44,8 +45,9 @@ pub returns-in-Some-clause-session : goal.returns-in-Some-clause-session
 returns-in-Some-clause-session g c =
     let i = c.loop-answered.invariant in
     let room : c.loop-answered.answered < c.args.settings.now.requests = omega arith in
-    loop-ends _ _ (terms-same _ _ _ (g.C.Client.facts c.args.client.now) _ _ i.facts) _ _ i.kept _ _ _ _ _ _ _ _ c.loop-answered.answered _ _ i.turns _ _ c.in-Some.end
-    (rose-from _ _ _ i.quiet_source) (rose-from _ _ _ i.quiet_sink) room c.in-Some.ensures.round
+    loop-ends _ _ (terms-same _ _ _ (g.C.Client.facts c.args.client.now) _ _ _ i.facts) _ _ i.kept _ _ _ _ _ _ _ _ c.loop-answered.answered _ _ i.turns
+    c.in-Some.end room
+    (rw (i.quiet_source, i.quiet_sink) at c.in-Some.ensures.round)
 
 pub returns-in-Some-clause-facts : goal.returns-in-Some-clause-facts
 returns-in-Some-clause-facts g c = facts-next (g.C.Client.facts c.args.client.now) _ _ c.loop-answered.invariant.facts c.in-Some.ensures.facts

@@ -1,14 +1,16 @@
-use Rattle.sess_serve.proofs.Ending.{refusal-stops, stops-cut, stops-fault, stops-memory}
+use Rattle.std.proofs.Common.{refl}
+use Rattle.sess_serve.proofs.Ending.{refusal-stops, stops-silent}
+use Rattle.sess_serve.specs.declared.ends.SessionEnd.TheVariants.{CutShort, ReadFault, Memory}
 use Rattle.sess_serve.proofs.serve.stop.Goals as goal
 
 pub returns-in-CutShort : goal.returns-in-CutShort
-returns-in-CutShort g c = stops-cut c.args.fault _ _ _ c.in-CutShort.is
+returns-in-CutShort g c = stops-silent c.args.fault _ CutShort _ _ _ c.in-CutShort.is (refl, refl) refl
 
 pub returns-in-ReadFault : goal.returns-in-ReadFault
-returns-in-ReadFault g c = stops-fault c.args.fault _ _ _ c.in-ReadFault.is
+returns-in-ReadFault g c = stops-silent c.args.fault _ ReadFault _ _ _ c.in-ReadFault.is (refl, refl) refl
 
 pub returns-in-Memory : goal.returns-in-Memory
-returns-in-Memory g c = stops-memory c.args.fault _ _ _ c.in-Memory.is
+returns-in-Memory g c = stops-silent c.args.fault _ Memory _ _ _ c.in-Memory.is (refl, refl) refl
 
 pub returns-in_default : goal.returns-in_default
 returns-in_default g c =

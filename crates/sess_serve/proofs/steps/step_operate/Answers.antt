@@ -6,13 +6,14 @@ use Rattle.sess_serve.proofs.steps.step_operate.Goals as goal
 pub returns-then-is_told_operation-clause-replied : goal.returns-then-is_told_operation-clause-replied
 returns-then-is_told_operation-clause-replied g c = λ s.
     let told = rw c.if-is_told_operation.true at c.is_told_operation.ensures in
-    sends _ _ _ _ _ _ c.send_operated.result (operated c.args.ask c.operate-answer.result) c.requires (told, c.operate-answer.ensures.answer) c.operate-answer.ensures.onward c.operate-answer.ensures.sole
+    sends _ _ _ _ _ _ c.by_reply.result c.send_operated.result c.by_reply.ensures (operated c.args.ask c.operate-answer.result) c.requires
+    (told, c.operate-answer.ensures.answer) c.operate-answer.ensures.onward c.operate-answer.ensures.sole
     c.send_operated.ensures
 
 pub returns-then-is_told_operation-clause-kept : goal.returns-then-is_told_operation-clause-kept
 returns-then-is_told_operation-clause-kept g c = λ whole.
     let told = rw c.if-is_told_operation.true at c.is_told_operation.ensures in
-    unless-memory c.send_operated.result (c.operate-answer.ensures.kept whole told)
+    unless-memory c.by_reply.result (c.operate-answer.ensures.kept whole told)
 
 pub returns-else-is_told_operation-clause-replied : goal.returns-else-is_told_operation-clause-replied
 returns-else-is_told_operation-clause-replied g c = λ s.

@@ -6,13 +6,14 @@ use Rattle.sess_serve.proofs.steps.step_write.Goals as goal
 pub returns-then-is_told_write-clause-replied : goal.returns-then-is_told_write-clause-replied
 returns-then-is_told_write-clause-replied g c = λ s.
     let told = rw c.if-is_told_write.true at c.is_told_write.ensures in
-    sends _ _ _ _ _ _ c.send_written.result (wrote c.args.ask.now c.write-answer.result) c.requires (told, c.write-answer.ensures.answer) c.write-answer.ensures.onward c.write-answer.ensures.sole
+    sends _ _ _ _ _ _ c.by_reply.result c.send_written.result c.by_reply.ensures (wrote c.args.ask.now c.write-answer.result) c.requires
+    (told, c.write-answer.ensures.answer) c.write-answer.ensures.onward c.write-answer.ensures.sole
     c.send_written.ensures
 
 pub returns-then-is_told_write-clause-kept : goal.returns-then-is_told_write-clause-kept
 returns-then-is_told_write-clause-kept g c = λ whole.
     let told = rw c.if-is_told_write.true at c.is_told_write.ensures in
-    unless-memory c.send_written.result (c.write-answer.ensures.kept whole told)
+    unless-memory c.by_reply.result (c.write-answer.ensures.kept whole told)
 
 pub returns-clause-replied : goal.returns-clause-replied
 returns-clause-replied g c = λ s.

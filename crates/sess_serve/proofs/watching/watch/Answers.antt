@@ -1,9 +1,10 @@
-use Rattle.std.proofs.Common.{refl, ap}
+use Rattle.std.proofs.Common.{refl, ap, inl}
 use Rattle.client_api.specs.declared.answers.ListNo.TheVariants as list_no
 use Rattle.sess_reply.specs.Replies.{unwatched}
 use Rattle.sess_reply.proofs.SendLemmas.{sends-as}
 use Rattle.sess_turns.specs.Streams.{gone_text}
-use Rattle.sess_serve.proofs.Replying.{sends, lacks-all, answers-by-reply, answers-by-loss, answers-by-stream, stream-kept, unless-memory, facts-unwatched, facts-watched, terms-watching}
+use Rattle.sess_serve.proofs.Session.{terms-same}
+use Rattle.sess_serve.proofs.Replying.{sends, lacks, answers-by-loss, answers-by-stream, stream-kept, unless-memory, facts-unwatched, facts-watched}
 use Rattle.sess_serve.proofs.WatchLemmas.{turns-onward, stream-under}
 use Rattle.sess_serve.proofs.watching.watch.Goals as goal
 
@@ -11,7 +12,8 @@ pub returns-in-Ok-clause-answered : goal.returns-in-Ok-clause-answered
 returns-in-Ok-clause-answered g c =
     let e = c.in-Ok.ensures in
     let str = stream-under _ _ c.args.view.now c.args.ask.now _ _ (g.C.Client.whole c.args.client.now) _ _ c.serve_stream.result _
-    (terms-watching g.C.Client.base g.C.Client.mirror c.args.settings.now (g.C.Client.facts c.args.client.now) _ _ e.facts) (λ w. e.kept w tt) c.serve_stream.ensures.streamed in
+    (terms-same g.C.Client.base g.C.Client.mirror c.args.settings.now (g.C.Client.facts c.args.client.now) _ _ _ e.facts) (λ w. e.kept w tt)
+    c.serve_stream.ensures.streamed in
     answers-by-stream _ _ _ _ _ _ _ c.args.ask.now _ c.args.view.now c.serve_stream.result c.by_stream.result c.by_stream.ensures c.requires.view c.requires.route c.requires.plain
     e.answer e.onward (turns-onward _ _ _ _ _ str.turns) e.sole str
 
@@ -26,7 +28,8 @@ pub returns-in-Err-Expired-clause-answered : goal.returns-in-Err-Expired-clause-
 returns-in-Err-Expired-clause-answered g c =
     let is = c.in-Err-Expired.field-0-is in
     let e = c.in-Err-Expired.ensures in
-    answers-by-loss _ _ _ _ _ _ c.args.ask.now c.in-Err-Expired.asked c.in-Err-Expired.floor c.serve_gone.result c.by_loss.result refl c.by_loss.ensures c.requires.route c.requires.plain
+    answers-by-loss _ _ _ _ _ _ _ c.args.ask.now c.in-Err-Expired.asked c.in-Err-Expired.floor c.serve_gone.result c.by_loss.result c.by_loss.ensures
+    c.requires.route c.requires.plain
     (rw is at e.answer) e.onward (λ w. rw is at (e.sole w))
     (sends-as c.serve_gone.result _ _ _ (ap (λ v. gone_text v.framing c.in-Err-Expired.asked c.in-Err-Expired.floor) c.requires.view) c.serve_gone.ensures)
 
@@ -42,9 +45,9 @@ pub returns-in-Err-TooLarge-clause-answered : goal.returns-in-Err-TooLarge-claus
 returns-in-Err-TooLarge-clause-answered g c =
     let is = c.in-Err-TooLarge.field-0-is in
     let e = c.in-Err-TooLarge.ensures in
-    answers-by-reply _ _ _ _ _ _ c.send_unwatched.result c.by_reply.result refl c.by_reply.ensures
-    (sends _ _ _ _ _ _ c.send_unwatched.result (unwatched c.args.ask.now (list_no.TooLarge c.in-Err-TooLarge.asked c.in-Err-TooLarge.current)) (c.requires.route, c.requires.plain)
-    (rw is at e.answer) e.onward (λ w. rw is at (e.sole w)) c.send_unwatched.ensures)
+    sends _ _ _ _ _ _ c.by_reply.result c.send_unwatched.result c.by_reply.ensures
+    (unwatched c.args.ask.now (list_no.TooLarge c.in-Err-TooLarge.asked c.in-Err-TooLarge.current)) (c.requires.route, c.requires.plain)
+    (rw is at e.answer) e.onward (λ w. rw is at (e.sole w)) c.send_unwatched.ensures _
 
 pub returns-in-Err-TooLarge-clause-facts : goal.returns-in-Err-TooLarge-clause-facts
 returns-in-Err-TooLarge-clause-facts g c = facts-unwatched _ _ c.requires.idle c.in-Err-TooLarge.ensures.facts
@@ -64,7 +67,7 @@ pub returns-in-Err-Memory-clause-answered : goal.returns-in-Err-Memory-clause-an
 returns-in-Err-Memory-clause-answered g c =
     let is = c.in-Err-Memory.field-0-is in
     let e = c.in-Err-Memory.ensures in
-    lacks-all _ _ _ _ _ _ refl refl refl e.onward (λ w. rw is at (e.sole w))
+    lacks _ _ _ _ _ _ refl refl e.onward (λ w. inl (rw is at (e.sole w))) _
 
 pub returns-in-Err-Memory-clause-facts : goal.returns-in-Err-Memory-clause-facts
 returns-in-Err-Memory-clause-facts g c = facts-unwatched _ _ c.requires.idle c.in-Err-Memory.ensures.facts
