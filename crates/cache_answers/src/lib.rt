@@ -2,13 +2,11 @@
 //! watch; of what a watch is told its turn; and refusals.
 #![tactic(auto)]
 
-mod pairs;
 mod reads;
 mod starts;
 mod turns;
 mod walks;
 
-pub use pairs::both;
-pub use reads::{found, listed, revision_alone, snapshot_of};
+pub use reads::{found, listed, revision_alone};
 pub use starts::{bare, opened, unreached};
 pub use turns::took;

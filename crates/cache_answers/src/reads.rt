@@ -1,7 +1,7 @@
 //! What reads answer, from the objects of a resource at a revision.
 
-ghost use Rattle.std.specs.Prelude.{◌≡◌, ℕ, List, None, IfOk, IsTrue, length, map};
-ghost use Rattle.kube_meta.specs.Rows.{RowData, AreRising, behind};
+ghost use Rattle.std.specs.Prelude.{◌≡◌, ℕ, List, None, IfOk, IsTrue, length};
+ghost use Rattle.kube_meta.specs.Rows.{RowData, behind};
 ghost use Rattle.list_rules.specs.Pages.{page_of, next_of};
 ghost use Rattle.select_all.specs.Listings.{listing};
 ghost use Rattle.client_api.specs.Lists.{page_at};
@@ -9,10 +9,9 @@ ghost use Rattle.cache_answers.specs.Reads.{IsFound, revision_alone};
 
 use crate::walks::{first, in_question, is_unrestricted, left};
 use client_api::{Got, Items, ListNo, Listed, page_before};
-use encode_once::Shown;
-use kube_meta::{Key, Memory, Row};
+use kube_meta::{Key, Memory};
 use list_rules::ListAsk;
-use obj_tree::{Snapshot, Tree};
+use obj_tree::Snapshot;
 use select_all::Meaning;
 use std::alloc::Global;
 use std::sync::Arc;
@@ -87,25 +86,4 @@ fn picked(alloc: Global, ask: &ListAsk, rev: u64, state: &Snapshot) -> Result<Li
     let items = first(alloc, selection, ask.limit, &mut rows)?;
     let left = left(selection, rows);
     page_before(alloc, ask, rev, items, left)
-}
-
-/// The objects of rows in the order of their keys.
-pub fn snapshot_of(alloc: Global, rows: Vec<Row>) -> Result<Snapshot, Memory>
-    requires { AreRising rows.items }
-    ensures { IfOk result (λ snapshot. snapshot ≡ rows.items) }
-{
-    let shown = all_shown(alloc, rows)?;
-    let tree = Tree::of_rows(alloc, shown)?;
-    Ok(tree.into_snapshot())
-}
-
-// The rows, to be shared.
-fn all_shown(alloc: Global, rows: Vec<Row>) -> Result<Vec<Arc<Shown>>, Memory>
-    ensures { IfOk result (λ shown. map (λ s. s.value) shown.items ≡ rows.items) }
-{
-    let mut shown = Vec::with_capacity(alloc, rows.len())?;
-    for row in rows {
-        shown.push(Shown::new(alloc, row)?)?;
-    }
-    Ok(shown)
 }

@@ -1,20 +1,17 @@
 -- What a client's call loads, and what is known of a log that nobody else holds.
-use Rattle.std.specs.Prelude.{All, IfOk, Result, Ok, Err}
+use Rattle.std.specs.Prelude.{All, IfOk, Result}
 use Rattle.std.proofs.Common.{◌≡◌, ℕ, ◌≤◌, List, [], ◌∷◌, ◌++◌, append-nil, refl, sym, ◌∙◌, ap, subst, arith}
 use Rattle.std.proofs.lemmas.List.Elements.{All-cons, All-nil, All-weaker}
+use Rattle.std.proofs.lemmas.Result.{IfOk-weaker}
 use Rattle.rev_front.specs.Passes.{Extends, Pass, looked}
 use Rattle.rev_log.specs.Changes.{RevisionData}
 use Rattle.up_api.specs.Sections.{Learns}
-use Rattle.kube_meta.specs.Rows.{RowData}
 use Rattle.kube_meta.specs.declared.resources.Resource.{Resource}
 use Rattle.select_all.specs.declared.selection.Meaning.{Meaning}
 use Rattle.select_all.specs.declared.selection.Meaning.TheVariants.{MostRecent, Any, NotOlder, Exact}
 use Rattle.list_rules.specs.Options.{IsNeverExact}
 use Rattle.rev_front.proofs.Passing.{extends_self}
-use Rattle.client_api.specs.declared.answers.Took.{Took}
 use Rattle.client_api.specs.Caches.{UnlessExact}
-use Rattle.client_api.specs.Facts.{Watched}
-use Rattle.client_api.specs.Turns.{IsWatchTurn}
 use Rattle.cached_client.specs.Caches.{CachesFacts, CachesState, KnowsOwn, LoadsBetween, ReadsFor}
 use Rattle.cached_client.proofs.ReadLemmas.{may_rise_on}
 
@@ -43,13 +40,12 @@ loads_around p m n q before is after = record {
       (λ load between. (omega (arith, between.0, before.extends.shown_on), omega (arith, between.1, after.extends.shown_on))) is.more is.within;
 }
 
+-- a pass that stays as it is
+pub learns_self : (p : Pass RevisionData) → Learns p p
+learns_self p = record { extends = extends_self p; loads_stay = refl; last_stays = refl }
+
 pub loads_on : (p n q : Pass RevisionData) → LoadsBetween p n → Learns n q → LoadsBetween p q
-loads_on p n q is after = record {
-  more = is.more;
-  loads = after.loads_stay ∙ is.loads;
-  within = All-weaker (λ load. (p.shown ≤ load) × (load ≤ n.shown)) (λ load. (p.shown ≤ load) × (load ≤ q.shown))
-      (λ load between. (between.0, omega (arith, between.1, after.extends.shown_on))) is.more is.within;
-}
+loads_on p n q is after = loads_around p p n q (learns_self p) is after
 
 -- ---- a log that nobody else holds
 
@@ -72,17 +68,4 @@ unexact (NotOlder asked) never is = is
 unexact (Exact asked) never is = absurd (cc never)
 
 pub unexact_ok : {A E : Type 0} (P : A → Type 0) (meaning : Meaning) (answer : Result A E) → IsNeverExact meaning → IfOk answer (λ given. UnlessExact meaning (P given)) → IfOk answer P
-unexact_ok P meaning (Ok given) never is = unexact meaning never is
-unexact_ok P meaning (Err fault) never is = tt
-
--- a pass that stays as it is
-pub learns_self : (p : Pass RevisionData) → Learns p p
-learns_self p = record { extends = extends_self p; loads_stay = refl; last_stays = refl }
-
--- ---- what was sent
-
--- it is what a turn gives that had it, whatever was known before
-pub turn_sent : {E : Type 0} (base : List RowData) (window : ℕ) (p q : Pass RevisionData) (watched : Watched) (sent : Result Took E) →
-    IfOk sent (λ took. (window : ℕ) (p : Pass RevisionData) → IsWatchTurn base window p watched took q) → IfOk sent (λ took. IsWatchTurn base window p watched took q)
-turn_sent base window p q watched (Ok took) is = is window p
-turn_sent base window p q watched (Err fault) is = tt
+unexact_ok P meaning answer never is = IfOk-weaker answer _ P (λ given of_given. unexact meaning never of_given) is

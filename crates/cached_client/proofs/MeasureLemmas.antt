@@ -1,16 +1,30 @@
 -- What a monitor is told of a log and its caches.
-use Rattle.std.proofs.Common.{◌≡◌, ℕ, ◌≤◌, List, Some, None, ap, length, arith}
+use Rattle.std.proofs.Common.{◌≡◌, ℕ, ◌≤◌, List, Some, None, ap, length, sym, subst, arith}
 use Rattle.kube_meta.specs.Rows.{RowData}
+use Rattle.kube_meta.specs.declared.resources.Resource.{Resource}
 use Rattle.kube_meta.specs.declared.resources.Resource.TheVariants.{Pods, ConfigMaps, Deployments}
 use Rattle.rev_front.specs.Passes.{Pass, Extends, end_from}
+use Rattle.rev_front.proofs.Beginnings.{prefix_length}
 use Rattle.rev_front.proofs.Passing.{extends_trans}
 use Rattle.rev_log.specs.Changes.{RevisionData}
-use Rattle.up_api.specs.Sections.{Learns}
+use Rattle.rev_log.specs.Logs.{Log}
+use Rattle.rev_log.specs.States.{IsStateAt}
+use Rattle.rev_log.proofs.GrowthLemmas.{IsStateAt-grown}
+use Rattle.up_api.specs.Sections.{Learns, log_of}
+use Rattle.up_api.proofs.SectionLemmas.{logs_grow_on}
 use Rattle.reflect_core.proofs.PumpLemmas.{learns-on}
 use Rattle.metrics.specs.declared.caches.CacheMetrics.{CacheMetrics}
 use Rattle.client_api.specs.Facts.{HasLoaded}
 use Rattle.client_api.specs.Metered.{AreMetrics, IsCacheMetrics}
-use Rattle.client_api.proofs.MeteredLemmas.{metered_on}
+
+-- those of a cache, as more is known
+metered_on : (base : List RowData) (resource : Resource) (p q : Pass RevisionData) (cache : CacheMetrics) → Extends p q → IsCacheMetrics base resource p cache → IsCacheMetrics base resource q cache
+metered_on base resource p q cache later is = record {
+  seen = omega (arith, is.seen, later.log_is, prefix_length p.seen q.seen later.seen_on);
+  rows = is.rows;
+  state = subst (λ (log : Log). IsStateAt log resource cache.end is.rows) (sym (logs_grow_on base p q later)) (IsStateAt-grown (log_of base p) later.seen_on.0 resource cache.end is.rows is.seen is.state);
+  objects = is.objects;
+}
 
 -- those of the caches, one after the other, and then a load
 pub metrics_are : (base : List RowData) (p one two three q : Pass RevisionData) (revision floor generation : ℕ) (pods config_maps deployments : CacheMetrics) → Learns p one → Learns one two → Learns two three → Extends three q →

@@ -27,13 +27,6 @@ pub record IsFollowing (base : List RowData) (window : Option ℕ) (resource : R
   pub known : IsKnown c.reflector.feed c.pass
   pub built : c.hub.cache.base ≤ c.pass.floor
 
--- a new cache of the resource, with this window, stands for what is known of the log up to its end
-pub record IsNewHub (base : List RowData) (window : ℕ) (resource : Resource) (p : Pass RevisionData) (hub : HubData) : Type 0 where
-  pub resource_is : hub.cache.resource ≡ resource
-  pub window_is : hub.cache.ring.window ≡ window
-  pub stands : StandsAt (λ log. StandsFor log hub) base p hub.cache.end
-  pub built : hub.cache.base ≤ p.floor
-
 -- What each section leaves of a caller's pass, p before and q after: it goes on with no load, and knows all that is
 -- known with the cache, where nothing is forgotten.
 pub record IsSection (old new : CacheStateData) (p q : Pass RevisionData) : Type 0 where

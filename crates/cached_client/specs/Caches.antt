@@ -1,7 +1,6 @@
 -- What clients see of caches, however they are held, and what a call of a client leaves of its pass.
 use Rattle.std.specs.Prelude.{◌≡◌, ℕ, ◌≤◌, List, ◌++◌, All, Option, IfSome}
 use Rattle.kube_meta.specs.declared.resources.Resource.{Resource}
-use Rattle.kube_meta.specs.declared.resources.Resource.TheVariants.{Pods, ConfigMaps, Deployments}
 use Rattle.rev_front.specs.Passes.{Pass, Whole}
 use Rattle.rev_log.specs.Changes.{RevisionData}
 use Rattle.up_store.specs.Stores.{KnowsAll}
@@ -16,11 +15,6 @@ pub record CachesFacts : Type 0 where
   pub pods_time : Option ℕ
   pub config_maps_time : Option ℕ
   pub deployments_time : Option ℕ
-
-abbrev pub times_in : CachesFacts → Resource → Option ℕ
-times_in facts Pods = facts.pods_time
-times_in facts ConfigMaps = facts.config_maps_time
-times_in facts Deployments = facts.deployments_time
 
 -- how often the states and histories of the store were read, where that is known, and where the cache of each resource
 -- ends

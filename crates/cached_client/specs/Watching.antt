@@ -1,5 +1,5 @@
 -- What a cache tells a watch.
-use Rattle.std.specs.Prelude.{◌≡◌, ℕ, ◌<◌, ◌≤◌, ◌⊎◌, false, List, [], length, Option, None, Some}
+use Rattle.std.specs.Prelude.{◌≡◌, ℕ, ◌<◌, ◌≤◌, ◌⊎◌, Bool, false, List, [], length, Option, None, Some, if◌then◌else◌}
 use Rattle.kube_meta.specs.Rows.{RowData}
 use Rattle.rev_front.specs.Passes.{Pass, end_from}
 use Rattle.rev_log.specs.Changes.{RevisionData}
@@ -7,6 +7,7 @@ use Rattle.up_api.specs.Sections.{log_of}
 use Rattle.select_all.specs.declared.selection.Meaning.TheVariants.{Any}
 use Rattle.select_all.specs.declared.selection.Selection.{Selection}
 use Rattle.select_all.specs.Floors.{IsEvicted}
+use Rattle.select_all.specs.Listings.{listing}
 use Rattle.select_all.specs.Streams.{transitions}
 use Rattle.cache_hub.specs.Catching.{CaughtData}
 use Rattle.cache_hub.specs.OpenLanes.{OpenLaneData, GetsAll}
@@ -49,15 +50,12 @@ HasMore s at (Some o) = (o.lane.selection ≡ s) × (o.lane.behind ≡ false) ×
 abbrev pub IsLoadedTurn : List RowData → ℕ → Pass RevisionData → Watched → Took → Pass RevisionData → Type 0
 IsLoadedTurn base window r watched took q = (p : Pass RevisionData) → HasLoaded p r → IsWatchTurn base window p watched took q
 
--- a watch begins at the end of a cache that has reached what was shown, with these rows of the state there
-pub record BeginsAtEnd (base : List RowData) (s : Selection) (shown : ℕ) (rows_of : List RowData → List RowData) (begun : BegunData) (q : Pass RevisionData) : Type 0 where
+-- a watch begins at the end of a cache that has reached what was shown, with the selected rows of the state there, where
+-- they are sent
+pub record BeginsAtEnd (base : List RowData) (s : Selection) (shown : ℕ) (sends : Bool) (begun : BegunData) (q : Pass RevisionData) : Type 0 where
   pub state : List RowData
   pub served : IsServed base s.resource Any shown q begun.at state
-  pub rows_are : begun.rows ≡ rows_of state
-
--- no rows
-abbrev pub none_of : List RowData → List RowData
-none_of rows = []
+  pub rows_are : begun.rows ≡ (if sends then listing s state else [])
 
 -- a watch can't begin at a position: what came after it may not all be kept
 abbrev pub IsStartLost : List RowData → ℕ → Selection → ℕ → Pass RevisionData → ListNo → Type 0

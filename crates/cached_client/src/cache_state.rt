@@ -14,7 +14,7 @@ ghost use Rattle.cache_hub.specs.Hubs.{HasCaughtUp};
 ghost use Rattle.cache_hub.specs.OpenLanes.{AreChanged, GetsAll, GoesAlong, SetsLane, left_behind, newly_open, open_at};
 ghost use Rattle.client_api.specs.Caches.{UnlessExact};
 ghost use Rattle.client_api.specs.Metered.{IsCacheMetrics};
-ghost use Rattle.cached_client.specs.CacheStates.{GoesOn, IsBrokenOff, IsNewHub, IsPumped, IsSection, KeepsCache};
+ghost use Rattle.cached_client.specs.CacheStates.{GoesOn, IsBrokenOff, IsPumped, IsSection, KeepsCache};
 ghost use Rattle.cached_client.specs.Knowing.{KnowsAllOf};
 ghost use Rattle.cached_client.specs.Serving.{IsFound, IsServed, IsShown, IsUnserved, found_at};
 ghost use Rattle.cached_client.specs.Watching.{HasMore, IsLeftBehind, IsLostAt, IsTold};
@@ -23,11 +23,11 @@ use crate::reads::Found;
 use crate::resources::OfResource;
 use crate::windows::{NamedWindow, Window};
 use bells::Bell;
-use cache_answers::{both, revision_alone};
+use cache_answers::revision_alone;
 use cache_core::AtNo;
 use cache_hub::{CatchNo, Caught, Hub};
 use client_api::ListNo;
-use kube_meta::{Memory, Resource};
+use kube_meta::Memory;
 use metrics::CacheMetrics;
 use obj_tree::Snapshot;
 use reflect_core::{Pumped, Reflector};
@@ -92,9 +92,10 @@ impl<N: LogFacts, One: OfResource, W: Window> CacheState<N, One, W> {
         ensures history { U.history up.new ≡ U.history up.old }
     {
         let mut pass = pass;
-        let hub = hub_of(alloc, up, &mut pass, One::resource(), settings);
-        let (hub, pass) = both(hub, Ok(pass))?;
-        let reflector = Reflector::with_batch(One::resource(), settings.batch);
+        let resource = One::resource();
+        let history = up.history(resource, &mut pass)?;
+        let hub = Hub::new(alloc, resource, history, settings, &mut pass)?;
+        let reflector = Reflector::with_batch(resource, settings.batch);
         Ok(CacheState {
             alloc,
             hub,
@@ -180,8 +181,7 @@ impl<N: LogFacts, One: OfResource, W: Window> CacheState<N, One, W> {
     {
         let shown = told.shown();
         self.pump(up, told, shown)?;
-        let (at, state) = self.newest(told)?;
-        Ok((at, state))
+        self.newest(told)
     }
 
     /// Opens a lane for a watch that stands at a position, under a number that no other lane has. It is refused where
@@ -341,7 +341,7 @@ impl<N: LogFacts, One: OfResource, W: Window> CacheState<N, One, W> {
         ensures reached { OnOk result (until ≤ self.new.hub.cache.end) }
     {
         let pumped = self.pump(up, told, until);
-        self.take_calls(calls);
+        self.hub.take_calls(calls);
         pumped?;
         Ok(())
     }
@@ -361,7 +361,7 @@ impl<N: LogFacts, One: OfResource, W: Window> CacheState<N, One, W> {
         ensures refused { IfErr result (λ no. no ≡ ListNo.Memory) }
     {
         let (at, state) = self.state_at_end(up, told)?;
-        let (state, lane) = both(Ok(state), self.lane(selection, at))?;
+        let lane = self.lane(selection, at)?;
         self.ring_by(lane.0, bell);
         Ok((at, state, lane))
     }
@@ -594,13 +594,6 @@ impl<N: LogFacts, One: OfResource, W: Window> CacheState<N, One, W> {
         self.hub.ring_by(id, bell);
     }
 
-    // Puts the bells of the lanes that have to be rung behind those in `calls`.
-    fn take_calls(&mut self, calls: &mut Vec<Arc<Bell>>)
-        ensures { self.new ≡ self.old }
-    {
-        self.hub.take_calls(calls);
-    }
-
     // A lane at a position.
     fn lane(&mut self, selection: &Selection, at: u64) -> Result<(u64, LaneOut<N>), Memory>
         requires resource { selection.now.resource ≡ One.resource }
@@ -621,21 +614,4 @@ fn cuts_in(pumped: &Result<Pumped, Memory>) -> u64 {
         Ok(pumped) => pumped.cuts,
         Err(Memory) => 0,
     }
-}
-
-// The cache that upstream's history of a resource makes, without lanes.
-fn hub_of<N: LogFacts, U: Upstream<N>>(
-    alloc: Global,
-    up: &mut U,
-    pass: &mut Pass<N>,
-    resource: Resource,
-    settings: &Settings,
-) -> Result<Hub<N>, Memory>
-    requires settings { AreInRange settings.now }
-    ensures made { IfOk result (λ hub. IsNewHub N.base settings.now.window resource pass.new hub) }
-    ensures own { U.own up.new ≡ U.own up.old }
-    ensures history { U.history up.new ≡ U.history up.old }
-{
-    let history = up.history(resource, pass)?;
-    Hub::new(alloc, resource, history, settings, pass)
 }

@@ -1,6 +1,6 @@
 //! Watches: where they begin, and what their turns give.
 
-ghost use Rattle.std.specs.Prelude.{◌≡◌, ◌≤◌, [], IfOk, IfErr, Err, nat_le, option_and_then};
+ghost use Rattle.std.specs.Prelude.{◌≡◌, ◌≤◌, [], IfOk, IfErr, Err, if◌then◌else◌, nat_le, option_and_then};
 ghost use Rattle.rev_front.specs.Passes.{IsPass, end_from};
 ghost use Rattle.rev_log.specs.Logs.{Fits};
 ghost use Rattle.up_api.specs.Sections.{Learns};
@@ -12,7 +12,7 @@ ghost use Rattle.client_api.specs.Starts.{IsWatchAnswer, IsWatchStart};
 ghost use Rattle.client_api.specs.Turns.{IsWatchTurn, watch_after};
 ghost use Rattle.cache_answers.specs.Turns.{moved_to};
 ghost use Rattle.cached_client.specs.Caches.{KnowsOwn, LoadsBetween, ReadsFor};
-ghost use Rattle.cached_client.specs.Watching.{BeginsAtEnd, IsStartLost, none_of};
+ghost use Rattle.cached_client.specs.Watching.{BeginsAtEnd, IsStartLost};
 
 use crate::answering::load;
 use crate::caches::Caches;
@@ -20,7 +20,9 @@ use cache_answers::{bare, opened, unreached};
 use cache_hub::CatchNo;
 use client_api::{Begun, ListNo, Took};
 use kube_meta::Memory;
+use obj_tree::Snapshot;
 use select_all::Selection;
+use std::alloc::Global;
 use std::marker::Model;
 use up_api::{LogFacts, Pass};
 use watch_rules::{Start, WatchAsk};
@@ -63,25 +65,26 @@ pub fn begin<N: LogFacts, C: Caches<N>>(
         return Err(no);
     }
     match ask.start {
-        Start::FromState(_) => begin_from_state(caches, told, &ask.selection),
-        Start::FromHere(_) => begin_from_here(caches, told, &ask.selection),
+        Start::FromState(_) => begin_at_end(caches, told, &ask.selection, true),
+        Start::FromHere(_) => begin_at_end(caches, told, &ask.selection, false),
         Start::FromRevision(asked) => begin_from(caches, told, &ask.selection, asked),
     }
 }
 
-// With the objects at the end of the cache.
+// At the end of the cache, with the selected objects there where they are sent.
 #[tactic(auto, using(crate::proofs::CallLemmas::knew))]
-fn begin_from_state<N: LogFacts, C: Caches<N>>(
+fn begin_at_end<N: LogFacts, C: Caches<N>>(
     caches: &mut C,
     told: &mut Pass<N>,
     wanted: &Selection,
+    sends: bool,
 ) -> Result<(Begun, Watch<C::Lane>), ListNo>
     requires knew { KnowsOwn (C.facts caches.old) told.old }
     ensures facts { C.facts caches.new ≡ C.facts caches.old }
     ensures learns { Learns told.old told.new }
     ensures lawful { IsPass Fits told.new }
     ensures knows { KnowsOwn (C.facts caches.new) told.new }
-    ensures begun { IfOk result (λ r. BeginsAtEnd N.base wanted.now told.old.shown (listing wanted.now) r.0 told.new) }
+    ensures begun { IfOk result (λ r. BeginsAtEnd N.base wanted.now told.old.shown sends r.0 told.new) }
     ensures watch { IfOk result (λ r. r.1 ≡ record { selection = wanted.now; position = r.0.at }) }
     ensures refused { IfErr result (λ no. no ≡ ListNo.Memory) }
     ensures reads { ReadsFor wanted.now.resource told.old told.new (C.cached caches.old) (C.cached caches.new) }
@@ -91,7 +94,7 @@ fn begin_from_state<N: LogFacts, C: Caches<N>>(
     caches.settle(told);
     let _known = told.shown();
     let (position, state, lane) = started?;
-    match opened(caches.alloc(), wanted, position, &state) {
+    match opening(caches.alloc(), wanted, position, &state, sends) {
         Ok(begun) => {
             let watch = watch_at(caches, wanted, position, lane)?;
             Ok((begun, watch))
@@ -103,30 +106,21 @@ fn begin_from_state<N: LogFacts, C: Caches<N>>(
     }
 }
 
-// At the end of the cache.
-#[tactic(auto, using(crate::proofs::CallLemmas::knew))]
-fn begin_from_here<N: LogFacts, C: Caches<N>>(
-    caches: &mut C,
-    told: &mut Pass<N>,
+// What a watch begins with at a state.
+fn opening(
+    alloc: Global,
     wanted: &Selection,
-) -> Result<(Begun, Watch<C::Lane>), ListNo>
-    requires knew { KnowsOwn (C.facts caches.old) told.old }
-    ensures facts { C.facts caches.new ≡ C.facts caches.old }
-    ensures learns { Learns told.old told.new }
-    ensures lawful { IsPass Fits told.new }
-    ensures knows { KnowsOwn (C.facts caches.new) told.new }
-    ensures begun { IfOk result (λ r. BeginsAtEnd N.base wanted.now told.old.shown none_of r.0 told.new) }
-    ensures watch { IfOk result (λ r. r.1 ≡ record { selection = wanted.now; position = r.0.at }) }
-    ensures refused { IfErr result (λ no. no ≡ ListNo.Memory) }
-    ensures reads { ReadsFor wanted.now.resource told.old told.new (C.cached caches.old) (C.cached caches.new) }
-    ensures within { C.alone → IfOk result (λ r. r.0.at ≤ (C.cached caches.new).ends wanted.now.resource) }
+    at: u64,
+    state: &Snapshot,
+    sends: bool,
+) -> Result<Begun, Memory>
+    ensures { IfOk result (λ begun. begun ≡ record { at = at; rows = if sends then listing wanted.now state.now else [] }) }
 {
-    let started = caches.start_at_end(told, wanted);
-    caches.settle(told);
-    let _known = told.shown();
-    let (position, _, lane) = started?;
-    let watch = watch_at(caches, wanted, position, lane)?;
-    Ok((bare(caches.alloc(), position), watch))
+    if sends {
+        opened(alloc, wanted, at, state)
+    } else {
+        Ok(bare(alloc, at))
+    }
 }
 
 // At a revision.
@@ -185,7 +179,7 @@ fn watch_at<N: LogFacts, C: Caches<N>>(
 /// A turn of a watch. What was sent to it comes first; where nothing was, the revision that the log has reached is
 /// loaded. Where it is at the watch's position the turn is quiet, if the watch may rest there; else the caches are
 /// asked.
-#[tactic(auto, using(crate::proofs::CallLemmas::loads_none))]
+#[tactic(auto, using(crate::proofs::CallLemmas::loads_none, crate::proofs::CallLemmas::loads_on, crate::proofs::CallLemmas::knew, crate::proofs::CallLemmas::reads_since))]
 pub fn turn<N: LogFacts, C: Caches<N>>(
     caches: &mut C,
     told: &mut Pass<N>,
@@ -204,32 +198,10 @@ pub fn turn<N: LogFacts, C: Caches<N>>(
     ensures within { C.alone → IfOk result (λ took. TakesWithin took ((C.cached caches.new).ends watch.old.selection.resource)) }
 {
     let sent = caches.sent(told, &mut watch.lane, &watch.selection, watch.position);
-    let _known = told.shown();
-    match sent {
-        Some(took) => took,
-        None => caught_up(caches, told, watch, max, ms),
+    let _met = told.shown();
+    if let Some(took) = sent {
+        return took;
     }
-}
-
-// A turn to which nothing was sent.
-#[tactic(auto, using(crate::proofs::CallLemmas::loads_on, crate::proofs::CallLemmas::knew, crate::proofs::CallLemmas::reads_since))]
-fn caught_up<N: LogFacts, C: Caches<N>>(
-    caches: &mut C,
-    told: &mut Pass<N>,
-    watch: &mut Watch<C::Lane>,
-    max: usize,
-    ms: u64,
-) -> Result<Took, Memory>
-    requires max { 1 ≤ max }
-    ensures facts { C.facts caches.new ≡ C.facts caches.old }
-    ensures onward { IsOnward told.old told.new }
-    ensures loads { LoadsBetween told.old told.new }
-    ensures knows { KnowsOwn (C.facts caches.new) told.new }
-    ensures watch { watch.new ≡ watch.old }
-    ensures turn { IfOk result (λ took. IsWatchTurn N.base (C.facts caches.old).window told.old watch.old took told.new) }
-    ensures reads { ReadsFor watch.old.selection.resource told.old told.new (C.cached caches.old) (C.cached caches.new) }
-    ensures within { C.alone → IfOk result (λ took. TakesWithin took ((C.cached caches.new).ends watch.old.selection.resource)) }
-{
     let loaded = load(caches, told);
     if caches.may_rest(&watch.lane) && loaded <= watch.position && loaded <= told.end() {
         return Ok(quiet(told, watch.position));

@@ -1,4 +1,3 @@
 pub mod LawLemmas
 pub mod CallingLemmas
 pub mod PageLemmas
-pub mod MeteredLemmas

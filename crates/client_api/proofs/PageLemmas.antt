@@ -1,9 +1,9 @@
 -- The page that begins with some rows, from the items that hold those of it and from how many are left.
-use Rattle.std.proofs.Common.{◌≡◌, ℕ, zero, suc, ◌-◌, ◌<◌, Bool, true, false, List, [], ◌∷◌, length, map, take, Option, Some, None, refl, ap, sym, ◌∙◌, arith}
-use Rattle.std.proofs.lemmas.Bool.{lt-ltb, ltb-true}
+use Rattle.std.proofs.Common.{◌≡◌, ℕ, zero, suc, ◌-◌, ◌<◌, List, [], ◌∷◌, length, map, take, Option, Some, None, refl, ap, sym, ◌∙◌, arith}
+use Rattle.std.proofs.lemmas.Bool.{lt-ltb, le-ltb, cond-true, cond-false}
 use Rattle.std.proofs.lemmas.List.{take-map, length-map, length-take-le}
 use Rattle.std.proofs.lemmas.Option.{slice_get-map}
-use Rattle.std.specs.Prelude.{◌↔◌, nat_lt, slice_get, option_map, if◌then◌else◌}
+use Rattle.std.specs.Prelude.{◌↔◌, nat_lt, slice_get, option_map}
 use Rattle.kube_meta.specs.Rows.{RowData, key_of}
 use Rattle.list_rules.specs.declared.ask.ListAsk.{ListAsk}
 use Rattle.list_rules.specs.Pages.{page_of, next_of, left_of, remaining_of}
@@ -28,24 +28,14 @@ cut_off row_in ask items kept left counted first =
 
 -- ---- the next page
 
-next-some : (limit : ℕ) (rows : List RowData) (row : RowData) → 0 < limit → limit < length rows → slice_get rows (limit - 1) ≡ Some row → next_of limit rows ≡ Some (key_of row)
-next-some zero rows row some more at = absurd (omega (arith, some))
-next-some (suc n) rows row some more at =
-    ap (λ (b : Bool). if b then option_map key_of (slice_get rows n) else None) (lt-ltb (suc n) (length rows) more) ∙ ap (option_map key_of) (moved at)
-  where
-    same : suc n - 1 ≡ n
-    same = omega arith
-
-    moved : slice_get rows (suc n - 1) ≡ Some row → slice_get rows n ≡ Some row
-    moved h = sym (ap (slice_get rows) same) ∙ h
+next-some : (n : ℕ) (rows : List RowData) (row : RowData) → suc n < length rows → slice_get rows n ≡ Some row → next_of (suc n) rows ≡ Some (key_of row)
+next-some n rows row more at =
+    cond-true (nat_lt (suc n) (length rows)) (option_map key_of (slice_get rows n)) None (lt-ltb (suc n) (length rows) more)
+    ∙ ap (option_map key_of) at
 
 next-none : (limit : ℕ) (rows : List RowData) → left_of limit rows ≡ 0 → next_of limit rows ≡ None
 next-none zero rows few = refl
-next-none (suc n) rows few = beyond (nat_lt (suc n) (length rows)) refl
-  where
-    beyond : (b : Bool) → nat_lt (suc n) (length rows) ≡ b → next_of (suc n) rows ≡ None
-    beyond true is = absurd (omega (arith, few, ltb-true (suc n) (length rows) is))
-    beyond false is = ap (λ (b : Bool). if b then option_map key_of (slice_get rows n) else None) is
+next-none (suc n) rows few = cond-false (nat_lt (suc n) (length rows)) (option_map key_of (slice_get rows n)) None (le-ltb (suc n) (length rows) (omega (arith, few)))
 
 get_take : (n m : ℕ) (rows : List RowData) → m < n → slice_get (take n rows) m ≡ slice_get rows m
 get_take zero m rows less = absurd (omega (arith, less))
@@ -60,8 +50,7 @@ next-kept (suc n) all rows row more same last =
     let many : length rows ≡ suc n = ap length same ∙ length-take-le (suc n) all (omega (arith, more)) in
     let place : length rows - 1 ≡ n = omega (arith, many) in
     let there : slice_get all n ≡ Some row = sym (get_take (suc n) n all (omega arith)) ∙ sym (ap (λ (l : List RowData). slice_get l n) same) ∙ sym (ap (slice_get rows) place) ∙ last in
-    let before : suc n - 1 ≡ n = omega arith in
-    next-some (suc n) all row (omega arith) (omega (arith, more)) (ap (slice_get all) before ∙ there)
+    next-some n all row (omega (arith, more)) there
 
 above : (left other : ℕ) → (left ≡ 0) ↔ (other ≡ 0) → 0 < left → 0 < other
 above left zero same some = absurd (omega (arith, some, same.1 refl))

@@ -1,12 +1,11 @@
 //! New caches of a new log.
 
-ghost use Rattle.std.specs.Prelude.{◌≡◌, ◌≤◌, [], false, IfOk};
+ghost use Rattle.std.specs.Prelude.{◌≡◌, ◌≤◌, ◌⊎◌, [], false, Ok, IfOk, OnOk, OnErr};
 ghost use Rattle.rev_front.specs.Passes.{empty_log, pass_from};
 ghost use Rattle.up_api.specs.Settings.{AreInRange};
 ghost use Rattle.local_client.specs.Caches.{window_in};
 
 use crate::sole::SoleCaches;
-use cache_answers::both;
 use cached_client::{CacheState, OfResource, SeenWindow};
 use kube_meta::Memory;
 use rev_front::Blank;
@@ -62,4 +61,19 @@ fn cache<N: LogFacts, One: OfResource>(
 {
     let pass = store.pass()?;
     CacheState::new(alloc, store, pass, settings)
+}
+
+// What was made of both, or want of memory where it was of one. So caches are let go in one place, and not behind each
+// call that may lack memory.
+fn both<A: Drop, B: Drop>(
+    first: Result<A, Memory>,
+    second: Result<B, Memory>,
+) -> Result<(A, B), Memory>
+    ensures made { IfOk result (λ made. (first ≡ Ok made.0) × (second ≡ Ok made.1)) }
+    ensures missed { OnErr result (OnOk first ⊥ ⊎ OnOk second ⊥) }
+{
+    match (first, second) {
+        (Ok(first), Ok(second)) => Ok((first, second)),
+        _ => Err(Memory),
+    }
 }

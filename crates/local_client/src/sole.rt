@@ -83,36 +83,18 @@ impl<N: LogFacts> SoleCaches<N> {
         ensures anew { ask ≡ operations.Restart → OnOk result (AreBuiltAnew self.old.caches self.new.caches) }
     {
         match ask {
-            Operate::Cut => self.cut(told),
-            Operate::Compact { at } => self.compact(at, told),
+            Operate::Cut => {
+                let answer = self.store.drop_feeds(told);
+                let _known = told.shown();
+                answer
+            }
+            Operate::Compact { at } => {
+                let answer = self.store.compact(at, told);
+                let _known = told.shown();
+                answer
+            }
             Operate::Restart => self.restart(told),
         }
-    }
-
-    // Cuts all feeds of the store.
-    fn cut(&mut self, told: &mut Pass<N>) -> Result<u64, OpNo>
-        ensures onward { IsOnward told.old told.new }
-        ensures answer { IsOperationReply told.old operations.Cut result told.new }
-        ensures sole { KnowsAll self.old.store.whole told.old → SoleOperate told.old operations.Cut result told.new }
-        ensures whole { KnowsAll self.new.store.whole told.new }
-        ensures rest { self.new ≡ record self.old { store = record self.old.store { whole = self.new.store.whole } } }
-    {
-        let answer = self.store.drop_feeds(told);
-        let _known = told.shown();
-        answer
-    }
-
-    // Compacts the log.
-    fn compact(&mut self, at: u64, told: &mut Pass<N>) -> Result<u64, OpNo>
-        ensures onward { IsOnward told.old told.new }
-        ensures answer { IsOperationReply told.old (operations.Compact at) result told.new }
-        ensures sole { KnowsAll self.old.store.whole told.old → SoleOperate told.old (operations.Compact at) result told.new }
-        ensures whole { KnowsAll self.new.store.whole told.new }
-        ensures rest { self.new ≡ record self.old { store = record self.old.store { whole = self.new.store.whole } } }
-    {
-        let answer = self.store.compact(at, told);
-        let _known = told.shown();
-        answer
     }
 
     // Builds all caches anew, and answers the compaction floor.

@@ -38,10 +38,8 @@ pub turn_received : (base : List RowData) (window : ℕ) (p q : Pass RevisionDat
     noted piece note ≡ batch → IsBatch base (noted piece note) → from ≡ piece.from → upto ≡ piece.to → lines.items ≡ piece.lines → KnowsAllOf note q →
     IsWatchTurn base window p (record { selection = batch.selection; position = batch.from }) (Events from upto lines) q
 turn_received base window p q batch piece note from upto lines view is begins ends same knows =
-    subst (λ (b : BatchData). IsWatchTurn base window p (record { selection = b.selection; position = b.from }) (Events from upto lines) q) view
-    (subst (λ n. IsWatchTurn base window p (record { selection = piece.selection; position = piece.from }) (Events n upto lines) q) (sym begins)
-    (subst (λ n. IsWatchTurn base window p (record { selection = piece.selection; position = piece.from }) (Events piece.from n lines) q) (sym ends)
-    (turn-received base window p q (noted piece note) lines is knows same)))
+    subst (λ (z : BatchData × ℕ × ℕ). IsWatchTurn base window p (record { selection = z.0.selection; position = z.0.from }) (Events z.1 z.2 lines) q)
+    {x = (noted piece note, piece.from, piece.to)} {y = (batch, from, upto)} (λ i. (view i, sym begins i, sym ends i)) (turn-received base window p q (noted piece note) lines is knows same)
 
 -- what a batch gives is what a turn of the watch gives with which it goes on
 pub received_as : {E : Type 0} (base : List RowData) (q : Pass RevisionData) (of_batch watched : Watched) (given : Result Took E) → of_batch ≡ watched →

@@ -9,7 +9,6 @@ ghost use Rattle.up_api.specs.Settings.{AreInRange};
 
 use crate::client::SharedClient;
 use bells::Bell;
-use cache_answers::both;
 use cached_client::{CacheState, OfConfigMaps, OfDeployments, OfPods, OfResource};
 use kube_meta::{Memory, Resource};
 use std::alloc::Global;
@@ -41,13 +40,9 @@ impl<N: LogFacts, R: Wait + Copy> Cacher<N, R> {
         requires window { N.window ≡ settings.now.window }
     {
         let mut door = door;
-        let pods = locked(alloc, &mut door, settings);
-        let config_maps = locked(alloc, &mut door, settings);
-        let deployments = locked(alloc, &mut door, settings);
-        let ((pods, config_maps), (deployments, door)) = both(
-            both(pods, config_maps),
-            both(deployments, Ok(door)),
-        )?;
+        let pods = locked(alloc, &mut door, settings)?;
+        let config_maps = locked(alloc, &mut door, settings)?;
+        let deployments = locked(alloc, &mut door, settings)?;
         Ok(Cacher {
             rt,
             alloc,
@@ -87,29 +82,15 @@ impl<N: LogFacts, R: Wait + Copy> Cacher<N, R> {
     {
         let until = told.look();
         let mut door = self.door.again()?;
-        self.feed_each(&mut door, told, until, calls)
-    }
-
-    // The same for a revision that was shown.
-    fn feed_each(
-        &self,
-        door: &mut StoreDoor<N, R>,
-        told: &mut Pass<N>,
-        until: u64,
-        calls: &mut Vec<Arc<Bell>>,
-    ) -> Result<(), Memory>
-        requires until { until ≤ told.old.shown }
-        ensures extends { Extends told.old told.new }
-    {
-        let pods = self.pods.lock(&self.rt).feed(door, told, until, calls);
+        let pods = self.pods.lock(&self.rt).feed(&mut door, told, until, calls);
         let config_maps = self
             .config_maps
             .lock(&self.rt)
-            .feed(door, told, until, calls);
+            .feed(&mut door, told, until, calls);
         let deployments = self
             .deployments
             .lock(&self.rt)
-            .feed(door, told, until, calls);
+            .feed(&mut door, told, until, calls);
         pods.and(config_maps).and(deployments)
     }
 
@@ -127,17 +108,9 @@ impl<N: LogFacts, R: Wait + Copy> Cacher<N, R> {
         ensures floor { IfOk result (λ floor. (told.old.floor ≤ floor) × (floor ≤ told.new.floor)) }
     {
         let mut door = self.door.again()?;
-        self.rebuild_each(&mut door, told)
-    }
-
-    // Builds each cache anew, and answers the compaction floor from which the last one was built.
-    fn rebuild_each(&self, door: &mut StoreDoor<N, R>, told: &mut Pass<N>) -> Result<u64, Memory>
-        ensures learns { Learns told.old told.new }
-        ensures floor { IfOk result (λ floor. (told.old.floor ≤ floor) × (floor ≤ told.new.floor)) }
-    {
-        self.pods.lock(&self.rt).rebuild(door, told)?;
-        self.config_maps.lock(&self.rt).rebuild(door, told)?;
-        self.deployments.lock(&self.rt).rebuild(door, told)
+        self.pods.lock(&self.rt).rebuild(&mut door, told)?;
+        self.config_maps.lock(&self.rt).rebuild(&mut door, told)?;
+        self.deployments.lock(&self.rt).rebuild(&mut door, told)
     }
 
     /// Closes a lane of a resource's cache, if it is open.

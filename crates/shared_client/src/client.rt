@@ -4,15 +4,11 @@ ghost use Rattle.std.specs.Prelude.{◌≡◌, ◌≤◌, None, IfOk};
 ghost use Rattle.rev_front.specs.Passes.{IsPass, Whole, pass_from};
 ghost use Rattle.rev_log.specs.Changes.{RevisionData};
 ghost use Rattle.rev_log.specs.Logs.{Fits};
-ghost use Rattle.up_store.specs.Replies.{IsOperationReply};
-ghost use Rattle.up_store.specs.declared.operations.Operate.TheVariants as operations;
-ghost use Rattle.client_api.specs.Facts.{IsOnward};
 
 use crate::cacher::Cacher;
 use crate::lanes::WatchLane;
 use crate::shared::SharedCaches;
 use bells::Bell;
-use cache_answers::both;
 use cached_client::{Watch, begin, close, get, list, measure, stand, turn};
 use client_api::{Begun, Client, Got, ListNo, Listed, Took};
 use kube_meta::Memory;
@@ -20,7 +16,7 @@ use list_rules::{GetAsk, ListAsk};
 use metrics::Metrics;
 use std::sync::{Arc, Wait};
 use up_api::{LogFacts, Pass};
-use up_store::{OpNo, Operate, StoreDoor, Transaction, TxWriteNo, WriteAsk, WriteNo, Written};
+use up_store::{OpNo, Operate, Transaction, TxWriteNo, WriteAsk, WriteNo, Written};
 use watch_rules::WatchAsk;
 
 /// One of many clients of a log. It answers from the caches of its `Cacher`, which it shares with the others, and has
@@ -41,7 +37,8 @@ impl<'a, N: LogFacts, R: Wait + Copy> SharedClient<'a, N, R> {
         ensures pass { IfOk result (λ client. (whole : Whole RevisionData) × (client.told ≡ pass_from whole client.told.seat)) }
         ensures lawful { IfOk result (λ client. IsPass Fits client.told) }
     {
-        let (door, told) = both(cacher.door.again(), cacher.door.pass())?;
+        let door = cacher.door.again()?;
+        let told = cacher.door.pass()?;
         let _known = told.shown();
         Ok(SharedClient {
             caches: SharedCaches {
@@ -140,9 +137,21 @@ impl<N: LogFacts, R: Wait + Copy> Client for SharedClient<'_, N, R> {
 
     fn operate(&mut self, ask: Operate) -> Result<u64, OpNo> {
         match ask {
-            Operate::Cut => cut(&self.caches.door, &mut self.told),
-            Operate::Compact { at } => compact(&self.caches.door, &mut self.told, at),
-            Operate::Restart => restart(self.caches.cacher, &mut self.told),
+            Operate::Cut => {
+                let answer = self.caches.door.drop_feeds(&mut self.told);
+                let _known = self.told.shown();
+                answer
+            }
+            Operate::Compact { at } => {
+                let answer = self.caches.door.compact(at, &mut self.told);
+                let _known = self.told.shown();
+                answer
+            }
+            Operate::Restart => {
+                let answer = self.caches.cacher.restart(&mut self.told);
+                let _known = self.told.shown();
+                Ok(answer?)
+            }
         }
     }
 
@@ -156,45 +165,5 @@ impl<N: LogFacts, R: Wait + Copy> Client for SharedClient<'_, N, R> {
 
     fn tick(&mut self, ms: u64) {
         self.heard = self.heard.max(ms);
-    }
-}
-
-// Cuts all feeds.
-fn cut<N: LogFacts, R: Wait + Copy>(door: &StoreDoor<N, R>, told: &mut Pass<N>) -> Result<u64, OpNo>
-    ensures onward { IsOnward told.old told.new }
-    ensures answer { IsOperationReply told.old operations.Cut result told.new }
-{
-    let answer = door.drop_feeds(told);
-    let _known = told.shown();
-    answer
-}
-
-// Compacts the log.
-fn compact<N: LogFacts, R: Wait + Copy>(
-    door: &StoreDoor<N, R>,
-    told: &mut Pass<N>,
-    at: u64,
-) -> Result<u64, OpNo>
-    ensures onward { IsOnward told.old told.new }
-    ensures answer { IsOperationReply told.old (operations.Compact at) result told.new }
-{
-    let answer = door.compact(at, told);
-    let _known = told.shown();
-    answer
-}
-
-// Builds all caches anew.
-fn restart<N: LogFacts, R: Wait + Copy>(
-    cacher: &Cacher<N, R>,
-    told: &mut Pass<N>,
-) -> Result<u64, OpNo>
-    ensures onward { IsOnward told.old told.new }
-    ensures answer { IsOperationReply told.old operations.Restart result told.new }
-{
-    let answer = cacher.restart(told);
-    let _known = told.shown();
-    match answer {
-        Ok(floor) => Ok(floor),
-        Err(Memory) => Err(OpNo::Memory),
     }
 }

@@ -20,22 +20,21 @@ pub loop-shown-smaller : goal.loop-shown-smaller
 loop-shown-smaller c =
     next_fewer c.args.selection.now c.args.mask c.loop-shown.rows c.next_with.new.self c.in-Some.shown.now.value c.requires c.in-Some.ensures
 
-pub returns-then-is_selected-clause-next : goal.returns-then-is_selected-clause-next
-returns-then-is_selected-clause-next c =
+pub returns-then-is_selected : goal.returns-then-is_selected
+returns-then-is_selected c =
     let s = c.args.selection.now in
     let row = c.in-Some.shown.now.value in
     let chosen : selects s row.obj ≡ true = sym c.is_selected.ensures ∙ c.if-is_selected.true in
-    c.loop-shown.invariant.listing ∙ next_chosen s c.args.mask c.loop-shown.rows c.next_with.new.self row c.requires c.in-Some.ensures chosen
-
-pub returns-then-is_selected-clause-within : goal.returns-then-is_selected-clause-within
-returns-then-is_selected-clause-within c = λ are.
-    next_within c.args.selection.now c.args.mask c.loop-shown.rows c.next_with.new.self c.in-Some.shown.now.value c.requires c.in-Some.ensures (c.loop-shown.invariant.within are)
+    record {
+      next = c.loop-shown.invariant.listing ∙ next_chosen s c.args.mask c.loop-shown.rows c.next_with.new.self row c.requires c.in-Some.ensures chosen;
+      within = λ are. next_within s c.args.mask c.loop-shown.rows c.next_with.new.self row c.requires c.in-Some.ensures (c.loop-shown.invariant.within are);
+    }
 
 -- none is left
-pub returns-clause-next : goal.returns-clause-next
-returns-clause-next c =
+pub returns : goal.returns
+returns c =
     let s = c.args.selection.now in
-    (c.loop-shown.invariant.listing ∙ none_next s c.args.mask c.loop-shown.rows c.requires c.in_default.ensures.0, ap (listing s) c.in_default.ensures.1)
-
-pub returns-clause-within : goal.returns-clause-within
-returns-clause-within c = λ are. subst (λ (rows : List RowData). AreWithin c.args.selection.now rows) (sym c.in_default.ensures.1) refl
+    record {
+      next = (c.loop-shown.invariant.listing ∙ none_next s c.args.mask c.loop-shown.rows c.requires c.in_default.ensures.0, ap (listing s) c.in_default.ensures.1);
+      within = λ are. subst (λ (rows : List RowData). AreWithin s rows) (sym c.in_default.ensures.1) refl;
+    }

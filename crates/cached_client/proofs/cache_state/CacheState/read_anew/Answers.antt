@@ -8,16 +8,12 @@ use Rattle.cached_client.proofs.CacheLemmas.{follows_later, follows_rebuilt}
 use Rattle.cached_client.proofs.cache_state.CacheState.read_anew.Goals as goal
 
 pub invariant_of-self : goal.invariant_of-self
-invariant_of-self g c =
-    let i = c.self.inside in
-    follows_later g.N.LogFacts.base g.W.Window.window g.One.OfResource.resource (record { hub = i.hub; reflector = i.reflector; pass = i.pass }) c.history.new.told c.history.ensures.learns.extends c.self.invariant
+invariant_of-self g c = follows_later _ _ _ _ c.history.new.told c.history.ensures.learns.extends c.self.invariant
 
 pub invariant_of-self-2 : goal.invariant_of-self-2
 invariant_of-self-2 g c =
-    let i = c.self.inside in
     let e = c.in_ok-build_anew.ensures in
-    follows_rebuilt g.N.LogFacts.base g.W.Window.window g.One.OfResource.resource (record { hub = i.hub; reflector = i.reflector; pass = i.pass }) c.build_anew.new.self c.build_anew.new.told c.self.invariant
-    (subst (Extends i.pass) (sym e.told) c.history.ensures.learns.extends) e.rebuilt.stays
+    follows_rebuilt _ _ _ _ c.build_anew.new.self c.build_anew.new.told c.self.invariant (subst (Extends c.self.inside.pass) (sym e.told) c.history.ensures.learns.extends) e.rebuilt.stays
     (omega (arith, e.rebuilt.base, c.in_ok-history.ensures.history.kept, ap (λ (p : Pass RevisionData). p.floor) e.told)) e.stands
 
 pub build_anew-requires-clause-history : goal.build_anew-requires-clause-history

@@ -2,4 +2,4 @@ use Rattle.cached_client.proofs.CacheLemmas.{follows_later}
 use Rattle.cached_client.proofs.cache_state.CacheState.share.Goals as goal
 
 pub invariant_of-self : goal.invariant_of-self
-invariant_of-self g c = follows_later g.N.LogFacts.base g.W.Window.window g.One.OfResource.resource (record { hub = c.self.inside.hub; reflector = c.self.inside.reflector; pass = c.self.inside.pass }) c.share.new.self c.share.ensures.extends c.self.invariant
+invariant_of-self g c = follows_later _ _ _ _ c.share.new.self c.share.ensures.extends c.self.invariant

@@ -3,4 +3,4 @@ use Rattle.cached_client.proofs.CacheLemmas.{follows_ticked}
 use Rattle.cached_client.proofs.cache_state.CacheState.tick.Goals as goal
 
 pub invariant_of-self : goal.invariant_of-self
-invariant_of-self g c = follows_ticked g.N.LogFacts.base g.W.Window.window g.One.OfResource.resource (record { hub = c.self.inside.hub; reflector = c.self.inside.reflector; pass = c.self.inside.pass }) c.tick.new.self (max c.self.inside.hub.cache.time c.args.ms) c.self.invariant c.tick.ensures.time c.tick.ensures.stands
+invariant_of-self g c = follows_ticked _ _ _ _ c.tick.new.self (max c.self.inside.hub.cache.time c.args.ms) c.self.invariant c.tick.ensures.time c.tick.ensures.stands
