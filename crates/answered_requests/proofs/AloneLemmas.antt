@@ -1,21 +1,17 @@
 -- Where nobody else holds the log, what is due is served.
-use Rattle.std.specs.Prelude.{Result, Ok, Err, IsSomeAnd, IfSome}
+use Rattle.std.specs.Prelude.{Result, Ok, Err, IsSomeAnd}
 use Rattle.std.proofs.Common.{◌≡◌, ℕ, inl, inr, List, [], ◌∷◌, Option, Some, None, refl, ap, sym, subst}
 use Rattle.rev_front.specs.Passes.{Pass, IsPass, Whole}
 use Rattle.rev_log.specs.Changes.{RevisionData}
 use Rattle.rev_log.specs.Logs.{Fits}
 use Rattle.http_read.specs.declared.request.Req.{Req}
-use Rattle.http_read.specs.declared.request.Upgrade.{Upgrade}
-use Rattle.ws_watch.specs.Handshake.{IsUpgrade}
 use Rattle.up_store.specs.Replies.{IsWriteReply, IsTransactionReply, IsOperationReply}
 use Rattle.up_api.specs.Sections.{log_of}
 use Rattle.up_store.specs.declared.operations.Operate.{Operate}
 use Rattle.up_store.specs.declared.operations.OpNo.{OpNo}
 use Rattle.up_store.specs.declared.transactions.TxWriteNo.{TxWriteNo}
-use Rattle.up_store.specs.declared.transactions.TxWriteNo.TheVariants as tx_no
 use Rattle.up_store.specs.declared.writes.WriteAsk.{WriteAsk}
 use Rattle.up_store.specs.declared.writes.WriteNo.{WriteNo}
-use Rattle.up_store.specs.declared.writes.WriteNo.TheVariants as write_no
 use Rattle.up_store.specs.declared.writes.Written.{Written}
 use Rattle.route_req.specs.Asks.{IsRoute}
 use Rattle.route_req.specs.Outcomes.{AnswersAgree, RoutesAreNotRefused}
@@ -23,26 +19,23 @@ use Rattle.route_req.specs.declared.routing.Routed.{Routed}
 use Rattle.route_req.specs.declared.routing.Routed.TheVariants as routed
 use Rattle.watch_rules.specs.declared.ask.WatchAsk.{WatchAsk}
 use Rattle.watch_rules.specs.declared.starts.Start.{Start}
-use Rattle.client_api.specs.Alone.{IsSoleRead, SoleWrite, SoleTransact, SoleOperate}
+use Rattle.client_api.specs.Alone.{known, IsSoleRead, SoleWrite, SoleTransact, SoleOperate}
 use Rattle.client_api.specs.declared.answers.ListNo.{ListNo}
 use Rattle.client_api.specs.declared.answers.ListNo.TheVariants.{Expired, TooLarge, Absent, Memory}
 use Rattle.client_api.specs.Told.{IsToldWrite, IsToldTx, IsToldOperation}
 use Rattle.sess_reply.specs.Replies.{unrouted, wrote, transacted, got, listed, operated, described, metered, unready, unwatched, bad_upgrade}
 use Rattle.sess_turns.specs.Terms.{Terms}
-use Rattle.sess_serve.specs.Answers.{Answer, Stream, gone, begun, replied, streamed, IsAnswerTo, readiness, FailsUpgrade}
+use Rattle.sess_serve.specs.Answers.{Answer, Stream, gone, begun, replied, streamed, IsAnswerTo, readiness}
 use Rattle.sess_serve.specs.Steps.{Exchange, Says, StreamSays, UnwatchedSays, IsAlone, IsAloneStream}
 use Rattle.answered_requests.specs.Due.{IsDue, IsKept, MayBeDone}
 use Rattle.answered_requests.specs.Hindered.{IsHindered, IsCutOff}
 use Rattle.answered_requests.specs.Laws.{RequestsAreServedAlone}
 use Rattle.answered_requests.specs.Served.{IsServed}
 use Rattle.answered_requests.specs.Writing.{Takes}
-use Rattle.answered_requests.proofs.AnswerLemmas.{exchange, Outcome, get_outcome, list_outcome, routed_clash}
+use Rattle.answered_requests.proofs.AnswerLemmas.{exchange, Outcome, get_outcome, list_outcome, routed_clash, upgrade_clash}
+use Rattle.answered_requests.proofs.ChangesLemmas.{as_answered, as_written, tx_refused, write_refused}
 use Rattle.answered_requests.proofs.ReachLemmas.{reach_clash, start_clash, start_too_large, operation_clash}
 use Rattle.answered_requests.proofs.WriteLemmas.{refused_write, refused_transaction, takes_clash}
-
-upgrade-clash : (wanted : Option Upgrade) → IfSome wanted (λ (u : Upgrade). IsUpgrade u.key u.version) → FailsUpgrade wanted → ⊥
-upgrade-clash None as_it_must not = not
-upgrade-clash (Some u) as_it_must not = not as_it_must
 
 unless-hindered : (terms : Terms) (p : Pass RevisionData) (e : Exchange) (route : Routed) → Outcome terms p e route → (IsHindered terms p e route → ⊥) → IsServed terms p e route
 unless-hindered terms p e route outcome clear = elim outcome [
@@ -63,21 +56,19 @@ module _ (terms : Terms) (p q : Pass RevisionData) (req : Req) (lawful : IsPass 
       SoleWrite terms.base terms.mirror history p ask answer q → Takes terms.mirror (log_of terms.base p) (ask ∷ []) →
       IsServed terms p (answered (replied (wrote ask answer))) (routed.Write ask)
   taken history ask (Ok written) told is sole takes = (written, record { answer_is = refl; status_is = refl }, is)
-  taken history ask (Err (write_no.Exists at present)) told is sole takes = absurd (takes_clash _ _ _ takes (refused_write _ _ ask (write_no.Exists at present) sole.0.0))
-  taken history ask (Err (write_no.Absent at)) told is sole takes = absurd (takes_clash _ _ _ takes (refused_write _ _ ask (write_no.Absent at) sole.0.0))
-  taken history ask (Err (write_no.Stale at given present)) told is sole takes = absurd (takes_clash _ _ _ takes (refused_write _ _ ask (write_no.Stale at given present) sole.0.0))
-  taken history ask (Err (write_no.UsedUp at)) told is sole takes = absurd (takes_clash _ _ _ takes (refused_write _ _ ask (write_no.UsedUp at) sole.0.0))
-  taken history ask (Err (write_no.ReadOnly at)) told is sole takes = absurd (takes_clash _ _ _ takes (refused_write _ _ ask (write_no.ReadOnly at) sole.0.0))
-  taken history ask (Err write_no.Memory) told is sole takes = absurd told
+  taken history ask (Err fault) told is sole takes =
+      let answer = as_written terms.base terms.mirror history p q ask (Err fault) told sole in
+      let refused = write_refused terms.base terms.mirror history (known p) ask (known q) fault told answer in
+      absurd (takes_clash _ _ _ takes (refused_write _ _ ask fault refused.0))
 
   all-taken : (history : ℕ) (asks : List WriteAsk) (answer : Result (List Written) TxWriteNo) → IsToldTx answer → IsTransactionReply terms.base terms.mirror p asks answer q →
       SoleTransact terms.base terms.mirror history p asks answer q → Takes terms.mirror (log_of terms.base p) asks →
       IsServed terms p (answered (replied (transacted asks answer))) (routed.Transact asks)
   all-taken history asks (Ok answers) told is sole takes = (answers, record { answer_is = refl; status_is = refl }, is)
-  all-taken history asks (Err (tx_no.Item index fault)) told is sole takes = absurd (takes_clash _ _ _ takes (refused_transaction _ _ asks (tx_no.Item index fault) sole.0))
-  all-taken history asks (Err (tx_no.UsedUp at)) told is sole takes = absurd (takes_clash _ _ _ takes (refused_transaction _ _ asks (tx_no.UsedUp at) sole.0))
-  all-taken history asks (Err (tx_no.ReadOnly at)) told is sole takes = absurd (takes_clash _ _ _ takes (refused_transaction _ _ asks (tx_no.ReadOnly at) sole.0))
-  all-taken history asks (Err tx_no.Memory) told is sole takes = absurd told
+  all-taken history asks (Err fault) told is sole takes =
+      let answer = as_answered terms.base terms.mirror history p q asks (Err fault) told sole in
+      let refused = tx_refused terms.base terms.mirror history (known p) asks (known q) fault told answer in
+      absurd (takes_clash _ _ _ takes (refused_transaction _ _ asks fault refused.0))
 
   -- the history of a log that nobody else holds
   with-history : (history : Option ℕ) (P : ℕ → Type 0) → IsSomeAnd history P → (n : ℕ) × P n
@@ -131,7 +122,7 @@ module _ (terms : Terms) (p q : Pass RevisionData) (req : Req) (lawful : IsPass 
     served_of (replied (metered told)) to says sole = same-due routed.Metrics _ to (λ _. (told, record { answer_is = refl; status_is = refl }, says))
     served_of (replied unready) to says sole = same-due (routed.Describe readiness) _ to (λ _. inr (refl, says.0, record { answer_is = refl; status_is = refl }))
     served_of (replied (unwatched ask fault)) to says sole = same-due (routed.Watch ask) _ to.0 (λ d. absurd (refused-start ask fault says sole d.1))
-    served_of (replied (bad_upgrade ask)) to says sole = same-due (routed.Watch ask) _ to.0 (λ d. absurd (upgrade-clash req.upgrade d.0 to.1))
+    served_of (replied (bad_upgrade ask)) to says sole = same-due (routed.Watch ask) _ to.0 (λ d. absurd (upgrade_clash req.upgrade d.0 to.1))
     served_of (streamed ask stream) to says sole = same-due (routed.Watch ask) _ to.0 (λ d. begins ask stream says sole d.1)
 
 pub are_served_alone : AnswersAgree → RoutesAreNotRefused → RequestsAreServedAlone

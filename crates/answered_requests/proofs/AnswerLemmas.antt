@@ -1,9 +1,11 @@
 -- Each answer serves its request, or tells what stands in its way.
-use Rattle.std.specs.Prelude.{Result, Ok, Err}
-use Rattle.std.proofs.Common.{ℕ, ◌⊎◌, inl, inr, List, [], ◌∷◌, refl, sym, subst}
+use Rattle.std.specs.Prelude.{Result, Ok, Err, IfSome}
+use Rattle.std.proofs.Common.{ℕ, ◌⊎◌, inl, inr, List, [], ◌∷◌, Option, Some, None, refl, sym, subst}
 use Rattle.rev_front.specs.Passes.{Pass}
 use Rattle.rev_log.specs.Changes.{RevisionData}
 use Rattle.http_read.specs.declared.request.Req.{Req}
+use Rattle.http_read.specs.declared.request.Upgrade.{Upgrade}
+use Rattle.ws_watch.specs.Handshake.{IsUpgrade}
 use Rattle.list_rules.specs.declared.ask.ListAsk.{ListAsk}
 use Rattle.list_rules.specs.declared.get.GetAsk.{GetAsk}
 use Rattle.watch_rules.specs.declared.ask.WatchAsk.{WatchAsk}
@@ -31,7 +33,7 @@ use Rattle.client_api.specs.declared.answers.ListNo.{ListNo}
 use Rattle.client_api.specs.declared.answers.ListNo.TheVariants.{Expired, TooLarge, Absent, Memory}
 use Rattle.sess_reply.specs.Replies.{unrouted, wrote, transacted, got, listed, operated, described, metered, unready, unwatched, bad_upgrade}
 use Rattle.sess_turns.specs.Terms.{Terms}
-use Rattle.sess_serve.specs.Answers.{Answer, Stream, gone, begun, replied, streamed, IsAnswerTo, readiness, IsUnrouted}
+use Rattle.sess_serve.specs.Answers.{Answer, Stream, gone, begun, replied, streamed, IsAnswerTo, readiness, IsUnrouted, FailsUpgrade}
 use Rattle.sess_serve.specs.Steps.{Exchange, Says, StreamSays, UnwatchedSays}
 use Rattle.answered_requests.specs.Hindered.{IsHindered, IsCutOff}
 use Rattle.answered_requests.specs.Laws.{RequestsAreServed}
@@ -44,6 +46,11 @@ exchange req answer q = record { request = req; answer = answer; pass = q }
 
 abbrev pub Outcome : Terms → Pass RevisionData → Exchange → Routed → Type 0
 Outcome terms p e route = IsServed terms p e route ⊎ IsHindered terms p e route
+
+-- a head that asks for a WebSocket as it must doesn't fail to
+pub upgrade_clash : (upgrade : Option Upgrade) → IfSome upgrade (λ (u : Upgrade). IsUpgrade u.key u.version) → FailsUpgrade upgrade → ⊥
+upgrade_clash None is fails = fails
+upgrade_clash (Some u) is fails = fails is
 
 module _ (terms : Terms) (p q : Pass RevisionData) (req : Req) where
   pub list_outcome : (ask : ListAsk) (answer : Result ListedData ListNo) → IsToldRead answer → IsListAnswer terms.base p ask answer q →

@@ -20,7 +20,7 @@ use Rattle.up_store.specs.declared.writes.WriteNo.{WriteNo}
 use Rattle.up_store.specs.declared.writes.WriteNo.TheVariants as write_no
 use Rattle.up_store.specs.declared.writes.Written.{Written}
 use Rattle.up_store.proofs.OrderLemmas.{revisions_are_one}
-use Rattle.client_api.specs.Alone.{known, SoleTransact, SoleOperate, IsSoleOperation}
+use Rattle.client_api.specs.Alone.{known, SoleWrite, SoleTransact, SoleOperate, IsSoleOperation}
 use Rattle.client_api.specs.Told.{IsToldWrite, IsToldTx, IsToldOperation}
 use Rattle.answered_requests.specs.Determined.{IsSound}
 use Rattle.answered_requests.proofs.WriteLemmas.{none_is_some, same_some}
@@ -86,7 +86,18 @@ module _ (base : List RowData) (mirror : Bool) (history : ℕ) (w : Whole Revisi
       let second = tx_refused asks y other told' is' in
       (ap Err (same_some other fault (sym second.0 ∙ first.0)), second.1 ∙ sym first.1)
 
--- what a client says of a transaction is what the store says
+-- what a client says of a write is what the store says
+pub as_written : (base : List RowData) (mirror : Bool) (history : ℕ) (p q : Pass RevisionData) (ask : WriteAsk) (a : Result Written WriteNo) →
+    IsToldWrite a → SoleWrite base mirror history p ask a q → IsWriteAnswer base mirror history ask (known p) (known q) a
+as_written base mirror history p q ask (Ok a) told is = is.0
+as_written base mirror history p q ask (Err (write_no.Exists at present)) told is = is.0
+as_written base mirror history p q ask (Err (write_no.Absent at)) told is = is.0
+as_written base mirror history p q ask (Err (write_no.Stale at given present)) told is = is.0
+as_written base mirror history p q ask (Err (write_no.UsedUp at)) told is = is.0
+as_written base mirror history p q ask (Err (write_no.ReadOnly at)) told is = is.0
+as_written base mirror history p q ask (Err write_no.Memory) told is = absurd told
+
+-- and so of a transaction
 pub as_answered : (base : List RowData) (mirror : Bool) (history : ℕ) (p q : Pass RevisionData) (asks : List WriteAsk) (a : Result (List Written) TxWriteNo) → IsToldTx a →
     SoleTransact base mirror history p asks a q → IsTransactionAnswer base mirror history asks (known p) (known q) a
 as_answered base mirror history p q asks (Ok a) told is = (is.0.unrefused, is.1, (is.0.revision, is.0.revision_is, is.0.done))
@@ -98,6 +109,9 @@ as_answered base mirror history p q asks (Err tx_no.Memory) told is = absurd tol
 -- ---- operations
 
 pub one_cut : (w x y : Whole RevisionData) (a b : Result ℕ OpNo) → x.gen ≤ 2 ^ 62 → y.gen ≤ 2 ^ 62 → IsCutAnswer w x a → IsCutAnswer w y b → (b ≡ a) × (y ≡ x)
+one_cut w x y a (Err (op_no.Compacted asked floor)) low low' is is' = absurd is'
+one_cut w x y a (Err (op_no.Future asked current)) low low' is is' = absurd is'
+one_cut w x y a (Err op_no.Memory) low low' is is' = absurd is'
 one_cut w x y (Ok m) (Ok n) low low' is is' =
     let one : n ≡ m = is'.0 ∙ sym is.0 in
     (ap (λ (k : ℕ). Ok k) one, is'.1 ∙ ap (λ (k : ℕ). record w { gen = k }) one ∙ sym is.1)
@@ -110,15 +124,11 @@ one_cut w x y (Err (op_no.UsedUp at)) (Err (op_no.UsedUp other)) low low' is is'
 one_cut w x y (Err (op_no.Compacted asked floor)) b low low' is is' = absurd is
 one_cut w x y (Err (op_no.Future asked current)) b low low' is is' = absurd is
 one_cut w x y (Err op_no.Memory) b low low' is is' = absurd is
-one_cut w x y (Ok m) (Err (op_no.Compacted asked floor)) low low' is is' = absurd is'
-one_cut w x y (Ok m) (Err (op_no.Future asked current)) low low' is is' = absurd is'
-one_cut w x y (Ok m) (Err op_no.Memory) low low' is is' = absurd is'
-one_cut w x y (Err (op_no.UsedUp at)) (Err (op_no.Compacted asked floor)) low low' is is' = absurd is'
-one_cut w x y (Err (op_no.UsedUp at)) (Err (op_no.Future asked current)) low low' is is' = absurd is'
-one_cut w x y (Err (op_no.UsedUp at)) (Err op_no.Memory) low low' is is' = absurd is'
 
 pub one_compaction : (at : ℕ) (w x y : Whole RevisionData) (a b : Result ℕ OpNo) → w.floor ≤ revision w →
     IsCompactionAnswer at w x a → IsCompactionAnswer at w y b → (b ≡ a) × (y ≡ x)
+one_compaction at w x y a (Err (op_no.UsedUp n)) low is is' = absurd is'
+one_compaction at w x y a (Err op_no.Memory) low is is' = absurd is'
 one_compaction at w x y (Ok m) (Ok n) low is is' = (ap (λ (k : ℕ). Ok k) (is'.0 ∙ sym is.0), is'.3 ∙ sym is.3)
 one_compaction at w x y (Ok m) (Err (op_no.Compacted asked floor)) low is is' = absurd (omega (arith, is.1, is'.0, is'.1, is'.2))
 one_compaction at w x y (Ok m) (Err (op_no.Future asked current)) low is is' = absurd (omega (arith, is.2, is'.0, is'.1, is'.2))
@@ -138,12 +148,6 @@ one_compaction at w x y (Err (op_no.Future asked current)) (Err (op_no.Future ot
     ((λ i. Err (op_no.Future (first i) (second i))), is'.3 ∙ sym is.3)
 one_compaction at w x y (Err (op_no.UsedUp n)) b low is is' = absurd is
 one_compaction at w x y (Err op_no.Memory) b low is is' = absurd is
-one_compaction at w x y (Ok m) (Err (op_no.UsedUp n)) low is is' = absurd is'
-one_compaction at w x y (Ok m) (Err op_no.Memory) low is is' = absurd is'
-one_compaction at w x y (Err (op_no.Compacted asked floor)) (Err (op_no.UsedUp n)) low is is' = absurd is'
-one_compaction at w x y (Err (op_no.Compacted asked floor)) (Err op_no.Memory) low is is' = absurd is'
-one_compaction at w x y (Err (op_no.Future asked current)) (Err (op_no.UsedUp n)) low is is' = absurd is'
-one_compaction at w x y (Err (op_no.Future asked current)) (Err op_no.Memory) low is is' = absurd is'
 
 -- a restart is done, and answers the floor
 restarted : (p q : Pass RevisionData) (a : Result ℕ OpNo) → IsToldOperation a → IsOperationReply p Restart a q → q.floor ≡ p.floor → a ≡ Ok p.floor

@@ -16,8 +16,6 @@ use Rattle.rev_log.specs.States.{IsStateAt}
 use Rattle.rev_log.proofs.StateLemmas.{are_unique}
 use Rattle.up_api.specs.Sections.{log_of}
 use Rattle.http_read.specs.declared.request.Req.{Req}
-use Rattle.http_read.specs.declared.request.Upgrade.{Upgrade}
-use Rattle.ws_watch.specs.Handshake.{IsUpgrade}
 use Rattle.up_store.specs.Replies.{IsOperationReply}
 use Rattle.up_store.specs.Stores.{accepted}
 use Rattle.up_store.specs.Transacting.{IsTransactionAnswer}
@@ -29,7 +27,6 @@ use Rattle.up_store.specs.declared.operations.OpNo.TheVariants as op_no
 use Rattle.up_store.specs.declared.transactions.TxWriteNo.{TxWriteNo}
 use Rattle.up_store.specs.declared.writes.WriteAsk.{WriteAsk}
 use Rattle.up_store.specs.declared.writes.WriteNo.{WriteNo}
-use Rattle.up_store.specs.declared.writes.WriteNo.TheVariants as write_no
 use Rattle.up_store.specs.declared.writes.Written.{Written}
 use Rattle.route_req.specs.Asks.{IsRoute}
 use Rattle.route_req.specs.Outcomes.{AnswersAgree, RefusalsAgree, RoutesAreNotRefused}
@@ -51,8 +48,8 @@ use Rattle.sess_turns.specs.Terms.{Terms}
 use Rattle.sess_serve.specs.Answers.{Answer, replied, streamed, is_stream, IsAnswerTo, IsUnrouted, IsPlainOrUpgrade, FailsUpgrade, readiness}
 use Rattle.sess_serve.specs.Steps.{Exchange, Says, IsAlone, Run, AreAlone}
 use Rattle.answered_requests.specs.Determined.{HaveReplies, AreOne, AreAnsweredAlike, HoldAlike, TellAlike, IsSound, RepliesAreDetermined}
-use Rattle.answered_requests.proofs.AnswerLemmas.{refusal_of, routed_clash}
-use Rattle.answered_requests.proofs.ChangesLemmas.{as_answered, made_of, one_write, one_transaction, one_operation, write_refused, tx_refused}
+use Rattle.answered_requests.proofs.AnswerLemmas.{refusal_of, routed_clash, upgrade_clash}
+use Rattle.answered_requests.proofs.ChangesLemmas.{as_answered, as_written, made_of, one_write, one_transaction, one_operation, write_refused, tx_refused}
 use Rattle.answered_requests.proofs.ReadsLemmas.{one_list, one_get, one_start}
 
 -- ---- the floor stays within the log
@@ -141,11 +138,6 @@ module _ (base : List RowData) (q r : Pass RevisionData) (same : known r ≡ kno
     deployments = hold-alike Deployments a.deployments b.deployments is.deployments is'.deployments;
   }
 
--- a head that asks for a WebSocket as it must doesn't fail to
-upgrade-clash : (upgrade : Option Upgrade) → IfSome upgrade (λ (u : Upgrade). IsUpgrade u.key u.version) → FailsUpgrade upgrade → ⊥
-upgrade-clash None is fails = fails
-upgrade-clash (Some u) is fails = fails is
-
 -- ---- what an answer says, by what its request asks for
 
 abbrev ByRoute : Terms → ℕ → Pass RevisionData → Req → Answer → Pass RevisionData → Routed → Type 0
@@ -180,22 +172,13 @@ record Untold (p : Pass RevisionData) (req : Req) (a : Answer) (q : Pass Revisio
   is : IsUnrouted req fault
   sole : IsSoleRead p q
 
-written-so : (terms : Terms) (history : ℕ) (p q : Pass RevisionData) (ask : WriteAsk) (x : Result Written WriteNo) → IsToldWrite x →
-    SoleWrite terms.base terms.mirror history p ask x q → IsWriteAnswer terms.base terms.mirror history ask (known p) (known q) x
-written-so terms history p q ask (Ok a) told is = is.0
-written-so terms history p q ask (Err (write_no.Exists at present)) told is = is.0
-written-so terms history p q ask (Err (write_no.Absent at)) told is = is.0
-written-so terms history p q ask (Err (write_no.Stale at given present)) told is = is.0
-written-so terms history p q ask (Err (write_no.UsedUp at)) told is = is.0
-written-so terms history p q ask (Err (write_no.ReadOnly at)) told is = is.0
-written-so terms history p q ask (Err write_no.Memory) told is = absurd told
-
 module _ (terms : Terms) (history : ℕ) (if-sole : (P : ℕ → Type 0) → IsSomeAnd terms.sole_history P → P history) where
   routes : (p q : Pass RevisionData) (req : Req) (a : Answer) → IsAnswerTo req a → Says terms p a q → IsAlone terms p a q → is_stream a ≡ false →
       Routes terms history p req a q ⊎ Untold p req a q
   routes p q req (replied (unrouted fault)) to says sole plain = inr (record { fault = fault; answer_is = refl; is = to; sole = sole })
   routes p q req (replied (wrote ask x)) to says sole plain =
-      inl (record { route = routed.Write ask; is = to; by = (x, refl, says.0, written-so terms history p q ask x says.0 (if-sole (λ h. SoleWrite terms.base terms.mirror h p ask x q) sole)) })
+      let said = as_written terms.base terms.mirror history p q ask x says.0 (if-sole (λ h. SoleWrite terms.base terms.mirror h p ask x q) sole) in
+      inl (record { route = routed.Write ask; is = to; by = (x, refl, says.0, said) })
   routes p q req (replied (transacted asks x)) to says sole plain =
       inl (record { route = routed.Transact asks; is = to; by = (x, refl, says.0, as_answered terms.base terms.mirror history p q asks x says.0 (if-sole (λ h. SoleTransact terms.base terms.mirror h p asks x q) sole)) })
   routes p q req (replied (got ask x)) to says sole plain = inl (record { route = routed.Get ask; is = to; by = (x, refl, says.0, says.1, sole) })
@@ -266,10 +249,10 @@ module _ (terms : Terms) (history : ℕ) (if-sole : (P : ℕ → Type 0) → IsS
               (ap (λ (no : ListNo). replied (unwatched ask no)) (one_start p q o r sound lawful x.5 sound' lawful' y.5 same ask x.0 x.1 y.0 y.1 x.4 y.4)),
           reads-same x.5 y.5,
         )
-        | inr y ↦ absurd (upgrade-clash req.upgrade x.3 y.1)
+        | inr y ↦ absurd (upgrade_clash req.upgrade x.3 y.1)
       ]
       | inr x ↦ elim by' [
-        | inl y ↦ absurd (upgrade-clash req.upgrade y.3 x.1)
+        | inl y ↦ absurd (upgrade_clash req.upgrade y.3 x.1)
         | inr y ↦ (are-one a b (replied (bad_upgrade ask)) (replied (bad_upgrade ask)) x.0 y.0 refl, reads-same x.2 y.2)
       ]
     ]

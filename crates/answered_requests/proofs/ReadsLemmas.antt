@@ -160,6 +160,8 @@ module _ (base : List RowData) (p q o r : Pass RevisionData) (sound : IsSound p)
     (sound' : IsSound o) (lawful' : IsPass Fits r) (sole' : IsSoleRead o r) (same : known o ≡ known p) where
   pub one_list : (mirror : Bool) (ask : ListAsk) (a b : Result ListedData ListNo) → IsToldRead a → IsToldRead b → IsListAnswer base p ask a q → IsListAnswer base o ask b r →
       AreOne mirror (replied (listed ask a)) (replied (listed ask b))
+  one_list mirror ask a (Err (Absent at)) told told' is is' = absurd is'
+  one_list mirror ask a (Err Memory) told told' is is' = absurd told'
   one_list mirror ask (Ok page) (Ok later) told told' is is' =
       ap (λ (x : ListedData). replied (listed ask (Ok x))) (one-page p q o r sound lawful sole sound' lawful' sole' same base ask page later is is')
   one_list mirror ask (Ok page) (Err (Expired asked floor)) told told' is is' =
@@ -180,12 +182,6 @@ module _ (base : List RowData) (p q o r : Pass RevisionData) (sound : IsSound p)
       ap (λ (no : ListNo). replied (listed ask (Err no))) (one-refusal p q o r sound lawful sole sound' lawful' sole' same ask.meaning asked current other later is is')
   one_list mirror ask (Err (Absent at)) b told told' is is' = absurd is
   one_list mirror ask (Err Memory) b told told' is is' = absurd told
-  one_list mirror ask (Ok page) (Err (Absent at)) told told' is is' = absurd is'
-  one_list mirror ask (Ok page) (Err Memory) told told' is is' = absurd told'
-  one_list mirror ask (Err (Expired asked floor)) (Err (Absent at)) told told' is is' = absurd is'
-  one_list mirror ask (Err (Expired asked floor)) (Err Memory) told told' is is' = absurd told'
-  one_list mirror ask (Err (TooLarge asked current)) (Err (Absent at)) told told' is is' = absurd is'
-  one_list mirror ask (Err (TooLarge asked current)) (Err Memory) told told' is is' = absurd told'
 
   -- ---- gets
 
@@ -197,6 +193,8 @@ module _ (base : List RowData) (p q o r : Pass RevisionData) (sound : IsSound p)
 
   pub one_get : (ask : GetAsk) (a b : Result GotData ListNo) → IsToldRead a → IsToldRead b → IsGetAnswer base p ask a q → IsGetAnswer base o ask b r →
       replied (got ask b) ≡ replied (got ask a)
+  one_get ask a (Err (Expired asked floor)) told told' is is' = absurd is'
+  one_get ask a (Err Memory) told told' is is' = absurd told'
   one_get ask (Ok given) (Ok later) told told' is is' =
       let rev : later.at ≡ given.at = one-revision p q o r sound lawful sole sound' lawful' sole' same ask.meaning given.at later.at is.fresh is'.fresh in
       let row : later.row ≡ given.row = same_some later.row given.row (sym is'.row ∙ row-there ask given.at later.at is.fresh is'.fresh ∙ is.row) in
@@ -219,9 +217,3 @@ module _ (base : List RowData) (p q o r : Pass RevisionData) (sound : IsSound p)
       ap (λ (x : ℕ). replied (got ask (Err (Absent x)))) (one-revision p q o r sound lawful sole sound' lawful' sole' same ask.meaning at later is.fresh is'.fresh)
   one_get ask (Err (Expired asked floor)) b told told' is is' = absurd is
   one_get ask (Err Memory) b told told' is is' = absurd told
-  one_get ask (Ok given) (Err (Expired asked floor)) told told' is is' = absurd is'
-  one_get ask (Ok given) (Err Memory) told told' is is' = absurd told'
-  one_get ask (Err (TooLarge asked current)) (Err (Expired other floor)) told told' is is' = absurd is'
-  one_get ask (Err (TooLarge asked current)) (Err Memory) told told' is is' = absurd told'
-  one_get ask (Err (Absent at)) (Err (Expired asked floor)) told told' is is' = absurd is'
-  one_get ask (Err (Absent at)) (Err Memory) told told' is is' = absurd told'

@@ -3,13 +3,13 @@
 ghost use Rattle.up_api.specs.Settings.{AreInRange};
 
 use crate::intake::Limit;
-use crate::shared::{Front, Gate};
+use crate::shared::{Front, Gate, Host};
 use crate::tally::Tally;
 use bells::Rung;
 use edge_io::Listener;
 use kube_meta::Memory;
 use std::sync::Wait;
-use std::thread::{self, Builder, Threads};
+use std::thread::{self, Builder};
 use up_api::LogFacts;
 
 /// The bytes of a helper's stack.
@@ -26,13 +26,14 @@ pub enum Stay {
 
 /// Makes helpers while few threads wait for a connection and fewer than `open` live, until none will come or, where no
 /// thread lives, none can be made. It returns once the last helper has ended.
-pub fn keep_house<B, L, N, R>(front: &Front<'_, N, R>, gate: &Gate<L, B>, open: u64)
+pub fn keep_house<B: Limit + Send + Sync, L, N: LogFacts + Send + Sync, R: Host>(
+    front: &Front<'_, N, R>,
+    gate: &Gate<L, B>,
+    open: u64,
+)
 where
-    B: Limit + Send + Sync,
     L: Listener + Send + Drop,
     L::T: Rung,
-    N: LogFacts + Send + Sync,
-    R: Threads + Wait + Copy + Send + Sync,
 {
     thread::scope(
         thread::scope_env(),
@@ -77,17 +78,14 @@ where
 }
 
 /// Runs so many workers, this thread being one of them.
-pub fn work_side_by_side<B, L, N, R>(
+pub fn work_side_by_side<B: Limit + Send + Sync, L, N: LogFacts + Send + Sync, R: Host>(
     front: &Front<'_, N, R>,
     gate: &Gate<L, B>,
     workers: usize,
 ) -> Result<(), Memory>
 where
-    B: Limit + Send + Sync,
     L: Listener + Send + Drop,
     L::T: Rung,
-    N: LogFacts + Send + Sync,
-    R: Threads + Wait + Copy + Send + Sync,
 {
     let worker = |_number: usize|
         requires { AreInRange front.now.settings }

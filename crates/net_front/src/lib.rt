@@ -23,3 +23,4 @@ pub use intake::Served;
 pub use mirror::serve_mirror;
 pub use redial::{News, Redial};
 pub use server::{serve_all, serve_open};
+pub use shared::Host;

@@ -8,7 +8,7 @@ use crate::following::follow;
 use crate::intake::Served;
 use crate::redial::Redial;
 use crate::server::serve_front;
-use crate::shared::Front;
+use crate::shared::{Front, Host};
 use bells::Rung;
 use edge_io::{Clock, Listener, Source};
 use kube_meta::Memory;
@@ -16,8 +16,7 @@ use mirror_link::Mirror;
 use request_counts::{Counts, Peer};
 use shared_client::Cacher;
 use std::alloc::Global;
-use std::sync::Wait;
-use std::thread::{self, Threads};
+use std::thread;
 use up_api::{LogFacts, Settings};
 
 /// Serves as [`serve_open`](crate::serve_open) does, over the caches of a mirror's log, and follows the peer beside
@@ -27,7 +26,7 @@ use up_api::{LogFacts, Settings};
 /// or the peer has another log; the server goes on with what it has then. While it doesn't follow, it isn't ready.
 ///
 /// Whoever follows waits for the peer's bytes, so this may return only once the next line has come.
-pub fn serve_mirror<L, N, S, D, T, R>(
+pub fn serve_mirror<L, N, S: Source + Send, D: Redial + Send, T: Clock + Send, R: Host>(
     rt: &R,
     alloc: Global,
     listener: L,
@@ -44,12 +43,8 @@ pub fn serve_mirror<L, N, S, D, T, R>(
 ) -> Result<Served<L>, Memory>
 where
     L: Listener + Send + Drop,
-    L::T: Rung,
     N: LogFacts + Send + Sync,
-    S: Source + Send,
-    D: Redial + Send,
-    T: Clock + Send,
-    R: Threads + Wait + Copy + Send + Sync,
+    L::T: Rung,
     requires workers { (1 ≤ workers) × (workers ≤ 64) }
     requires connections { connections ≤ 2 ^ 62 }
     requires fresh { (L.given listener ≡ 0) × (L.faults listener ≡ 0) }

@@ -7,7 +7,7 @@ ghost use Rattle.up_api.specs.Settings.{AreInRange};
 use crate::host::{keep_house, work_side_by_side};
 use crate::intake::{Intake, Limit, Served};
 use crate::pump::pump;
-use crate::shared::{Front, Gate};
+use crate::shared::{Front, Gate, Host};
 use crate::tally::Tally;
 use bells::Rung;
 use edge_io::{Clock, Listener};
@@ -18,7 +18,7 @@ use std::alloc::Global;
 use std::marker::Brand;
 use std::sync::ledger::Blank;
 use std::sync::{Mutex, Wait};
-use std::thread::{self, Threads};
+use std::thread;
 use up_api::{LogFacts, Settings};
 
 /// The most connections of one server.
@@ -34,7 +34,7 @@ const PARTS: u64 = 1 << 62;
 /// It ends where no more connections will come, where accepting failed, after which nothing is accepted, or where so
 /// many were accepted; the sessions that go on then are served to their ends. `Memory` is answered where there was none
 /// for a client.
-pub fn serve_all<L, N, T, R>(
+pub fn serve_all<L: Listener + Send + Drop, N: LogFacts + Send + Sync, T: Clock + Send, R: Host>(
     rt: &R,
     alloc: Global,
     listener: L,
@@ -45,11 +45,7 @@ pub fn serve_all<L, N, T, R>(
     settings: &Settings,
 ) -> Result<Served<L>, Memory>
 where
-    L: Listener + Send + Drop,
     L::T: Rung,
-    N: LogFacts + Send + Sync,
-    T: Clock + Send,
-    R: Threads + Wait + Copy + Send + Sync,
     requires workers { (1 ≤ workers) × (workers ≤ 64) }
     requires connections { connections ≤ 2 ^ 62 }
     requires fresh { (L.given listener ≡ 0) × (L.faults listener ≡ 0) }
@@ -76,7 +72,7 @@ where
 
 /// The same, with helpers beside the workers: threads that are made while few wait for a connection, and go where many
 /// do. At most `open` connections are served at once, or as many as there are workers.
-pub fn serve_open<L, N, T, R>(
+pub fn serve_open<L: Listener + Send + Drop, N: LogFacts + Send + Sync, T: Clock + Send, R: Host>(
     rt: &R,
     alloc: Global,
     listener: L,
@@ -88,11 +84,7 @@ pub fn serve_open<L, N, T, R>(
     settings: &Settings,
 ) -> Result<Served<L>, Memory>
 where
-    L: Listener + Send + Drop,
     L::T: Rung,
-    N: LogFacts + Send + Sync,
-    T: Clock + Send,
-    R: Threads + Wait + Copy + Send + Sync,
     requires workers { (1 ≤ workers) × (workers ≤ 64) }
     requires connections { connections ≤ 2 ^ 62 }
     requires fresh { (L.given listener ≡ 0) × (L.faults listener ≡ 0) }
@@ -110,7 +102,7 @@ where
 }
 
 /// The same, over what its threads share.
-pub(crate) fn serve_front<L, N, T, R>(
+pub(crate) fn serve_front<L, N: LogFacts + Send + Sync, T: Clock + Send, R: Host>(
     front: &Front<'_, N, R>,
     listener: L,
     clock: &mut T,
@@ -121,9 +113,6 @@ pub(crate) fn serve_front<L, N, T, R>(
 where
     L: Listener + Send + Drop,
     L::T: Rung,
-    N: LogFacts + Send + Sync,
-    T: Clock + Send,
-    R: Threads + Wait + Copy + Send + Sync,
     requires connections { connections ≤ 2 ^ 62 }
     requires fresh { (L.given listener ≡ 0) × (L.faults listener ≡ 0) }
     ensures accepted { IfOk result (λ served. served.accepted ≡ L.given served.listener) }
@@ -139,7 +128,7 @@ where
 }
 
 // The same, up to a limit that `B` names, and with its ledger.
-fn serve_up_to<B, L, N, T, R>(
+fn serve_up_to<B: Limit + Send + Sync, L, N: LogFacts + Send + Sync, T: Clock + Send, R: Host>(
     front: &Front<'_, N, R>,
     blank: Blank,
     listener: L,
@@ -149,12 +138,8 @@ fn serve_up_to<B, L, N, T, R>(
     limit: u64,
 ) -> Result<Served<L>, Memory>
 where
-    B: Limit + Send + Sync,
     L: Listener + Send + Drop,
     L::T: Rung,
-    N: LogFacts + Send + Sync,
-    T: Clock + Send,
-    R: Threads + Wait + Copy + Send + Sync,
     requires limit { limit ≡ B.limit }
     requires few { limit ≤ 2 ^ 62 }
     requires name { blank.name ≡ B.name }
@@ -179,7 +164,7 @@ where
 
 // Runs the threads that serve, and the pump beside them, which hears of the end once all sessions have ended. Where no
 // thread can be made for it the pump comes last, and ends at once.
-fn serve_together<B, L, N, T, R>(
+fn serve_together<B: Limit + Send + Sync, L, N: LogFacts + Send + Sync, T: Clock + Send, R: Host>(
     front: &Front<'_, N, R>,
     gate: &Gate<L, B>,
     clock: &mut T,
@@ -187,12 +172,8 @@ fn serve_together<B, L, N, T, R>(
     open: u64,
 ) -> Result<(), Memory>
 where
-    B: Limit + Send + Sync,
     L: Listener + Send + Drop,
     L::T: Rung,
-    N: LogFacts + Send + Sync,
-    T: Clock + Send,
-    R: Threads + Wait + Copy + Send + Sync,
 {
     let pumping = || pump(
         front.rt,
@@ -214,18 +195,15 @@ where
 }
 
 // Runs the workers, and the host beside them.
-fn serve_beside<B, L, N, R>(
+fn serve_beside<B: Limit + Send + Sync, L, N: LogFacts + Send + Sync, R: Host>(
     front: &Front<'_, N, R>,
     gate: &Gate<L, B>,
     workers: usize,
     open: u64,
 ) -> Result<(), Memory>
 where
-    B: Limit + Send + Sync,
     L: Listener + Send + Drop,
     L::T: Rung,
-    N: LogFacts + Send + Sync,
-    R: Threads + Wait + Copy + Send + Sync,
 {
     let hosting = ||
         requires { AreInRange front.now.settings }

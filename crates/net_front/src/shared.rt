@@ -13,7 +13,13 @@ use request_counts::{Counts, Peer};
 use shared_client::Cacher;
 use std::alloc::Global;
 use std::sync::{Mutex, Wait};
+use std::thread::Threads;
 use up_api::{LogFacts, Settings};
+
+/// What a server needs of the runtime.
+pub trait Host: Threads + Wait + Copy + Send + Sync {}
+
+impl<R: Threads + Wait + Copy + Send + Sync> Host for R {}
 
 /// What each of them serves by: the caches of the log, the peer that a mirror's log follows, the counts for monitors,
 /// the bell of the pump, the counts of the host, the end of the sessions, and the settings.

@@ -14,13 +14,11 @@ use crate::texts::{write_bad_line, write_help, write_version};
 use bells::Rung;
 use command_line::{Asked, WordsNo};
 use edge_io::{Clock, Listener, Net, Sink, Source};
-use net_front::Redial;
+use net_front::{Host, Redial};
 use std::alloc::Global;
-use std::sync::Wait;
-use std::thread::Threads;
 
 /// Does what is asked for, or refuses what asks for nothing. Answers the exit status.
-pub fn perform<R, S, K, T, N, D>(
+pub fn perform<R: Host, S: Source, K: Sink, T: Clock + Send, N: Net, D: Redial + Send>(
     rt: R,
     alloc: Global,
     asked: Result<Asked, WordsNo>,
@@ -31,13 +29,7 @@ pub fn perform<R, S, K, T, N, D>(
     redial: &mut D,
 ) -> u8
 where
-    R: Threads + Wait + Copy + Send + Sync,
-    S: Source,
-    K: Sink,
-    T: Clock + Send,
-    N: Net,
     <N::L as Listener>::T: Rung,
-    D: Redial + Send,
     requires range { IfOk asked IsInRange }
     requires few_faults { N.faults net.old < 2 ^ 62 }
     ensures { Does asked

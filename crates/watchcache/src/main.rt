@@ -26,15 +26,13 @@ use bells::Rung;
 use command_line::read_words;
 use commands::perform;
 use edge_io::{Clock, Listener, Net, ReadEnd, Sink, Source, StepClock, SystemClock, WriteEnd};
-use net_front::Redial;
+use net_front::{Host, Redial};
 use redial::LoopbackRedial;
 use statuses::OUT_OF_MEMORY;
 use std::alloc::{AllocError, Global};
 use std::env::{self, Env};
 use std::io::ErrorKind;
 use std::process::ExitCode;
-use std::sync::Wait;
-use std::thread::Threads;
 use tcp_net::LoopbackNet;
 
 /// Does all that the program does. `words` are those of the command line behind the program's name. Answers the exit
@@ -49,7 +47,7 @@ use tcp_net::LoopbackNet;
 /// how the body in it is judged: status 0 where it is lawful, 11 where it isn't, 12 where the bytes are no record.
 /// `--help` and `--version`, at any place, are told on `sink`: status 0. All else is a bad command line: status 2. The
 /// status is 4 where `sink` failed, and 8 where memory ran out.
-pub fn run<R, S, K, T, N, D>(
+pub fn run<R: Host, S: Source, K: Sink, T: Clock + Send, N: Net, D: Redial + Send>(
     rt: R,
     alloc: Global,
     words: &[String],
@@ -60,13 +58,7 @@ pub fn run<R, S, K, T, N, D>(
     redial: &mut D,
 ) -> u8
 where
-    R: Threads + Wait + Copy + Send + Sync,
-    S: Source,
-    K: Sink,
-    T: Clock + Send,
-    N: Net,
     <N::L as Listener>::T: Rung,
-    D: Redial + Send,
     requires { N.faults net.old < 2 ^ 62 }
     ensures { IsRun (map string_bytes words.now)
         (ends_of S.left S.faults source.old source.new T.readings clock.old clock.new

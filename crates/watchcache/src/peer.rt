@@ -19,7 +19,7 @@ use edge_io::{Clock, Listener, Net, Sink, Source};
 use kube_meta::{Memory, Resource};
 use mirror_link::Mirror;
 use mirror_opening::{LinkNo, Opening};
-use net_front::{Redial, serve_mirror};
+use net_front::{Host, Redial, serve_mirror};
 use rev_front::{Blank, blank};
 use rev_log::Revision;
 use select_all::Selection;
@@ -27,11 +27,10 @@ use shared_client::Cacher;
 use std::alloc::Global;
 use std::marker::Brand;
 use std::sync::Wait;
-use std::thread::Threads;
 use up_api::{LogFacts, Settings};
 
 /// Serves the connections to a port, as a mirror where the options name a peer. Answers the status.
-pub fn serve_any<R, K, T, N, D>(
+pub fn serve_any<R: Host, K: Sink, T: Clock + Send, N: Net, D: Redial + Send>(
     rt: R,
     alloc: Global,
     options: ServeOptions,
@@ -41,12 +40,7 @@ pub fn serve_any<R, K, T, N, D>(
     redial: &mut D,
 ) -> u8
 where
-    R: Threads + Wait + Copy + Send + Sync,
-    K: Sink,
-    T: Clock + Send,
-    N: Net,
     <N::L as Listener>::T: Rung,
-    D: Redial + Send,
     requires range { AreServed options }
     requires few_faults { N.faults net.old < 2 ^ 62 }
     ensures { RunsEither options.peer options (use_of N.faults N.served N.ended N.peer net.old net.new)
@@ -60,7 +54,7 @@ where
 
 // Serves the connections to a port as a mirror of the server at the port `peer`, whose pods it reads first and follows
 // then, over connections by `redial` once the first is over.
-fn serve_peer<R, K, T, N, D>(
+fn serve_peer<R: Host, K: Sink, T: Clock + Send, N: Net, D: Redial + Send>(
     rt: R,
     alloc: Global,
     options: ServeOptions,
@@ -71,12 +65,7 @@ fn serve_peer<R, K, T, N, D>(
     redial: &mut D,
 ) -> u8
 where
-    R: Threads + Wait + Copy + Send + Sync,
-    K: Sink,
-    T: Clock + Send,
-    N: Net,
     <N::L as Listener>::T: Rung,
-    D: Redial + Send,
     requires range { AreServed options }
     requires few_faults { N.faults net.old < 2 ^ 62 }
     ensures { RunsMirror options (use_of N.faults N.served N.ended N.peer net.old net.new)
@@ -91,7 +80,7 @@ where
 }
 
 // The same, over the first connection to the peer.
-fn open_over<R, K, T, N, D>(
+fn open_over<R: Host, K: Sink, T: Clock + Send, N: Net, D: Redial + Send>(
     rt: R,
     alloc: Global,
     options: ServeOptions,
@@ -104,12 +93,7 @@ fn open_over<R, K, T, N, D>(
     redial: &mut D,
 ) -> u8
 where
-    R: Threads + Wait + Copy + Send + Sync,
-    K: Sink,
-    T: Clock + Send,
-    N: Net,
     <N::L as Listener>::T: Rung,
-    D: Redial + Send,
     requires range { AreServed options }
     requires fresh { (N.L.S.faults source ≡ 0) × (N.L.K.faults request ≡ 0) }
     requires few_faults { N.faults net.old < 2 ^ 62 }
@@ -191,7 +175,7 @@ fn write_refusal<K: Sink>(no: LinkNo, sink: &mut K) -> u8
 }
 
 // Serves over a new log that begins with this opening.
-fn serve_opening<R, S, K, T, N, D>(
+fn serve_opening<R: Host, S: Source + Send, K: Sink, T: Clock + Send, N: Net, D: Redial + Send>(
     rt: R,
     alloc: Global,
     options: ServeOptions,
@@ -204,13 +188,7 @@ fn serve_opening<R, S, K, T, N, D>(
     redial: &mut D,
 ) -> u8
 where
-    R: Threads + Wait + Copy + Send + Sync,
-    S: Source + Send,
-    K: Sink,
-    T: Clock + Send,
-    N: Net,
     <N::L as Listener>::T: Rung,
-    D: Redial + Send,
     requires range { AreServed options }
     requires few_faults { N.faults net.old < 2 ^ 62 }
     ensures lawful { IsOpeningOf opening }
@@ -226,7 +204,7 @@ where
 }
 
 // The same, over the log whose table was just made.
-fn serve_log<L, R, S, K, T, N, D>(
+fn serve_log<L, R: Host, S: Source + Send, K: Sink, T: Clock + Send, N: Net, D: Redial + Send>(
     rt: R,
     alloc: Global,
     made: Blank<Revision>,
@@ -241,13 +219,7 @@ fn serve_log<L, R, S, K, T, N, D>(
 ) -> u8
 where
     L: LogFacts + Send + Sync,
-    R: Threads + Wait + Copy + Send + Sync,
-    S: Source + Send,
-    K: Sink,
-    T: Clock + Send,
-    N: Net,
     <N::L as Listener>::T: Rung,
-    D: Redial + Send,
     requires name { made ≡ L.log }
     requires first { made.first ≡ opening.base }
     requires base { L.base ≡ opening.rows }
@@ -301,7 +273,7 @@ where
 }
 
 // Listens, serves and tells how many sessions there were.
-fn serve_port<L, R, S, K, T, N, D>(
+fn serve_port<L, R: Host, S: Source + Send, K: Sink, T: Clock + Send, N: Net, D: Redial + Send>(
     rt: R,
     alloc: Global,
     cacher: &Cacher<L, R>,
@@ -316,13 +288,7 @@ fn serve_port<L, R, S, K, T, N, D>(
 ) -> u8
 where
     L: LogFacts + Send + Sync,
-    R: Threads + Wait + Copy + Send + Sync,
-    S: Source + Send,
-    K: Sink,
-    T: Clock + Send,
-    N: Net,
     <N::L as Listener>::T: Rung,
-    D: Redial + Send,
     requires mirror { L.mirror ≡ true }
     requires range { AreServed options }
     requires few_faults { N.faults net.old < 2 ^ 62 }

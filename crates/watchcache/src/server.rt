@@ -14,14 +14,13 @@ use command_line::ServeOptions;
 use edge_io::{Clock, Listener, Net, Sink};
 use itoa::Buffer;
 use kube_meta::Memory;
-use net_front::{Served, serve_open};
+use net_front::{Host, Served, serve_open};
 use rev_front::{Blank, blank};
 use rev_log::Revision;
 use shared_client::Cacher;
 use std::alloc::Global;
 use std::marker::Brand;
 use std::sync::Wait;
-use std::thread::Threads;
 use up_api::{LogFacts, Settings};
 use up_store::{Store, StoreDoor};
 
@@ -29,7 +28,7 @@ use up_store::{Store, StoreDoor};
 const FIRST: u64 = 1;
 
 /// Serves the connections to a port, over caches of one new log, and tells how many there were. Answers the status.
-pub fn serve<R, K, T, N>(
+pub fn serve<R: Host, K: Sink, T: Clock + Send, N: Net>(
     rt: R,
     alloc: Global,
     options: ServeOptions,
@@ -38,10 +37,6 @@ pub fn serve<R, K, T, N>(
     net: &mut N,
 ) -> u8
 where
-    R: Threads + Wait + Copy + Send + Sync,
-    K: Sink,
-    T: Clock + Send,
-    N: Net,
     <N::L as Listener>::T: Rung,
     requires range { AreServed options }
     requires few_faults { N.faults net.old < 2 ^ 62 }
@@ -55,7 +50,7 @@ where
 }
 
 // The same, over the log whose table was just made.
-fn serve_log<L, R, K, T, N>(
+fn serve_log<L: LogFacts + Send + Sync, R: Host, K: Sink, T: Clock + Send, N: Net>(
     rt: R,
     alloc: Global,
     made: Blank<Revision>,
@@ -65,11 +60,6 @@ fn serve_log<L, R, K, T, N>(
     net: &mut N,
 ) -> u8
 where
-    L: LogFacts + Send + Sync,
-    R: Threads + Wait + Copy + Send + Sync,
-    K: Sink,
-    T: Clock + Send,
-    N: Net,
     <N::L as Listener>::T: Rung,
     requires name { made ≡ L.log }
     requires base { L.base ≡ [] }
@@ -111,7 +101,7 @@ where
 }
 
 // Listens, serves and tells how many sessions there were.
-fn serve_port<L, R, K, T, N>(
+fn serve_port<L: LogFacts + Send + Sync, R: Host, K: Sink, T: Clock + Send, N: Net>(
     rt: R,
     alloc: Global,
     cacher: &Cacher<L, R>,
@@ -121,11 +111,6 @@ fn serve_port<L, R, K, T, N>(
     net: &mut N,
 ) -> u8
 where
-    L: LogFacts + Send + Sync,
-    R: Threads + Wait + Copy + Send + Sync,
-    K: Sink,
-    T: Clock + Send,
-    N: Net,
     <N::L as Listener>::T: Rung,
     requires range { AreServed options }
     requires few_faults { N.faults net.old < 2 ^ 62 }
