@@ -50,38 +50,11 @@ pub struct Bodies;
 impl Steps for Bodies {
     fn answer(&mut self, alloc: Global, step: &str, told: &mut Wording) -> Result<(), Memory> {
         let row = Row::of(step);
-        judge_changes(alloc, row, &changes_of(alloc, row.log, row.first)?, told)
+        let changes = changes_of(alloc, row.log, row.first)?;
+        let log = log_text(alloc, &changes)?;
+        let record = record_text(alloc, row, &changes, log.as_str())?;
+        judge(alloc, record.as_str(), log.as_str(), told)
     }
-}
-
-fn judge_changes(
-    alloc: Global,
-    row: Row<'_>,
-    changes: &[Change<'_>],
-    told: &mut Wording,
-) -> Result<(), Memory> {
-    judge_logged(
-        alloc,
-        row,
-        changes,
-        log_text(alloc, changes)?.as_str(),
-        told,
-    )
-}
-
-fn judge_logged(
-    alloc: Global,
-    row: Row<'_>,
-    changes: &[Change<'_>],
-    log: &str,
-    told: &mut Wording,
-) -> Result<(), Memory> {
-    judge(
-        alloc,
-        record_text(alloc, row, changes, log)?.as_str(),
-        log,
-        told,
-    )
 }
 
 fn record_text(
@@ -94,8 +67,7 @@ fn record_text(
     begin_header(row.first, row.floor, row.ns, &mut text);
     text.add(row.query);
     end_header(row.window, &mut text);
-    text.add(log);
-    text.add("\n");
+    text.show(&format_args!("{log}\n"));
     tell_body(changes, row.body, &mut text);
     text.whole()
 }
@@ -174,10 +146,7 @@ fn tell_line(changes: &[Change<'_>], words: &str, text: &mut Wording) {
         "B" => bookmark(number(first), false, text),
         "C" => bookmark(number(first), true, text),
         "E" => loss(number(first), number(second), text),
-        _ => {
-            text.add(words);
-            text.add("\n");
-        }
+        _ => text.show(&format_args!("{words}\n")),
     }
 }
 

@@ -4,29 +4,25 @@ use body_check::{Checked, check};
 use case_rows::Wording;
 use kube_meta::Memory;
 use std::alloc::Global;
-use watch_record::{Record, RecordNo, log_lines, read_record};
+use watch_record::{Record, log_lines, read_record};
 
 /// What is answered to the text of a record, with the lines of its log: the judgement, or why it is no record. The log
 /// that was read has to be written as those lines again.
 pub fn judge(alloc: Global, text: &str, log: &str, told: &mut Wording) -> Result<(), Memory> {
-    judge_read(alloc, &read_record(alloc, text.as_bytes()), log, told)
+    match read_record(alloc, text.as_bytes()) {
+        Ok(case) => judge_read(alloc, &case, log, told),
+        Err(fault) => {
+            told.debug(&fault);
+            Ok(())
+        }
+    }
 }
 
-fn judge_read(
-    alloc: Global,
-    read: &Result<Record, RecordNo>,
-    log: &str,
-    told: &mut Wording,
-) -> Result<(), Memory> {
-    match read {
-        Ok(case) => {
-            if !is_written_as(alloc, case, log)? {
-                told.add("the log is written otherwise; ");
-            }
-            tell_checked(check(alloc, case)?, told);
-        }
-        Err(fault) => told.debug(fault),
+fn judge_read(alloc: Global, case: &Record, log: &str, told: &mut Wording) -> Result<(), Memory> {
+    if !is_written_as(alloc, case, log)? {
+        told.add("the log is written otherwise; ");
     }
+    tell_checked(check(alloc, case)?, told);
     Ok(())
 }
 
@@ -37,15 +33,7 @@ fn is_written_as(alloc: Global, case: &Record, log: &str) -> Result<bool, Memory
 
 fn tell_checked(checked: Checked, told: &mut Wording) {
     match checked {
-        Checked::Lawful { at, to } => {
-            told.add("Lawful ");
-            told.show(&at);
-            told.add(" ");
-            told.show(&to);
-        }
-        Checked::Unlawful { line } => {
-            told.add("Unlawful ");
-            told.show(&line);
-        }
+        Checked::Lawful { at, to } => told.show(&format_args!("Lawful {at} {to}")),
+        Checked::Unlawful { line } => told.show(&format_args!("Unlawful {line}")),
     }
 }

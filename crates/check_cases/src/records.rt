@@ -1,6 +1,5 @@
 //! Rows of bytes that are read as a record: words that are put one behind the other.
 
-use crate::texts::tell_words;
 use case_rows::{Steps, Wording, plain};
 use kube_meta::Memory;
 use std::alloc::Global;
@@ -20,10 +19,8 @@ impl Steps for Records {
 fn tell_read(read: &Result<Record, RecordNo>, told: &mut Wording) {
     match read {
         Ok(case) => {
-            told.show(&case.log.as_slice().len());
-            told.add(" revisions, ");
-            told.show(&case.lines.as_slice().len());
-            told.add(" lines");
+            let (revisions, lines) = (case.log.as_slice().len(), case.lines.as_slice().len());
+            told.show(&format_args!("{revisions} revisions, {lines} lines"));
         }
         Err(fault) => told.debug(fault),
     }
@@ -95,24 +92,15 @@ fn tell_line(name: &str, rest: &str, text: &mut Wording) {
 
 // The usual first line, with other values of the members that are named, as `floor=0`.
 fn tell_header(others: &str, text: &mut Wording) {
-    tell_words(
-        &[
-            "{\"first\":",
-            other(others, "first", "1"),
-            ",\"floor\":",
-            other(others, "floor", "1"),
-            ",\"namespace\":",
-            other(others, "namespace", "\"\""),
-            ",\"query\":",
-            other(others, "query", "\"watch=true&resourceVersion=1\""),
-            ",\"resource\":",
-            other(others, "resource", "\"pods\""),
-            ",\"window\":",
-            other(others, "window", "100"),
-            "}",
-        ],
-        text,
-    );
+    text.show(&format_args!(
+        "{{\"first\":{},\"floor\":{},\"namespace\":{},\"query\":{},\"resource\":{},\"window\":{}}}",
+        other(others, "first", "1"),
+        other(others, "floor", "1"),
+        other(others, "namespace", "\"\""),
+        other(others, "query", "\"watch=true&resourceVersion=1\""),
+        other(others, "resource", "\"pods\""),
+        other(others, "window", "100"),
+    ));
 }
 
 // The value of a name among words as `floor=0`, which `;` parts, or else the usual one.
@@ -136,22 +124,15 @@ fn tell_pods(pods: &str, text: &mut Wording) {
         tell_pod(is_first, name, text);
         is_first = false;
     }
-    tell_words(&["],\"rev\":", rev, "}"], text);
+    text.show(&format_args!("],\"rev\":{rev}}}"));
 }
 
 // The create of a pod.
 fn tell_pod(is_first: bool, name: &str, text: &mut Wording) {
     text.add(if is_first { "" } else { "," });
-    tell_words(
-        &[
-            "{\"key\":\"default/",
-            name,
-            "\",\"object\":{\"metadata\":{\"name\":\"",
-            name,
-        ],
-        text,
-    );
-    text.add("\"}},\"resource\":\"pods\"}");
+    text.show(&format_args!(
+        "{{\"key\":\"default/{name}\",\"object\":{{\"metadata\":{{\"name\":\"{name}\"}}}},\"resource\":\"pods\"}}"
+    ));
 }
 
 // The line of so many removals at 2.
@@ -159,9 +140,9 @@ fn tell_changes(many: u32, text: &mut Wording) {
     text.add("{\"changes\":[");
     for i in 0..many {
         text.add(if i == 0 { "" } else { "," });
-        text.add("{\"key\":\"default/p-");
-        text.show(&format_args!("{i:04}"));
-        text.add("\",\"object\":null,\"resource\":\"pods\"}");
+        text.show(&format_args!(
+            "{{\"key\":\"default/p-{i:04}\",\"object\":null,\"resource\":\"pods\"}}"
+        ));
     }
     text.add("],\"rev\":2}");
 }

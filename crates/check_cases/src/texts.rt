@@ -42,43 +42,24 @@ impl Change<'_> {
 
     /// The object as it is shown with this label at the change's revision.
     fn tell_object(&self, label: &str, text: &mut Wording) {
-        let front = "{\"apiVersion\":\"v1\",\"kind\":\"";
-        tell_words(&[front, self.kind(), "\",\"metadata\":{"], text);
+        let (kind, ns, name, rev) = (self.kind(), self.ns, self.name, self.rev);
+        text.show(&format_args!("{{\"apiVersion\":\"v1\",\"kind\":\"{kind}\",\"metadata\":{{"));
         if !label.is_empty() {
-            tell_words(&["\"labels\":{\"app\":\"", label, "\"},"], text);
+            text.show(&format_args!("\"labels\":{{\"app\":\"{label}\"}},"));
         }
-        tell_words(
-            &[
-                "\"name\":\"",
-                self.name,
-                "\",\"namespace\":\"",
-                self.ns,
-                "\",\"resourceVersion\":\"",
-            ],
-            text,
-        );
-        text.show(&self.rev);
-        text.add("\"}}");
+        text.show(&format_args!(
+            "\"name\":\"{name}\",\"namespace\":\"{ns}\",\"resourceVersion\":\"{rev}\"}}}}"
+        ));
     }
 
     /// The change as a line of a log has it.
     fn tell(&self, text: &mut Wording) {
-        tell_words(
-            &["{\"key\":\"", self.ns, "/", self.name, "\",\"object\":"],
-            text,
-        );
+        text.show(&format_args!("{{\"key\":\"{}/{}\",\"object\":", self.ns, self.name));
         match self.after {
             Some(label) => self.tell_object(label, text),
             None => text.add("null"),
         }
-        tell_words(&[",\"resource\":\"", self.resource(), "\"}"], text);
-    }
-}
-
-/// Words, one behind the other.
-pub fn tell_words(words: &[&str], text: &mut Wording) {
-    for word in words {
-        text.add(word);
+        text.show(&format_args!(",\"resource\":\"{}\"}}", self.resource()));
     }
 }
 
@@ -103,16 +84,14 @@ pub fn log_text(alloc: Global, changes: &[Change<'_>]) -> Result<String, Memory>
 // The back of a log's line; none of the revision 0, where no line was begun.
 fn end_log_line(rev: u64, text: &mut Wording) {
     if rev != 0 {
-        text.add("],\"rev\":");
-        text.show(&rev);
-        text.add("}\n");
+        text.show(&format_args!("],\"rev\":{rev}}}\n"));
     }
 }
 
 /// The line of a body with an event of this type, which shows what a change made of its object, or what a deletion
 /// removed.
 pub fn event(kind: &str, change: &Change<'_>, text: &mut Wording) {
-    tell_words(&["{\"type\":\"", kind, "\",\"object\":"], text);
+    text.show(&format_args!("{{\"type\":\"{kind}\",\"object\":"));
     match kind {
         "DELETED" => change.tell_object(change.before.unwrap_or(""), text),
         _ => change.tell_object(change.after.unwrap_or(""), text),
@@ -128,9 +107,7 @@ pub fn bookmark(rev: u64, closes: bool, text: &mut Wording) {
     if closes {
         text.add("\"annotations\":{\"k8s.io/initial-events-end\":\"true\"},");
     }
-    text.add("\"resourceVersion\":\"");
-    text.show(&rev);
-    text.add("\"}}}\n");
+    text.show(&format_args!("\"resourceVersion\":\"{rev}\"}}}}}}\n"));
 }
 
 /// The line that tells of a loss.
@@ -138,24 +115,18 @@ pub fn loss(asked: u64, floor: u64, text: &mut Wording) {
     text.add(
         "{\"type\":\"ERROR\",\"object\":{\"apiVersion\":\"v1\",\"code\":410,\"kind\":\"Status\",\"message\":\"too old resource version: ",
     );
-    text.show(&asked);
-    text.add(" (");
-    text.show(&floor);
+    text.show(&format_args!("{asked} ({floor}"));
     text.add(")\",\"metadata\":{},\"reason\":\"Expired\",\"status\":\"Failure\"}}\n");
 }
 
 /// The front of the first line of a record of pods, up to its query. The texts need no escape.
 pub fn begin_header(first: u64, floor: u64, ns: &str, text: &mut Wording) {
-    text.add("{\"first\":");
-    text.show(&first);
-    text.add(",\"floor\":");
-    text.show(&floor);
-    tell_words(&[",\"namespace\":\"", ns, "\",\"query\":\""], text);
+    text.show(&format_args!(
+        "{{\"first\":{first},\"floor\":{floor},\"namespace\":\"{ns}\",\"query\":\""
+    ));
 }
 
 /// The back of the first line, behind its query.
 pub fn end_header(window: u64, text: &mut Wording) {
-    text.add("\",\"resource\":\"pods\",\"window\":");
-    text.show(&window);
-    text.add("}\n");
+    text.show(&format_args!("\",\"resource\":\"pods\",\"window\":{window}}}\n"));
 }

@@ -5,12 +5,8 @@ use metrics::{CacheMetrics, Metrics};
 
 /// Tells the metrics of a log, and those of the cache of the resource that is named.
 pub fn tell_metrics(metrics: &Metrics, resource: &str, told: &mut Wording) {
-    told.add("at ");
-    told.show(&metrics.revision);
-    told.add(", floor ");
-    told.show(&metrics.floor);
-    told.add(", generation ");
-    told.show(&metrics.generation);
+    let (at, floor, generation) = (metrics.revision, metrics.floor, metrics.generation);
+    told.show(&format_args!("at {at}, floor {floor}, generation {generation}"));
     match cache_of(metrics, resource) {
         Some(cache) => tell_cache(&cache, told),
         None => told.add("; no cache"),
@@ -27,22 +23,9 @@ fn cache_of(metrics: &Metrics, resource: &str) -> Option<CacheMetrics> {
 }
 
 fn tell_cache(cache: &CacheMetrics, told: &mut Wording) {
-    told.add("; to ");
-    told.show(&cache.end);
-    tell_count(": ", cache.objects, " objects", told);
-    tell_count(", ", cache.received, " events", told);
-    told.add(", window ");
-    told.show(&cache.window);
-    told.add(" from ");
-    told.show(&cache.floor);
-    tell_count(", ", cache.watchers, " watchers", told);
-    tell_count(", ", cache.behind, " behind", told);
-    tell_count(", ", cache.rebuilds, " rebuilds", told);
-    tell_count(", ", cache.cuts, " cuts", told);
-}
-
-fn tell_count(before: &str, count: u64, of: &str, told: &mut Wording) {
-    told.add(before);
-    told.show(&count);
-    told.add(of);
+    let (to, objects, events) = (cache.end, cache.objects, cache.received);
+    told.show(&format_args!("; to {to}: {objects} objects, {events} events"));
+    told.show(&format_args!(", window {} from {}", cache.window, cache.floor));
+    told.show(&format_args!(", {} watchers, {} behind", cache.watchers, cache.behind));
+    told.show(&format_args!(", {} rebuilds, {} cuts", cache.rebuilds, cache.cuts));
 }

@@ -153,10 +153,8 @@ fn get<C: Client>(
 fn tell_got(got: &Result<Got, ListNo>, told: &mut Wording) {
     match got {
         Ok(got) => {
-            told.add("at ");
-            told.show(&got.at);
-            told.add(": ");
-            told.show(&got.row.row().rev);
+            let rev = got.row.row().rev;
+            told.show(&format_args!("at {}: {rev}", got.at));
         }
         Err(no) => told.debug(no),
     }
@@ -182,19 +180,15 @@ fn list<C: Client>(
 
 fn tell_list(listed: &Result<Listed, ListNo>, counts: bool, told: &mut Wording) {
     match listed {
-        Ok(listed) => tell_listed(listed, counts, told),
+        Ok(listed) => {
+            told.show(&format_args!("at {}: ", listed.rev));
+            if counts {
+                told.show(&listed.items.len());
+            } else {
+                tell_rows(listed.items.rows(), listed.items.len(), told);
+            }
+        }
         Err(no) => told.debug(no),
-    }
-}
-
-fn tell_listed(listed: &Listed, counts: bool, told: &mut Wording) {
-    told.add("at ");
-    told.show(&listed.rev);
-    told.add(": ");
-    if counts {
-        told.show(&listed.items.len());
-    } else {
-        tell_rows(listed.items.rows(), listed.items.len(), told);
     }
 }
 
@@ -215,9 +209,7 @@ fn watch<C: Client>(
 fn tell_begun(begun: &Result<Begun, ListNo>, told: &mut Wording) {
     match begun {
         Ok(begun) => {
-            told.add("at ");
-            told.show(&begun.at);
-            told.add(": ");
+            told.show(&format_args!("at {}: ", begun.at));
             let initial = begun.initial.as_slice();
             tell_rows(ItemRows::Picked(initial), initial.len(), told);
         }
@@ -234,35 +226,18 @@ fn take<C: Client>(seat: &mut Seat<C>, most: u64, told: &mut Wording) -> Result<
 
 fn tell_turn(took: &Option<Took>, told: &mut Wording) {
     match took {
-        Some(took) => tell_took(took, told),
-        None => told.add("no watch"),
-    }
-}
-
-fn tell_took(took: &Took, told: &mut Wording) {
-    match took {
-        Took::Events { from, upto, lines } => {
-            told.show(from);
-            told.add(" to ");
-            told.show(upto);
-            told.add(": ");
+        Some(Took::Events { from, upto, lines }) => {
+            told.show(&format_args!("{from} to {upto}: "));
             tell_lines(lines.as_slice(), told);
         }
-        Took::Quiet { upto, reached } => {
-            told.add("quiet at ");
-            told.show(upto);
-            told.add(if *reached {
-                ", reached"
-            } else {
-                ", not reached"
-            });
+        Some(Took::Quiet { upto, reached }) => {
+            let how = if *reached { "reached" } else { "not reached" };
+            told.show(&format_args!("quiet at {upto}, {how}"));
         }
-        Took::Lost { at, floor } => {
-            told.add("lost at ");
-            told.show(at);
-            told.add(", floor ");
-            told.show(floor);
+        Some(Took::Lost { at, floor }) => {
+            told.show(&format_args!("lost at {at}, floor {floor}"));
         }
+        None => told.add("no watch"),
     }
 }
 

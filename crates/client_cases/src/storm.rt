@@ -113,14 +113,9 @@ pub fn sum_of(parts: &[Result<Part, Memory>]) -> Result<Part, Memory> {
 /// What a storm leaves, in words: `right`, or what isn't. It led from one revision to another.
 pub fn outcome(first: u64, last: u64, sum: Part, told: &mut Wording) {
     if sum.wrongs > 0 {
-        told.show(&sum.wrongs);
-        told.add(" things went wrong");
+        told.show(&format_args!("{} things went wrong", sum.wrongs));
     } else if last != first.saturating_add(sum.accepted) {
-        told.show(&sum.accepted);
-        told.add(" writes accepted, from ");
-        told.show(&first);
-        told.add(" to ");
-        told.show(&last);
+        told.show(&format_args!("{} writes accepted, from {first} to {last}", sum.accepted));
     } else if sum.accepted == 0 || sum.lines == 0 || sum.compared < WATCHERS as u64 {
         told.add("little was done");
     } else {

@@ -53,17 +53,10 @@ pub fn tell_lines(lines: &[Line], told: &mut Wording) {
 
 fn tell_line(line: &Line, told: &mut Wording) {
     let row = line.shown.row();
-    told.add("[");
-    told.debug(&line.kind);
-    told.add(" ");
-    told.add(row.obj.key.name());
-    told.add(" ");
-    told.show(&row.rev);
-    told.add("]");
+    let name = row.obj.key.name();
+    told.show(&format_args!("[{:?} {name} {}]", line.kind, row.rev));
 }
 
 fn tell_count(count: usize, told: &mut Wording) {
-    told.add(", ");
-    told.show(&count);
-    told.add(" in all");
+    told.show(&format_args!(", {count} in all"));
 }

@@ -128,14 +128,9 @@ fn hear<N: LogFacts, R: Wait>(
 ) -> Result<(), Memory> {
     for _ in 0..100 {
         match mirror.next(source) {
-            Ok(Heard::Line { to }) => {
-                told.add("Line ");
-                told.show(&to);
-                told.add(", ");
-            }
+            Ok(Heard::Line { to }) => told.show(&format_args!("Line {to}, ")),
             Ok(Heard::Ended { to }) => {
-                told.add("Ended ");
-                told.show(&to);
+                told.show(&format_args!("Ended {to}"));
                 return Ok(());
             }
             Err(why) => return tell_why(why, told),

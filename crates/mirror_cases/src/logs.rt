@@ -174,8 +174,7 @@ fn make_step<N: LogFacts, R: Wait>(
 
 fn cut<N: LogFacts, R: Wait>(log: &mut MirrorLog<N, &R>, told: &mut Wording) {
     log.forget();
-    told.add("cut at ");
-    told.show(&log.to());
+    told.show(&format_args!("cut at {}", log.to()));
 }
 
 /// The pods of the store at a revision.
@@ -187,8 +186,7 @@ pub fn list<N: LogFacts, R: Wait>(
 ) {
     match door.list_at(Resource::Pods, at, pass) {
         Ok(rows) => {
-            told.add("at ");
-            told.show(&at);
+            told.show(&format_args!("at {at}"));
             tell_rows(&rows, told);
         }
         Err(no) => told.debug(&no),
@@ -216,9 +214,7 @@ fn watch<N: LogFacts, R: Wait>(
 }
 
 fn tell_polled(polled: &Polled, told: &mut Wording) {
-    told.show(&polled.revisions.len());
-    told.add(" to ");
-    told.show(&polled.upto);
+    told.show(&format_args!("{} to {}", polled.revisions.len(), polled.upto));
 }
 
 // Begins the log anew from the opening at a base of the pods that are named behind it, as `9,web@2,db@7`.
@@ -242,14 +238,11 @@ fn opened(alloc: Global, words: &str) -> Result<String, Memory> {
     text.add("H [ ");
     for pod in pods.split(',') {
         if !pod.is_empty() {
-            text.add(if pod.contains(':') { "" } else { "A:" });
-            text.add(pod);
-            text.add(" ; ");
+            let kind = if pod.contains(':') { "" } else { "A:" };
+            text.show(&format_args!("{kind}{pod} ; "));
         }
     }
-    text.add("C:");
-    text.add(base);
-    text.add(" ; ]");
+    text.show(&format_args!("C:{base} ; ]"));
     text.whole()
 }
 
@@ -262,10 +255,7 @@ fn rebase<N: LogFacts, R: Wait>(
     let base = opening.base();
     let rows = opening.into_parts().rows;
     match log.rebase(&rows, base) {
-        Ok(to) => {
-            told.add("Anew ");
-            told.show(&to);
-        }
+        Ok(to) => told.show(&format_args!("Anew {to}")),
         Err(RebaseNo::Memory) => return Err(Memory),
         Err(no) => told.debug(&no),
     }
@@ -284,10 +274,7 @@ fn hear_elsewhere<N: LogFacts, R: Wait>(
     requires last { rev ≤ 2 ^ 62 }
 {
     match door.hear(unchanged(alloc, rev), pass) {
-        Ok(rev) => {
-            told.add("heard ");
-            told.show(&rev);
-        }
+        Ok(rev) => told.show(&format_args!("heard {rev}")),
         Err(HearNo::Memory) => return Err(Memory),
         Err(no) => told.debug(&no),
     }
@@ -329,10 +316,7 @@ fn take<N: LogFacts, R: Wait>(
 
 fn tell_heard(heard: Result<u64, MirrorNo>, told: &mut Wording) -> Result<(), Memory> {
     match heard {
-        Ok(to) => {
-            told.add("Line ");
-            told.show(&to);
-        }
+        Ok(to) => told.show(&format_args!("Line {to}")),
         Err(MirrorNo::Refused(fault)) => told.debug(&fault),
         Err(MirrorNo::Memory) => return Err(Memory),
         Err(no) => told.debug(&no),

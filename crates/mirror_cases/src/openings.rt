@@ -175,8 +175,6 @@ impl Run {
     }
 
     fn tell(&self, told: &mut Wording) {
-        told.show(&self.times);
-        told.add(" ");
-        told.add(self.answer.as_str());
+        told.show(&format_args!("{} {}", self.times, self.answer.as_str()));
     }
 }

@@ -38,8 +38,7 @@ fn read_both(alloc: Global, bytes: &[u8], room: u64, told: &mut Wording) -> Resu
 pub fn tell_both(fast: &str, slow: &str, told: &mut Wording) {
     told.add(fast);
     if slow != fast {
-        told.add(", and byte by byte ");
-        told.add(slow);
+        told.show(&format_args!(", and byte by byte {slow}"));
     }
 }
 
@@ -105,10 +104,7 @@ fn cut(alloc: Global, bytes: &[u8], told: &mut Wording) -> Result<(), Memory> {
             others = others.saturating_add(1);
         }
     }
-    told.show(&bytes.len());
-    told.add(" cuts, ");
-    told.show(&others);
-    told.add(" read otherwise");
+    told.show(&format_args!("{} cuts, {others} read otherwise", bytes.len()));
     Ok(())
 }
 

@@ -38,19 +38,12 @@ pub fn tell_text(
 fn tell_line(line: &PeerLine, told: &mut Wording) {
     match line {
         PeerLine::Told { kind, obj, rev } => {
-            told.debug(kind);
-            told.add(" ");
-            told.add(obj.key.as_str());
-            told.add(" ");
-            told.show(rev);
+            told.show(&format_args!("{kind:?} {} {rev}", obj.key.as_str()));
         }
         PeerLine::Bookmark { at, closing } => {
-            told.add(if *closing { "Closing " } else { "Bookmark " });
-            told.show(at);
+            let name = if *closing { "Closing" } else { "Bookmark" };
+            told.show(&format_args!("{name} {at}"));
         }
-        PeerLine::Error { code } => {
-            told.add("Error ");
-            told.show(code);
-        }
+        PeerLine::Error { code } => told.show(&format_args!("Error {code}")),
     }
 }

@@ -133,11 +133,10 @@ fn tell_pods(pods: &str, text: &mut Wording) {
             text.add("\n");
         }
         begin_event("ADDED", text);
-        text.add("\"name\":\"p-");
-        text.show(&(u32::from(n) + 10));
-        text.add("\",\"namespace\":\"default\",\"resourceVersion\":\"");
-        text.add(rev);
-        text.add("\"}}}");
+        let number = u32::from(n) + 10;
+        text.show(&format_args!(
+            "\"name\":\"p-{number}\",\"namespace\":\"default\",\"resourceVersion\":\"{rev}\"}}}}}}"
+        ));
     }
 }
 
@@ -152,28 +151,21 @@ fn tell_event(kind: &str, pod: &str, text: &mut Wording) {
 
 // The front of a line with a pod, up to its metadata.
 fn begin_event(kind: &str, text: &mut Wording) {
-    text.add("{\"type\":\"");
-    text.add(kind);
-    text.add("\",\"object\":{\"apiVersion\":\"v1\",\"kind\":\"Pod\",\"metadata\":{");
+    text.show(&format_args!(
+        "{{\"type\":\"{kind}\",\"object\":{{\"apiVersion\":\"v1\",\"kind\":\"Pod\",\"metadata\":{{"
+    ));
 }
 
 fn tell_names(ns: &str, name: &str, rev: &str, text: &mut Wording) {
-    text.add("\"name\":\"");
-    text.add(name);
-    text.add("\",\"namespace\":\"");
-    text.add(ns);
-    text.add("\",\"resourceVersion\":\"");
-    text.add(rev);
-    text.add("\"}");
+    text.show(&format_args!(
+        "\"name\":\"{name}\",\"namespace\":\"{ns}\",\"resourceVersion\":\"{rev}\"}}"
+    ));
 }
 
 // The line of a bookmark of pods with these annotations.
 fn tell_bookmark(annotations: &str, rev: &str, text: &mut Wording) {
     begin_event("BOOKMARK", text);
-    text.add(annotations);
-    text.add("\"resourceVersion\":\"");
-    text.add(rev);
-    text.add("\"}}}");
+    text.show(&format_args!("{annotations}\"resourceVersion\":\"{rev}\"}}}}}}"));
 }
 
 // The line of a loss, as `2/6` of the position 2 below the floor 6.
@@ -182,9 +174,7 @@ fn tell_loss(numbers: &str, text: &mut Wording) {
     text.add(
         "{\"type\":\"ERROR\",\"object\":{\"apiVersion\":\"v1\",\"code\":410,\"kind\":\"Status\",\"message\":\"too old resource version: ",
     );
-    text.add(asked);
-    text.add(" (");
-    text.add(floor);
+    text.show(&format_args!("{asked} ({floor}"));
     text.add(")\",\"metadata\":{},\"reason\":\"Expired\",\"status\":\"Failure\"}}");
 }
 

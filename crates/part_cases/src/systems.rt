@@ -21,10 +21,8 @@ pub fn clock(rt: HostRuntime, told: &mut Wording) {
     let first = clock.now();
     clock.rest();
     let second = clock.now();
-    told.add("went on ");
-    told.show(&(second.ms >= first.ms.saturating_add(15)));
-    told.add(", stop ");
-    told.show(&second.stop);
+    let went_on = second.ms >= first.ms.saturating_add(15);
+    told.show(&format_args!("went on {went_on}, stop {}", second.stop));
 }
 
 fn free_port(rt: &HostRuntime) -> io::Result<u16> {
@@ -53,24 +51,12 @@ fn connect(rt: HostRuntime, port: u16, told: &mut Wording) {
     };
     let first = read(&mut theirs);
     net.hang_up(source, sink);
-    tell_reads(sent, first, read(&mut theirs), told);
+    let then = read(&mut theirs);
+    told.show(&format_args!("{sent:?}, {first:?}, then {then:?}"));
 }
 
 fn read(source: &mut ReadEnd<Connection>) -> Result<usize, Failed> {
     source.read(&mut [0u8; 8])
-}
-
-fn tell_reads(
-    sent: Result<(), Failed>,
-    first: Result<usize, Failed>,
-    then: Result<usize, Failed>,
-    told: &mut Wording,
-) {
-    told.debug(&sent);
-    told.add(", ");
-    told.debug(&first);
-    told.add(", then ");
-    told.debug(&then);
 }
 
 /// Whether a port that was shut is free again.

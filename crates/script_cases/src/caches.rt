@@ -2,7 +2,6 @@
 
 ghost use Rattle.std.specs.Prelude.{◌≡◌, []};
 
-use crate::words::tell_number;
 use cache_core::Cache;
 use case_rows::Wording;
 use kube_meta::{Memory, Resource};
@@ -39,19 +38,15 @@ pub fn empty_cache(alloc: Global, told: &mut Wording) -> Result<(), Memory> {
     tell_cache(&cache, told)?;
     let mut fresh = Vec::new(alloc);
     cache.apply(&no_revisions(alloc), &mut fresh)?;
-    tell_number("; polled: end ", cache.end(), told);
-    tell_number(", ", fresh.len() as u64, told);
-    told.add(" events");
+    told.show(&format_args!("; polled: end {}, {} events", cache.end(), fresh.len()));
     Ok(())
 }
 
 /// The numbers of a cache, its rows, and what it says of revision 0.
 fn tell_cache(cache: &Cache, told: &mut Wording) -> Result<(), Memory> {
-    tell_number("end ", cache.end(), told);
-    tell_number(", base ", cache.base(), told);
-    tell_number(", floor ", cache.floor(), told);
-    tell_number(", ", cache.snapshot()?.len() as u64, told);
-    told.add(" rows, ");
+    let (end, base, floor) = (cache.end(), cache.base(), cache.floor());
+    let rows = cache.snapshot()?.len();
+    told.show(&format_args!("end {end}, base {base}, floor {floor}, {rows} rows, "));
     match cache.at(0) {
         Ok(_) => told.add("0 is served"),
         Err(no) => told.debug(&no),

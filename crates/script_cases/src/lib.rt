@@ -8,7 +8,6 @@ mod caches;
 mod hub;
 mod pumps;
 mod store;
-mod words;
 
 pub use caches::empty_cache;
 use case_rows::{Lines, Steps, Tally, run_rows};

@@ -2,7 +2,6 @@
 
 ghost use Rattle.std.specs.Prelude.{◌≡◌, IfOk};
 
-use crate::words::tell_number;
 use case_rows::{Wording, key};
 use kube_meta::{Memory, Resource, Row};
 use reflect_core::Reflector;
@@ -150,7 +149,6 @@ fn pump_at<N: LogFacts>(
     let until = pass.shown();
     let mut reflector = Reflector::with_batch(Resource::Pods, 2);
     told.debug(&reflector.pump(&mut held, &mut up, &mut pass, until));
-    tell_number("; asked ", up.asked, told);
-    tell_number(", end ", held.end, told);
+    told.show(&format_args!("; asked {}, end {}", up.asked, held.end));
     Ok(())
 }

@@ -39,13 +39,11 @@ pub fn run_store<R: Runtime + Wait + Threads + Sync>(
     let first = script.first();
     let made = blank(alloc, first)?;
     match script.kind {
-        Kind::Store => store::<Brand, R>(rt, alloc, script, made, rows, tally),
-        Kind::Door => doors::<Brand, R>(rt, alloc, &script, made, rows, tally),
-        Kind::Threads => threads::<Brand, R>(rt, alloc, &script, made, rows, tally),
         Kind::Mirror => {
             let base = row(alloc, "base", first)?;
             mirror::<Brand, R>(rt, alloc, script, made, base, rows, tally)
         }
+        _ => own::<Brand, R>(rt, alloc, script, made, rows, tally),
     }
 }
 
@@ -54,8 +52,8 @@ fn opens_nothing<R: Runtime>(rt: &R, rows: Lines<'_>, tally: &mut Tally) -> io::
     println!(rt; "{}:{}: nothing is opened so", rows.file, rows.first)
 }
 
-/// The steps on a store that cuts and compacts by a script of its own.
-fn store<N: LogFacts, R: Runtime>(
+/// The steps on a new store, or on doors to one.
+fn own<N: LogFacts + Send + Sync, R: Runtime + Wait + Threads + Sync>(
     rt: &R,
     alloc: Global,
     script: Script,
@@ -68,26 +66,25 @@ fn store<N: LogFacts, R: Runtime>(
     requires own { N.mirror ≡ false }
 {
     let store: Store<N> = Store::new(alloc, made, script.history())?;
+    match script.kind {
+        Kind::Door => run_on(rt, alloc, rows, doors_of(rt, store)?, tally),
+        Kind::Threads => threads(rt, alloc, store, rows, tally),
+        _ => scripted(rt, alloc, script, store, rows, tally),
+    }
+}
+
+/// The steps on a store that cuts and compacts by a script of its own.
+fn scripted<N: LogFacts, R: Runtime>(
+    rt: &R,
+    alloc: Global,
+    script: Script,
+    store: Store<N>,
+    rows: Lines<'_>,
+    tally: &mut Tally,
+) -> io::Result<()> {
     let mut scripted = ScriptedStore::new(store, script.cuts);
     scripted.also_compact(script.compactions);
     run_on(rt, alloc, rows, client_of(scripted)?, tally)
-}
-
-/// The steps on two doors to one store, by turns.
-fn doors<N: LogFacts, R: Runtime + Wait>(
-    rt: &R,
-    alloc: Global,
-    script: &Script,
-    made: Blank<Revision>,
-    rows: Lines<'_>,
-    tally: &mut Tally,
-) -> io::Result<()>
-    requires name { made ≡ N.log }
-    requires base { N.base ≡ [] }
-    requires own { N.mirror ≡ false }
-{
-    let store: Store<N> = Store::new(alloc, made, script.history())?;
-    run_on(rt, alloc, rows, doors_of(rt, store)?, tally)
 }
 
 /// Two doors to a store, of which the first one is used next.
@@ -108,16 +105,10 @@ fn doors_of<N: LogFacts, R: Wait + Copy>(
 fn threads<N: LogFacts + Send + Sync, R: Runtime + Wait + Threads + Sync>(
     rt: &R,
     alloc: Global,
-    script: &Script,
-    made: Blank<Revision>,
+    store: Store<N>,
     rows: Lines<'_>,
     tally: &mut Tally,
-) -> io::Result<()>
-    requires name { made ≡ N.log }
-    requires base { N.base ≡ [] }
-    requires own { N.mirror ≡ false }
-{
-    let store: Store<N> = Store::new(alloc, made, script.history())?;
+) -> io::Result<()> {
     let door = StoreDoor::new(rt, store)?;
     create_by_two(rt, alloc, &door)?;
     run_on(rt, alloc, rows, client_at(&door)?, tally)

@@ -189,9 +189,7 @@ pub fn tell_otherwise(wanted: &[u8], text: &[u8], told: &mut Wording) {
 
 fn tell_text(name: &str, text: &[u8], told: &mut Wording) {
     let text = str::from_utf8(text).unwrap_or("(no UTF-8)");
-    told.add(name);
-    told.add(text);
-    told.add("\n");
+    told.show(&format_args!("{name}{text}\n"));
 }
 
 /// A text that a wire is to be written.

@@ -111,9 +111,7 @@ impl Case {
         self.begin(alloc, Whose::Own)?;
         for line in lines.lines() {
             if !says_nothing(line) && !self.take_line(alloc, line)? {
-                told.add("    no line of a case: ");
-                told.add(line);
-                told.add("\n");
+                told.show(&format_args!("    no line of a case: {line}\n"));
             }
         }
         Ok(())

@@ -95,8 +95,7 @@ fn serve_peer<R: Host>(
     match opening_of(alloc, &mut source, &mut request) {
         Ok(opening) => serve_opening(server, opening, &mut source, &mut redial, told),
         Err(no) => {
-            told.add(no.name());
-            told.add("\n");
+            told.show(&format_args!("{}\n", no.name()));
             Ok(())
         }
     }
@@ -164,13 +163,6 @@ fn serve_log<'a, N: LogFacts + Send + Sync, R: Host>(
         connections,
         &settings,
     )?;
-    let faults = served.listener.faults;
-    tell_end(
-        served.accepted,
-        served.faulted,
-        faults,
-        served.sessions,
-        told,
-    );
+    tell_end(&served, told);
     Ok(())
 }

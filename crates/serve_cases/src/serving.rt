@@ -9,7 +9,7 @@ use crate::ends::{CaseListener, StillClock};
 use crate::mirroring::serve_mirrored;
 use case_rows::Wording;
 use kube_meta::Memory;
-use net_front::{serve_all, serve_open};
+use net_front::{Served, serve_all, serve_open};
 use rev_front::{Blank, blank};
 use rev_log::Revision;
 use shared_client::Cacher;
@@ -194,28 +194,16 @@ fn serve<N: LogFacts + Send + Sync, R: Host>(
             settings,
         ),
     }?;
-    let faults = served.listener.faults;
-    tell_end(
-        served.accepted,
-        served.faulted,
-        faults,
-        served.sessions,
-        told,
-    );
+    tell_end(&served, told);
     Ok(())
 }
 
 /// Tells how a server ended: how many connections it accepted, whether accepting failed, how often, and how many
 /// sessions were run.
-pub fn tell_end(
-    accepted: u64,
-    faulted: bool,
-    faults: u64,
-    sessions: Option<u64>,
-    told: &mut Wording,
-) {
+pub fn tell_end<R: Host>(served: &Served<CaseListener<'_, R>>, told: &mut Wording) {
+    let (accepted, faulted, faults) = (served.accepted, served.faulted, served.listener.faults);
     told.show(&format_args!("accepted {accepted} faulted {faulted} faults {faults}"));
-    if let Some(sessions) = sessions {
+    if let Some(sessions) = served.sessions {
         told.show(&format_args!(" sessions {sessions}"));
     }
     told.add("\n");

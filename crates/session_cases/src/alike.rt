@@ -68,17 +68,13 @@ fn compare_kinds<R: Wait + Copy + Drop>(
     plain: &Outcome,
 ) -> Result<Option<Amiss>, Memory> {
     let way = Way::in_pieces(PIECE);
-    let local = compare(
-        Kind::Local,
-        plain,
-        &serve(rt, alloc, Kind::Local, options, input, way)?,
-    );
-    let shared = compare(
-        Kind::Shared,
-        plain,
-        &serve(rt, alloc, Kind::Shared, options, input, way)?,
-    );
-    Ok(local.or(shared))
+    for kind in [Kind::Local, Kind::Shared] {
+        let amiss = compare(kind, plain, &serve(rt, alloc, kind, options, input, way)?);
+        if amiss.is_some() {
+            return Ok(amiss);
+        }
+    }
+    Ok(None)
 }
 
 // What a kind did otherwise than the plain client.

@@ -57,17 +57,11 @@ impl Load {
             }
         }
         let (_, list) = text.rsplit_once("HTTP/1.1 ").unwrap_or(("", ""));
-        told.add("requests ");
-        told.show(&self.requests());
-        told.add("\nok ");
-        told.show(&accepted.saturating_sub(1));
-        told.add("\nrefused ");
-        told.show(&replies.saturating_sub(accepted));
-        told.add("\nrevision ");
-        told.add(revision_of(list));
-        told.add("\nitems ");
-        told.show(&list.matches("\"kind\":\"Pod\"").count());
-        told.add("\n");
+        let (requests, ok) = (self.requests(), accepted.saturating_sub(1));
+        let (refused, revision) = (replies.saturating_sub(accepted), revision_of(list));
+        let items = list.matches("\"kind\":\"Pod\"").count();
+        told.show(&format_args!("requests {requests}\nok {ok}\nrefused {refused}\n"));
+        told.show(&format_args!("revision {revision}\nitems {items}\n"));
     }
 
     // The number that it is made from, held within its range.

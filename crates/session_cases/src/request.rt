@@ -41,18 +41,15 @@ impl Requests {
 
     // A field of the next request.
     fn put_field(&mut self, field: &str) {
-        self.fields.add(field);
-        self.fields.add("\r\n");
+        self.fields.add_all(&[field, "\r\n"]);
     }
 
     // A request: its method, its target, and its body, where it has one. A POST and a PUT tell the body's length.
     fn put_request(&mut self, text: &str) {
         let (method, rest) = split(text);
         let (target, body) = split(rest);
-        self.bytes.add(method);
-        self.bytes.add(" ");
-        self.bytes.add(target);
-        self.bytes.add(" HTTP/1.1\r\nHost: x\r\n");
+        self.bytes
+            .add_all(&[method, " ", target, " HTTP/1.1\r\nHost: x\r\n"]);
         self.bytes.put(self.fields.as_slice());
         self.fields.clear();
         if method == "POST" || method == "PUT" || !body.is_empty() {

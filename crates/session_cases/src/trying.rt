@@ -100,7 +100,7 @@ impl Report<'_> {
         Ok(())
     }
 
-    // Serves a load, and compares the figures of what comes back.
+    // Serves a load, and compares the figures of what comes back, and its end.
     fn try_load<R: Wait + Copy + Drop>(
         &mut self,
         rt: R,
@@ -112,17 +112,6 @@ impl Report<'_> {
         let way = Way::in_pieces(PIECE);
         let options = Options::usual();
         let outcome = serve(rt, alloc, self.kind, &options, input.as_slice(), way)?;
-        self.compare_load(alloc, load, answer, &outcome)
-    }
-
-    // The figures of a load that was served, and its end.
-    fn compare_load(
-        &mut self,
-        alloc: Global,
-        load: Load,
-        answer: &Answer,
-        outcome: &Outcome,
-    ) -> Result<(), AllocError> {
         let figures = load.figures(alloc, outcome.bytes())?;
         self.compare(answer.bytes.as_slice(), figures.as_bytes());
         self.compare_end(alloc, answer, outcome.end)
@@ -168,9 +157,8 @@ impl Report<'_> {
     fn compare(&mut self, wanted: &[u8], given: &[u8]) {
         if let Some(at) = first_difference(wanted, given) {
             self.begin();
-            self.told.add("differs from byte ");
-            self.told.show(&at);
-            self.told.add(" on\n    wanted: ");
+            self.told
+                .show(&format_args!("differs from byte {at} on\n    wanted: "));
             tell_around(wanted, at, &mut self.told);
             self.told.add("\n    is:     ");
             tell_around(given, at, &mut self.told);
@@ -182,26 +170,19 @@ impl Report<'_> {
     fn say_amiss(&mut self, end: &str, amiss: Option<usize>) {
         if let Some(at) = amiss {
             self.begin();
-            self.told.add("otherwise where its ");
-            self.told.add(end);
-            self.told.add(" breaks off at ");
-            self.told.show(&at);
-            self.told.add("\n");
+            self.told.show(&format_args!("otherwise where its {end} breaks off at {at}\n"));
         }
     }
 
     // A line.
     fn say(&mut self, words: &str) {
         self.begin();
-        self.told.add(words);
-        self.told.add("\n");
+        self.told.show(&format_args!("{words}\n"));
     }
 
     // Begins a line.
     fn begin(&mut self) {
-        self.told.add(self.kind.word());
-        self.told.add(", ");
-        self.told.add(self.name);
-        self.told.add(": ");
+        let (kind, name) = (self.kind.word(), self.name);
+        self.told.show(&format_args!("{kind}, {name}: "));
     }
 }

@@ -46,15 +46,12 @@ pub fn put_reply(text: &mut Bytes, words: &str, fields: &str) {
 pub fn put_metrics(text: &mut Bytes, length: &str) {
     text.add("HTTP/1.1 200 OK\r\n");
     text.add("Content-Type: text/plain; version=0.0.4; charset=utf-8\r\n");
-    text.add("Content-Length: ");
-    text.add(length);
-    text.add("\r\n\r\n");
+    text.add_all(&["Content-Length: ", length, "\r\n\r\n"]);
 }
 
 /// Puts a text, which a line feed ends.
 pub fn put_text(text: &mut Bytes, line: &str) {
-    text.add(line);
-    text.add("\n");
+    text.add_all(&[line, "\n"]);
 }
 
 /// Puts the head of a stream.
@@ -66,16 +63,14 @@ pub fn put_stream(text: &mut Bytes) {
 /// Puts a line of a stream as a chunk.
 pub fn put_line(text: &mut Bytes, alloc: Global, line: &str) {
     text.add_made(&format!(in alloc; "{:x}\r\n", line.len().saturating_add(1)));
-    text.add(line);
-    text.add("\n\r\n");
+    text.add_all(&[line, "\n\r\n"]);
 }
 
 /// Puts the head of a WebSocket with its accept text.
 pub fn put_socket(text: &mut Bytes, accept: &str) {
     text.add("HTTP/1.1 101 Switching Protocols\r\nUpgrade: websocket\r\n");
     text.add("Connection: Upgrade\r\nSec-WebSocket-Accept: ");
-    text.add(accept);
-    text.add("\r\n\r\n");
+    text.add_all(&[accept, "\r\n\r\n"]);
 }
 
 /// Puts a line as a message of fewer than 65,536 bytes.

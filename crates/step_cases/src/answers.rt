@@ -21,12 +21,6 @@ pub fn tell_next(place: usize, number: u64, told: &mut Wording) {
     told.show(&number);
 }
 
-/// Tells a number behind these words.
-pub fn tell_number(words: &str, number: u64, told: &mut Wording) {
-    told.add(words);
-    told.show(&number);
-}
-
 /// Tells a number, or `nothing`.
 pub fn tell_one(found: Option<u64>, told: &mut Wording) {
     match found {

@@ -217,19 +217,14 @@ fn pass(alloc: Global, text: &str, told: &mut Wording) -> Result<(), Memory> {
 }
 
 fn send_both(mut sink: WriteEnd<Slow<'_>>, word: &[u8], long: &[u8], told: &mut Wording) {
-    told.debug(&sink.write(word));
-    told.add(", ");
-    told.debug(&send(&mut sink, long));
+    let (written, sent) = (sink.write(word), send(&mut sink, long));
+    told.show(&format_args!("{written:?}, {sent:?}"));
 }
 
 fn tell_taken(taken: &[u8], word: &[u8], long: &[u8], told: &mut Wording) {
-    told.add(", ");
-    told.show(&taken.len());
-    if taken.starts_with(word) && taken.ends_with(long) {
-        told.add(" taken in order");
-    } else {
-        told.add(" taken otherwise");
-    }
+    let is_in_order = taken.starts_with(word) && taken.ends_with(long);
+    let how = if is_in_order { "in order" } else { "otherwise" };
+    told.show(&format_args!(", {} taken {how}", taken.len()));
 }
 
 /// Writes two words to a writer that takes nothing: what the first write, a flush and the second write answer.
@@ -244,9 +239,7 @@ fn broken(alloc: Global, text: &str, told: &mut Wording) {
 
 fn write_twice(sink: &mut WriteEnd<Slow<'_>>, text: &str, told: &mut Wording) {
     let (word, other) = split(text);
-    told.debug(&sink.write(word.as_bytes()));
-    told.add(", ");
-    told.debug(&sink.flush());
-    told.add(", ");
-    told.debug(&sink.write(other.as_bytes()));
+    let (first, flushed) = (sink.write(word.as_bytes()), sink.flush());
+    let second = sink.write(other.as_bytes());
+    told.show(&format_args!("{first:?}, {flushed:?}, {second:?}"));
 }

@@ -46,11 +46,16 @@ fn fails_at_each<W: Writing>(
     for call in 0..MOST {
         let mut sink = failing(alloc, step, call)?;
         if writing.write(&mut sink) {
-            tell_calls(call, sink.bytes() == whole, told);
+            let what = if sink.bytes() == whole {
+                "all"
+            } else {
+                "other bytes"
+            };
+            told.show(&format_args!("each of {call} calls, and then {what}"));
             return Ok(());
         }
         if !has_what_went_before(sink.bytes(), whole, step.saturating_mul(call)) {
-            tell_other(call, told);
+            told.show(&format_args!("at call {call}: other bytes"));
             return Ok(());
         }
     }
@@ -68,17 +73,4 @@ fn failing(alloc: Global, step: usize, call: usize) -> Result<MemSink, Memory>
 /// Whether a sink has no more bytes than calls before its fault could write, and they are the first of the whole.
 fn has_what_went_before(bytes: &[u8], whole: &[u8], most: usize) -> bool {
     bytes.len() <= most && whole.starts_with(bytes)
-}
-
-fn tell_other(call: usize, told: &mut Wording) {
-    told.add("at call ");
-    told.show(&call);
-    told.add(": other bytes");
-}
-
-fn tell_calls(calls: usize, is_whole: bool, told: &mut Wording) {
-    told.add("each of ");
-    told.show(&calls);
-    told.add(" calls, and then ");
-    told.add(if is_whole { "all" } else { "other bytes" });
 }

@@ -118,10 +118,7 @@ fn tell_message(message: &Result<Message, Error>, told: &mut Wording) {
     match message {
         Ok(Message::Text(text)) => tell_text(text.as_str(), told),
         Ok(Message::Close(Some(frame))) => {
-            told.add("close ");
-            told.debug(&frame.code);
-            told.add(" ");
-            told.add(frame.reason.as_str());
+            told.show(&format_args!("close {:?} {}", frame.code, frame.reason.as_str()));
         }
         Ok(_) => told.add("another message"),
         Err(Error::ConnectionClosed) => told.add("closed"),
@@ -134,9 +131,7 @@ fn tell_message(message: &Result<Message, Error>, told: &mut Wording) {
 fn tell_text(text: &str, told: &mut Wording) {
     match text.bytes().next() {
         Some(first) if text.len() > 100 && has_only(text, first) => {
-            told.show(&text.len());
-            told.add(" of ");
-            told.show(&char::from(first));
+            told.show(&format_args!("{} of {}", text.len(), char::from(first)));
         }
         _ => told.add(text),
     }

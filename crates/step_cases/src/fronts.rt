@@ -2,7 +2,6 @@
 
 ghost use Rattle.std.specs.Prelude.{◌≡◌};
 
-use crate::answers::tell_number;
 use crate::mismatch;
 use case_rows::{Lines, NO_STEP, Steps, Tally, Wording, number, run_rows, split};
 use kube_meta::Memory;
@@ -139,9 +138,8 @@ fn add_pass<N: LogName>(fronts: &mut Fronts<N>, told: &mut Wording) -> Result<()
 }
 
 fn tell_pen<N: LogName>(pen: &Pen<Note, N>, told: &mut Wording) {
-    tell_number("revision ", pen.revision(), told);
-    tell_number(", generation ", pen.generation(), told);
-    tell_number(", floor ", pen.floor(), told);
+    let (revision, generation, floor) = (pen.revision(), pen.generation(), pen.floor());
+    told.show(&format_args!("revision {revision}, generation {generation}, floor {floor}"));
 }
 
 /// Commits the next entries, up to a revision.
@@ -188,10 +186,8 @@ fn split_pass<N: LogName>(
 }
 
 fn tell_pass<N: LogName>(pass: &Front<Note, N>, told: &mut Wording) {
-    tell_number("end ", pass.end(), told);
-    tell_number(", shown ", pass.shown(), told);
-    tell_number(", last ", pass.last(), told);
-    tell_number(", floor ", pass.floor(), told);
+    told.show(&format_args!("end {}, shown {}", pass.end(), pass.shown()));
+    told.show(&format_args!(", last {}, floor {}", pass.last(), pass.floor()));
 }
 
 /// Tells a pass all that the pen knows.
@@ -307,20 +303,14 @@ fn met<N: LogName>(
 }
 
 fn tell_learnt<N: LogName>(mut pen: Pen<Note, N>, pass: Front<Note, N>, told: &mut Wording) {
-    told.add(", learnt ");
-    told.show(&pen.learn(pass).is_ok());
-    tell_number(", revision ", pen.revision(), told);
+    let learnt = pen.learn(pass).is_ok();
+    told.show(&format_args!(", learnt {learnt}, revision {}", pen.revision()));
 }
 
 fn tell_both<N: LogName>(pass: &Front<Note, N>, told: &mut Wording) {
-    tell_number("end ", pass.end(), told);
-    tell_number(", shown ", pass.shown(), told);
     let is_within = 1 <= pass.last() && pass.last() <= 51;
-    told.add(if is_within {
-        ", last within"
-    } else {
-        ", last outside"
-    });
+    let place = if is_within { "within" } else { "outside" };
+    told.show(&format_args!("end {}, shown {}, last {place}", pass.end(), pass.shown()));
 }
 
 /// Commits fifty entries, and gives the pen back with a pass that has seen them.

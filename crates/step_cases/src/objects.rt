@@ -1,6 +1,6 @@
 //! Labels, listed fields, keys, texts, and objects as rows.
 
-use crate::answers::{tell_bytes, tell_number};
+use crate::answers::tell_bytes;
 use case_rows::{NO_STEP, Steps, Wording, key, number, object, split};
 use encode_once::Shown;
 use kube_meta::{Fields, Key, Labels, Memory, Row, Text};
@@ -91,11 +91,7 @@ fn two_texts(alloc: Global, text: &str) -> Result<(Text, Text), Memory> {
 /// The label at a place, in their order.
 fn tell_label(objects: &Objects, place: u64, told: &mut Wording) {
     match objects.labels.pairs().get(place as usize) {
-        Some(pair) => {
-            told.add(pair.0.as_str());
-            told.add(" ");
-            told.add(pair.1.as_str());
-        }
+        Some(pair) => told.show(&format_args!("{} {}", pair.0.as_str(), pair.1.as_str())),
         None => told.add("nothing"),
     }
 }
@@ -116,18 +112,15 @@ fn tell_text(text: &Text, told: &mut Wording) -> Result<(), Memory> {
 
 fn tell_order(one: &Text, other: &Text, told: &mut Wording) -> Result<(), Memory> {
     let copy = one.clone()?;
-    told.add(if one < other {
-        " is before"
-    } else {
-        " is not before"
-    });
+    let side = if one < other { "before" } else { "not before" };
+    told.show(&format_args!(" is {side}"));
     tell_copy(copy == *one, told);
     Ok(())
 }
 
 fn tell_copy(same: bool, told: &mut Wording) {
-    told.add(", its copy is ");
-    told.add(if same { "same" } else { "another" });
+    let copy = if same { "same" } else { "another" };
+    told.show(&format_args!(", its copy is {copy}"));
 }
 
 /// The key that is read from a text, its two parts, and whether its copy and the key of its parts are the same.
@@ -142,9 +135,7 @@ fn copy(alloc: Global, text: &str, told: &mut Wording) -> Result<(), Memory> {
 }
 
 fn tell_key(alloc: Global, key: &Key, told: &mut Wording) -> Result<(), Memory> {
-    told.add(key.ns());
-    told.add(" / ");
-    told.add(key.name());
+    told.show(&format_args!("{} / {}", key.ns(), key.name()));
     let is_copied = key.clone()? == *key;
     tell_copy(is_copied && is_made(alloc, key)?, told);
     Ok(())
@@ -171,16 +162,14 @@ fn row_of(alloc: Global, text: &str) -> Result<Row, Memory> {
 /// What the copy of a row is.
 fn row(alloc: Global, text: &str, told: &mut Wording) -> Result<(), Memory> {
     let row = row_of(alloc, text)?.clone()?;
-    told.add(row.obj.key.as_str());
-    tell_number(" ", row.rev, told);
+    told.show(&format_args!("{} {}", row.obj.key.as_str(), row.rev));
     Ok(())
 }
 
 /// The parts in which a row is shown.
 fn parts(alloc: Global, text: &str, told: &mut Wording) -> Result<(), Memory> {
     let shown = Shown::new(alloc, row_of(alloc, text)?)?;
-    told.show(&shown.row().rev);
-    told.add(": ");
+    told.show(&format_args!("{}: ", shown.row().rev));
     tell_bytes(shown.front(), told);
     told.add(" | ");
     tell_bytes(shown.digits(), told);

@@ -5,7 +5,7 @@ ghost use Rattle.std.specs.Cmp.Lexicographic.{slice_cmp};
 ghost use Rattle.std.specs.Ordering.{nat_cmp};
 ghost use Rattle.std.specs.declared.cmp.Ordering.TheVariants.{Less};
 
-use crate::answers::{tell_next, tell_number, tell_one};
+use crate::answers::{tell_next, tell_one};
 use crate::things::{revision, shown};
 use case_rows::{NO_STEP, Steps, Wording, key, number, split};
 use event_ring::{Event, Ring, Span};
@@ -75,10 +75,8 @@ fn tell_state(ring: &Ring, told: &mut Wording) {
     if ring.is_empty() {
         told.add("empty, ");
     }
-    tell_number("floor ", ring.floor(), told);
-    tell_number(", last ", ring.last(), told);
-    tell_number(", ", ring.len() as u64, told);
-    tell_number(" of ", ring.capacity() as u64, told);
+    told.show(&format_args!("floor {}, last {}", ring.floor(), ring.last()));
+    told.show(&format_args!(", {} of {}", ring.len(), ring.capacity()));
 }
 
 /// Pushes the event of one change; behind ` at ` the time may stand, to which the ring is then fitted first.
@@ -99,10 +97,7 @@ fn push_two(alloc: Global, rings: &mut Rings, rev: u64, told: &mut Wording) -> R
 
 fn tell_dropped(dropped: Option<u64>, told: &mut Wording) {
     match dropped {
-        Some(count) => {
-            told.show(&count);
-            told.add(" dropped");
-        }
+        Some(count) => told.show(&format_args!("{count} dropped")),
         None => told.add("not above the last"),
     }
 }

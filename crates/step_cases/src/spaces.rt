@@ -1,6 +1,5 @@
 //! Objects of several namespaces in one tree.
 
-use crate::answers::tell_number;
 use crate::things::shown;
 use case_rows::{Wording, split};
 use kube_meta::{Key, Memory};
@@ -54,15 +53,10 @@ fn tell_rows(alloc: Global, rows: Rows<'_>, told: &mut Wording) -> Result<(), Me
 
 fn tell_revisions(found: &[u64], len: usize, told: &mut Wording) {
     if found.len() != len {
-        told.show(&found.len());
-        told.add(" rows in place of ");
+        told.show(&format_args!("{} rows in place of ", found.len()));
     }
     match (found.first(), found.last()) {
-        (Some(first), Some(last)) => {
-            told.show(&len);
-            tell_number(" rows, ", *first, told);
-            tell_number(" to ", *last, told);
-        }
+        (Some(first), Some(last)) => told.show(&format_args!("{len} rows, {first} to {last}")),
         _ => told.add("no rows"),
     }
 }

@@ -1,6 +1,6 @@
 //! Trees of objects, and snapshots of them. The objects are `p-1000` and so on, whose order is that of their numbers.
 
-use crate::answers::{tell_number, tell_numbers, tell_one};
+use crate::answers::{tell_numbers, tell_one};
 use crate::spaces::{lent, numbered, spread, within};
 use crate::things::{revision, shown};
 use case_rows::{NO_STEP, Steps, Wording, number, split};
@@ -71,8 +71,7 @@ fn tell_size(tree: &Tree, told: &mut Wording) {
     if tree.is_empty() {
         told.add("empty, ");
     }
-    told.show(&tree.len());
-    tell_number(" rows, pages ", tree.pages() as u64, told);
+    told.show(&format_args!("{} rows, pages {}", tree.len(), tree.pages()));
 }
 
 /// The key of the pod of a number, in `default`.
@@ -116,8 +115,7 @@ fn without(alloc: Global, trees: &mut Trees, text: &str, told: &mut Wording) -> 
         remove(alloc, trees, even(number(from).saturating_add(place)))?;
         note_pages(&trees.tree, &mut pages)?;
     }
-    told.show(&trees.tree.len());
-    told.add(" rows, pages ");
+    told.show(&format_args!("{} rows, pages ", trees.tree.len()));
     tell_numbers(pages.as_slice(), told);
     Ok(())
 }
@@ -156,8 +154,7 @@ fn above(alloc: Global, trees: &Trees, number: u64) -> Result<Option<u64>, Memor
 fn keep(alloc: Global, trees: &mut Trees, told: &mut Wording) -> Result<(), Memory> {
     trees.kept = trees.tree.snapshot()?;
     trees.before = lent(alloc, trees.kept.range(None))?;
-    told.show(&trees.before.len());
-    told.add(" rows");
+    told.show(&format_args!("{} rows", trees.before.len()));
     Ok(())
 }
 
@@ -165,11 +162,7 @@ fn keep(alloc: Global, trees: &mut Trees, told: &mut Wording) -> Result<(), Memo
 fn tell_kept(alloc: Global, trees: &Trees, told: &mut Wording) -> Result<(), Memory> {
     let now = lent(alloc, trees.kept.range(None))?;
     let same = now.as_slice() == trees.before.as_slice();
-    told.show(&trees.kept.len());
-    told.add(if same {
-        " rows, the same"
-    } else {
-        " rows, others"
-    });
+    let which = if same { "the same" } else { "others" };
+    told.show(&format_args!("{} rows, {which}", trees.kept.len()));
     Ok(())
 }

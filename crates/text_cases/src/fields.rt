@@ -3,7 +3,7 @@
 use crate::samples::{NO_INPUT, fields, key, parts, resource, sameness, truth};
 use case_rows::{Wording, split};
 use field_select::FieldSel;
-use kube_meta::{Fields, Key, Memory, Resource};
+use kube_meta::Resource;
 use std::alloc::Global;
 
 /// Rows: `read RESOURCE T`, and of pods `empty T`, `match T | KEY | VALUES`, `same T | T`, `wanted PLACE T`.
@@ -11,11 +11,8 @@ pub fn answer(alloc: Global, input: &str, told: &mut Wording) {
     let (what, text) = split(input);
     match what {
         "read" => read(alloc, text, told),
-        "empty" => empty(alloc, text, told),
-        "match" => matched(alloc, text, told),
-        "same" => same(alloc, text, told),
         "wanted" => wanted(alloc, text, told),
-        _ => told.add(NO_INPUT),
+        _ => told.add(told_of(alloc, what, text).unwrap_or(NO_INPUT)),
     }
 }
 
@@ -34,58 +31,29 @@ fn of_pods(alloc: Global, text: &str) -> Option<FieldSel> {
     FieldSel::read(alloc, text, Resource::Pods).ok()
 }
 
-fn empty(alloc: Global, text: &str, told: &mut Wording) {
-    match of_pods(alloc, text) {
-        Some(selector) => told.add(truth(selector.is_empty())),
-        None => told.add(NO_INPUT),
+/// What is told of a selector of pods.
+fn told_of(alloc: Global, what: &str, text: &str) -> Option<&'static str> {
+    let (text, other) = parts(text);
+    let selector = of_pods(alloc, text)?;
+    match what {
+        "empty" => Some(truth(selector.is_empty())),
+        "match" => matched(alloc, &selector, other),
+        "same" => same(alloc, &selector, &of_pods(alloc, other)?),
+        _ => None,
     }
 }
 
-fn matched(alloc: Global, input: &str, told: &mut Wording) {
-    let (text, object) = parts(input);
+fn matched(alloc: Global, selector: &FieldSel, object: &str) -> Option<&'static str> {
     let (name, values) = parts(object);
-    let key = key(alloc, name);
-    tell_match(&of_pods(alloc, text), &fields(alloc, values), &key, told);
-}
-
-fn tell_match(
-    selector: &Option<FieldSel>,
-    fields: &Option<Fields>,
-    key: &Option<Key>,
-    told: &mut Wording,
-) {
-    match (selector, fields, key) {
-        (Some(selector), Some(fields), Some(key)) => {
-            told.add(truth(selector.matches(fields, key)));
-        }
-        _ => told.add(NO_INPUT),
-    }
+    let key = key(alloc, name)?;
+    Some(truth(selector.matches(&fields(alloc, values)?, &key)))
 }
 
 /// Whether two selectors, and their copies, are the same.
-fn same(alloc: Global, input: &str, told: &mut Wording) {
-    let (one, other) = parts(input);
-    compare(alloc, &of_pods(alloc, one), &of_pods(alloc, other), told);
-}
-
-fn compare(alloc: Global, one: &Option<FieldSel>, other: &Option<FieldSel>, told: &mut Wording) {
-    match (one, other) {
-        (Some(one), Some(other)) => {
-            told.add(told_same((one, other), &one.copy(alloc), &other.copy(alloc)));
-        }
-        _ => told.add(NO_INPUT),
-    }
-}
-
-fn told_same(
-    two: (&FieldSel, &FieldSel),
-    copy: &Result<FieldSel, Memory>,
-    other_copy: &Result<FieldSel, Memory>,
-) -> &'static str {
-    match (copy, other_copy) {
-        (Ok(copy), Ok(other)) => sameness(two.0.same(two.1), copy.same(other)),
-        _ => NO_INPUT,
-    }
+fn same(alloc: Global, one: &FieldSel, other: &FieldSel) -> Option<&'static str> {
+    let copy = one.copy(alloc).ok()?;
+    let other_copy = other.copy(alloc).ok()?;
+    Some(sameness(one.same(other), copy.same(&other_copy)))
 }
 
 fn wanted(alloc: Global, input: &str, told: &mut Wording) {

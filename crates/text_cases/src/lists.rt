@@ -3,7 +3,7 @@
 use crate::samples::{NO_INPUT, key, resource};
 use case_rows::{Wording, number, split};
 use http_read::Params;
-use kube_meta::{Key, Resource, Text};
+use kube_meta::{Resource, Text};
 use list_rules::{AskNo, GetAsk, ListAsk, read_token, token};
 use select_all::Selection;
 use std::alloc::Global;
@@ -35,13 +35,9 @@ fn asked(alloc: Global, query: &str) -> Option<Result<ListAsk, AskNo>> {
 }
 
 fn list(alloc: Global, query: &str, told: &mut Wording) {
-    tell_asked(&asked(alloc, query), told);
-}
-
-fn tell_asked(asked: &Option<Result<ListAsk, AskNo>>, told: &mut Wording) {
-    match asked {
-        Some(Ok(ask)) => tell_ask(ask, told),
-        Some(Err(fault)) => told.debug(fault),
+    match asked(alloc, query) {
+        Some(Ok(ask)) => tell_ask(&ask, told),
+        Some(Err(fault)) => told.debug(&fault),
         None => told.add(NO_INPUT),
     }
 }
@@ -50,12 +46,10 @@ fn tell_asked(asked: &Option<Result<ListAsk, AskNo>>, told: &mut Wording) {
 fn tell_ask(ask: &ListAsk, told: &mut Wording) {
     told.debug(&ask.meaning);
     if ask.limit != 0 {
-        told.add(" limit ");
-        told.show(&ask.limit);
+        told.show(&format_args!(" limit {}", ask.limit));
     }
     if let Some(key) = &ask.after {
-        told.add(" behind ");
-        told.add(key.as_str());
+        told.show(&format_args!(" behind {}", key.as_str()));
     }
 }
 
@@ -67,43 +61,25 @@ fn asked_of_one(alloc: Global, query: &str) -> Option<Result<GetAsk, AskNo>> {
 }
 
 fn get(alloc: Global, query: &str, told: &mut Wording) {
-    tell_get(&asked_of_one(alloc, query), told);
-}
-
-fn tell_get(asked: &Option<Result<GetAsk, AskNo>>, told: &mut Wording) {
-    match asked {
+    match asked_of_one(alloc, query) {
         Some(Ok(ask)) => told.debug(&ask.meaning),
-        Some(Err(fault)) => told.debug(fault),
+        Some(Err(fault)) => told.debug(&fault),
         None => told.add(NO_INPUT),
     }
 }
 
 fn write(alloc: Global, input: &str, told: &mut Wording) {
-    let (revision, name) = split(input);
-    let asked = asked(alloc, "limit=2");
-    tell_token(
-        token_of(alloc, &asked, number(revision), &key(alloc, name)),
-        told,
-    );
-}
-
-fn token_of(
-    alloc: Global,
-    asked: &Option<Result<ListAsk, AskNo>>,
-    revision: u64,
-    last: &Option<Key>,
-) -> Option<Text> {
-    match (asked, last) {
-        (Some(Ok(ask)), Some(last)) => token(alloc, ask, revision, last).ok(),
-        _ => None,
-    }
-}
-
-fn tell_token(token: Option<Text>, told: &mut Wording) {
-    match token {
+    match token_of(alloc, input) {
         Some(text) => told.add(text.as_str()),
         None => told.add(NO_INPUT),
     }
+}
+
+fn token_of(alloc: Global, input: &str) -> Option<Text> {
+    let (revision, name) = split(input);
+    let ask = asked(alloc, "limit=2")?.ok()?;
+    let last = key(alloc, name)?;
+    token(alloc, &ask, number(revision), &last).ok()
 }
 
 fn read(alloc: Global, input: &str, told: &mut Wording) {
@@ -119,11 +95,7 @@ fn read(alloc: Global, input: &str, told: &mut Wording) {
 
 fn tell_read(alloc: Global, text: &str, selection: &Selection, told: &mut Wording) {
     match read_token(alloc, text, selection, "", "") {
-        Ok((revision, key)) => {
-            told.show(&revision);
-            told.add(" ");
-            told.add(key.as_str());
-        }
+        Ok((revision, key)) => told.show(&format_args!("{revision} {}", key.as_str())),
         Err(fault) => told.debug(&fault),
     }
 }

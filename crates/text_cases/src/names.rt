@@ -21,8 +21,8 @@ pub fn answer(alloc: Global, input: &str, told: &mut Wording) {
         "revision" => revision(text, told),
         "key" => key(alloc, text, told),
         "read" => read(alloc, text, told),
-        "order" => order(alloc, text, told),
-        "rank" => rank(text, told),
+        "order" => told.add(order(alloc, text).unwrap_or(NO_INPUT)),
+        "rank" => told.add(rank(text).unwrap_or(NO_INPUT)),
         "resource" => found(resource(text), told),
         "group" => group(text, told),
         _ => told.add(NO_INPUT),
@@ -52,8 +52,7 @@ fn key(alloc: Global, text: &str, told: &mut Wording) {
 fn tell_key(read: &Result<Result<Key, KeyNo>, Memory>, told: &mut Wording) {
     match read {
         Ok(Ok(key)) => {
-            told.add(key.as_str());
-            told.add(" = ");
+            told.show(&format_args!("{} = ", key.as_str()));
             tell_parts(key, told);
         }
         Ok(Err(fault)) => told.debug(fault),
@@ -68,9 +67,7 @@ fn key_of(alloc: Global, text: &str) -> Result<Result<Key, KeyNo>, Memory> {
 }
 
 fn tell_parts(key: &Key, told: &mut Wording) {
-    told.add(key.ns());
-    told.add(" / ");
-    told.add(key.name());
+    told.show(&format_args!("{} / {}", key.ns(), key.name()));
 }
 
 fn read(alloc: Global, text: &str, told: &mut Wording) {
@@ -85,25 +82,17 @@ fn tell_read(read: &Result<Option<Key>, Memory>, told: &mut Wording) {
     }
 }
 
-fn order(alloc: Global, text: &str, told: &mut Wording) {
+/// The order of two keys.
+fn order(alloc: Global, text: &str) -> Option<&'static str> {
     let (one, other) = split(text);
-    tell_order(&samples::key(alloc, one), &samples::key(alloc, other), told);
-}
-
-fn tell_order(one: &Option<Key>, other: &Option<Key>, told: &mut Wording) {
-    match (one, other) {
-        (Some(one), Some(other)) => told.add(side(one.cmp(other))),
-        _ => told.add(NO_INPUT),
-    }
+    let one = samples::key(alloc, one)?;
+    Some(side(one.cmp(&samples::key(alloc, other)?)))
 }
 
 /// The order of two resources.
-fn rank(text: &str, told: &mut Wording) {
+fn rank(text: &str) -> Option<&'static str> {
     let (one, other) = split(text);
-    match (resource(one), resource(other)) {
-        (Some(one), Some(other)) => told.add(side(one.cmp(&other))),
-        _ => told.add(NO_INPUT),
-    }
+    Some(side(resource(one)?.cmp(&resource(other)?)))
 }
 
 fn side(order: Ordering) -> &'static str {
@@ -140,8 +129,7 @@ fn tell_names(resource: Resource, told: &mut Wording) {
         resource.base_path(),
         resource.message_name(),
     ] {
-        told.add(name);
-        told.add(" ");
+        told.show(&format_args!("{name} "));
     }
     told.show(&resource.listed_fields().len());
 }

@@ -11,6 +11,9 @@ use meta_view::{Form, shown_pieces};
 use serde_json::Value;
 use std::alloc::Global;
 
+/// An object that was read, and the revision that its body gives.
+type Read = Result<(Obj, Option<u64>), ObjNo>;
+
 /// How a row's object is read, and what is shown of it.
 #[derive(Clone, Copy)]
 enum Part {
@@ -57,51 +60,25 @@ fn read(alloc: Global, part: Part, input: &str, told: &mut Wording) {
     let (name, rest) = split(input);
     let (ns, body) = split(rest);
     match resource(name) {
-        Some(resource) => {
-            if is_namespace(ns) {
-                tell_read(part, &read_in(alloc, part, resource, ns, body), told);
-            } else {
-                told.add(NO_INPUT);
-            }
+        Some(resource) if is_namespace(ns) => {
+            tell_read(part, &read_in(alloc, part, resource, ns, body), told);
         }
-        None => told.add(NO_INPUT),
+        _ => told.add(NO_INPUT),
     }
 }
 
-fn read_in(
-    alloc: Global,
-    part: Part,
-    resource: Resource,
-    ns: &str,
-    body: &str,
-) -> Result<(Obj, Option<u64>), ObjNo>
+fn read_in(alloc: Global, part: Part, resource: Resource, ns: &str, body: &str) -> Read
     requires { IsNamespace ns.now }
 {
-    read_as(alloc, part, resource, &Text::new(alloc, ns)?, body)
-}
-
-fn read_as(
-    alloc: Global,
-    part: Part,
-    resource: Resource,
-    ns: &Text,
-    body: &str,
-) -> Result<(Obj, Option<u64>), ObjNo>
-    requires { IsNamespace ns.now }
-{
+    let ns = Text::new(alloc, ns)?;
     match part {
-        Part::Replaced => read_replaced(alloc, resource, ns, body),
-        Part::OfValue => read_of_value(alloc, resource, ns, body),
-        _ => read_obj(alloc, body.as_bytes(), resource, ns, None),
+        Part::Replaced => read_replaced(alloc, resource, &ns, body),
+        Part::OfValue => read_of_value(alloc, resource, &ns, body),
+        _ => read_obj(alloc, body.as_bytes(), resource, &ns, None),
     }
 }
 
-fn read_replaced(
-    alloc: Global,
-    resource: Resource,
-    ns: &Text,
-    text: &str,
-) -> Result<(Obj, Option<u64>), ObjNo>
+fn read_replaced(alloc: Global, resource: Resource, ns: &Text, text: &str) -> Read
     requires { IsNamespace ns.now }
 {
     let (name, body) = split(text);
@@ -109,12 +86,7 @@ fn read_replaced(
     read_obj(alloc, body.as_bytes(), resource, ns, Some(&name))
 }
 
-fn read_of_value(
-    alloc: Global,
-    resource: Resource,
-    ns: &Text,
-    body: &str,
-) -> Result<(Obj, Option<u64>), ObjNo>
+fn read_of_value(alloc: Global, resource: Resource, ns: &Text, body: &str) -> Read
     requires { IsNamespace ns.now }
 {
     match Value::from_str(alloc, body) {
@@ -140,7 +112,7 @@ fn kind_of(value: &Value) -> &'static str {
     }
 }
 
-fn tell_read(part: Part, read: &Result<(Obj, Option<u64>), ObjNo>, told: &mut Wording) {
+fn tell_read(part: Part, read: &Read, told: &mut Wording) {
     match read {
         Ok((object, given)) => tell_object(part, object, *given, told),
         Err(fault) => told.debug(fault),
@@ -159,29 +131,21 @@ fn tell_object(part: Part, object: &Obj, given: Option<u64>, told: &mut Wording)
 
 fn tell_json(object: &Obj, given: Option<u64>, told: &mut Wording) {
     if let Some(given) = given {
-        told.add("given ");
-        told.show(&given);
-        told.add(" ");
+        told.show(&format_args!("given {given} "));
     }
-    told.add(object.front.as_str());
-    told.add("7");
-    told.add(object.back.as_str());
+    told.show(&format_args!("{}7{}", object.front.as_str(), object.back.as_str()));
 }
 
 fn tell_labels(object: &Obj, told: &mut Wording) {
     for pair in object.labels.pairs() {
-        told.add(pair.0.as_str());
-        told.add("=");
-        told.add(pair.1.as_str());
-        told.add(";");
+        told.show(&format_args!("{}={};", pair.0.as_str(), pair.1.as_str()));
     }
 }
 
 fn tell_fields(object: &Obj, told: &mut Wording) {
     for place in 0..object.fields.len() {
         if let Some(value) = object.fields.get(place) {
-            told.add(value.as_str());
-            told.add(";");
+            told.show(&format_args!("{};", value.as_str()));
         }
     }
 }
@@ -189,11 +153,7 @@ fn tell_fields(object: &Obj, told: &mut Wording) {
 fn tell_metadata(object: &Obj, told: &mut Wording) {
     let (front, back) = (object.front.as_str(), object.back.as_str());
     match (front.get(object.meta_from..), back.get(..object.meta_to)) {
-        (Some(from), Some(to)) => {
-            told.add(from);
-            told.add("7");
-            told.add(to);
-        }
+        (Some(from), Some(to)) => told.show(&format_args!("{from}7{to}")),
         _ => told.add("no bounds"),
     }
 }

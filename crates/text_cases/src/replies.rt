@@ -75,16 +75,10 @@ fn page(alloc: Global, input: &str, told: &mut Wording) {
     let (revision, rest) = split(rest);
     let (token, left) = split(rest);
     match shown(name) {
-        Some((form, resource)) => {
-            tell_front(form, resource, told);
-            let digits = revision.as_bytes();
-            tell_more(
-                (form, resource),
-                digits,
-                &quoted(alloc, token),
-                told_left(left),
-                told,
-            );
+        Some(shown) => {
+            tell_front(shown.0, shown.1, told);
+            let (digits, left) = (revision.as_bytes(), told_left(left));
+            tell_more(shown, digits, &quoted(alloc, token), left, told);
         }
         None => told.add(NO_INPUT),
     }

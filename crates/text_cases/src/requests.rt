@@ -88,14 +88,11 @@ fn tell_next(read: &Result<Option<Req>, ReqNo>, told: &mut Wording) -> bool {
 fn tell_request(req: &Req, told: &mut Wording) {
     told.add(req.method.as_str());
     for segment in req.path.as_slice() {
-        told.add(" [");
-        told.add(segment.as_str());
-        told.add("]");
+        told.show(&format_args!(" [{}]", segment.as_str()));
     }
     let length = req.body.as_slice().len();
     if length != 0 {
-        told.add(" body ");
-        told.show(&length);
+        told.show(&format_args!(" body {length}"));
     }
     if req.close {
         told.add(" close");
@@ -110,14 +107,11 @@ fn tell_request(req: &Req, told: &mut Wording) {
 /// What is accepted, and what a change to a WebSocket says.
 fn tell_fields(req: &Req, told: &mut Wording) {
     if let Some(accept) = &req.accept {
-        told.add(" accept ");
-        told.add(accept.as_str());
+        told.show(&format_args!(" accept {}", accept.as_str()));
     }
     if let Some(upgrade) = &req.upgrade {
-        told.add(" upgrade key ");
-        told.add(upgrade.key.as_str());
-        told.add(" version ");
-        told.add(upgrade.version.as_str());
+        let (key, version) = (upgrade.key.as_str(), upgrade.version.as_str());
+        told.show(&format_args!(" upgrade key {key} version {version}"));
     }
 }
 
@@ -152,11 +146,7 @@ fn counted(reader: &mut Reader, source: &mut MemSource) -> Option<u32> {
 
 /// Whether the source's fault ends the reading, where no request comes next.
 fn ended(reader: &mut Reader, source: &mut MemSource) -> Option<bool> {
-    is_fault(&reader.next_request(source))
-}
-
-fn is_fault(read: &Result<Option<Req>, ReqNo>) -> Option<bool> {
-    match read {
+    match reader.next_request(source) {
         Ok(Some(_)) => None,
         Err(ReqNo::ReadFault) => Some(true),
         Ok(None) | Err(_) => Some(false),
@@ -168,7 +158,5 @@ fn tell_run(at: u64, requests: Option<u32>, told: &mut Wording) {
         Some(requests) => told.show(&requests),
         None => told.add("no fault"),
     }
-    told.add(" from call ");
-    told.show(&at);
-    told.add(";");
+    told.show(&format_args!(" from call {at};"));
 }

@@ -2,8 +2,8 @@
 
 use crate::samples::{NO_INPUT, key, labels, parts, truth};
 use case_rows::{Wording, object, split};
-use kube_meta::{Labels, Memory, Obj, Resource, Text};
-use select_all::{Kind, SelNo, Selection};
+use kube_meta::{Labels, Obj, Resource, Text};
+use select_all::{SelNo, Selection};
 use std::alloc::Global;
 
 /// Rows, of pods: `read LABELS | FIELDS`, `select NAMESPACE | LABELS | FIELDS | KEY | OBJECT'S LABELS`, `change
@@ -13,9 +13,9 @@ pub fn answer(alloc: Global, input: &str, told: &mut Wording) {
     let (what, text) = split(input);
     match what {
         "read" => read(alloc, text, told),
-        "select" => select(alloc, text, told),
+        "select" => told.add(selected(alloc, text).unwrap_or(NO_INPUT)),
         "change" => change(alloc, text, told),
-        "same" => same(alloc, text, told),
+        "same" => told.add(same(alloc, text).unwrap_or(NO_INPUT)),
         _ => told.add(NO_INPUT),
     }
 }
@@ -54,31 +54,17 @@ fn labelled(object: Obj, labels: Labels) -> Obj {
 
 fn read(alloc: Global, input: &str, told: &mut Wording) {
     let (label, field) = parts(input);
-    tell_read(
-        &Selection::read(alloc, Resource::Pods, None, label, field),
-        told,
-    );
-}
-
-fn tell_read(read: &Result<Selection, SelNo>, told: &mut Wording) {
-    match read {
+    match Selection::read(alloc, Resource::Pods, None, label, field) {
         Ok(_) => told.add("a selection"),
-        Err(fault) => told.debug(fault),
+        Err(fault) => told.debug(&fault),
     }
 }
 
-fn select(alloc: Global, input: &str, told: &mut Wording) {
+fn selected(alloc: Global, input: &str) -> Option<&'static str> {
     let mut rest = input;
-    let chosen = selection(alloc, &mut rest);
+    let chosen = selection(alloc, &mut rest)?;
     let (name, pairs) = parts(rest);
-    tell_selected(&chosen, &pod(alloc, name, pairs), told);
-}
-
-fn tell_selected(chosen: &Option<Selection>, pod: &Option<Obj>, told: &mut Wording) {
-    match (chosen, pod) {
-        (Some(chosen), Some(pod)) => told.add(truth(chosen.selects(pod))),
-        _ => told.add(NO_INPUT),
-    }
+    Some(truth(chosen.selects(&pod(alloc, name, pairs)?)))
 }
 
 /// A pod with these labels, or none where it is absent.
@@ -103,34 +89,19 @@ fn tell_change(
     told: &mut Wording,
 ) {
     match chosen {
-        Ok(chosen) => tell_passed(chosen.passes(before.as_ref(), now.as_ref()), told),
+        Ok(chosen) => match chosen.passes(before.as_ref(), now.as_ref()) {
+            Some(kind) => told.debug(&kind),
+            None => told.add("nothing"),
+        },
         Err(_) => told.add(NO_INPUT),
     }
 }
 
-fn tell_passed(kind: Option<Kind>, told: &mut Wording) {
-    match kind {
-        Some(kind) => told.debug(&kind),
-        None => told.add("nothing"),
-    }
-}
-
-fn same(alloc: Global, input: &str, told: &mut Wording) {
+/// Whether two selections, and a copy of one, are the same.
+fn same(alloc: Global, input: &str) -> Option<&'static str> {
     let mut rest = input;
-    let one = selection(alloc, &mut rest);
-    compare(alloc, &one, &selection(alloc, &mut rest), told);
-}
-
-fn compare(alloc: Global, one: &Option<Selection>, other: &Option<Selection>, told: &mut Wording) {
-    match (one, other) {
-        (Some(one), Some(other)) => told.add(told_same(one, other, &other.copy(alloc))),
-        _ => told.add(NO_INPUT),
-    }
-}
-
-fn told_same(one: &Selection, other: &Selection, copy: &Result<Selection, Memory>) -> &'static str {
-    match copy {
-        Ok(copy) => truth(one.same(other) && one.same(copy)),
-        Err(_) => NO_INPUT,
-    }
+    let one = selection(alloc, &mut rest)?;
+    let other = selection(alloc, &mut rest)?;
+    let copy = other.copy(alloc).ok()?;
+    Some(truth(one.same(&other) && one.same(&copy)))
 }

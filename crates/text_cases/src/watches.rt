@@ -10,13 +10,9 @@ use watch_rules::{WatchAsk, WatchNo, plan};
 
 /// Rows: the query of a watch of all pods.
 pub fn answer(alloc: Global, query: &str, told: &mut Wording) {
-    tell_asked(&asked(alloc, query), told);
-}
-
-fn tell_asked(asked: &Option<Result<WatchAsk, WatchNo>>, told: &mut Wording) {
-    match asked {
-        Some(Ok(ask)) => tell_ask(ask, told),
-        Some(Err(fault)) => told.debug(fault),
+    match asked(alloc, query) {
+        Some(Ok(ask)) => tell_ask(&ask, told),
+        Some(Err(fault)) => told.debug(&fault),
         None => told.add(NO_INPUT),
     }
 }
@@ -37,8 +33,6 @@ fn tell_ask(ask: &WatchAsk, told: &mut Wording) {
         told.add(" bookmarks");
     }
     if ask.timeout_s != 0 {
-        told.add(" ");
-        told.show(&ask.timeout_s);
-        told.add(" s");
+        told.show(&format_args!(" {} s", ask.timeout_s));
     }
 }

@@ -4,7 +4,6 @@ use case_rows::Wording;
 use command_line::{Asked, ServeOptions, WordsNo, read_words};
 use kube_meta::Memory;
 use std::alloc::Global;
-use std::fmt::Display;
 use text_cases::NO_INPUT;
 use up_api::Settings;
 
@@ -14,21 +13,17 @@ use up_api::Settings;
 /// `--connections`, then these, and `--peer` where it is given; a load with `--from` and `--requests`. A check has no
 /// options.
 pub fn answer(alloc: Global, input: &str, told: &mut Wording) {
-    tell_read(asked(alloc, input), told);
+    match asked(alloc, input) {
+        Ok(asked) => tell_asked(&asked, told),
+        Err(WordsNo::Bad) => told.add("bad"),
+        Err(WordsNo::Memory) => told.add(NO_INPUT),
+    }
 }
 
 fn asked(alloc: Global, line: &str) -> Result<Asked, WordsNo> {
     match split(alloc, line) {
         Ok(words) => read_words(alloc, words.as_slice()),
         Err(_) => Err(WordsNo::Memory),
-    }
-}
-
-fn tell_read(read: Result<Asked, WordsNo>, told: &mut Wording) {
-    match read {
-        Ok(asked) => tell_asked(&asked, told),
-        Err(WordsNo::Bad) => told.add("bad"),
-        Err(WordsNo::Memory) => told.add(NO_INPUT),
     }
 }
 
@@ -41,11 +36,7 @@ fn tell_asked(asked: &Asked, told: &mut Wording) {
             tell_settings(settings, told);
         }
         Asked::Serve(options) => tell_server(options, told),
-        Asked::Load(options) => {
-            told.add("load");
-            tell_next(&options.from, told);
-            tell_next(&options.requests, told);
-        }
+        Asked::Load(load) => told.show(&format_args!("load {} {}", load.from, load.requests)),
         Asked::Check => told.add("check"),
     }
 }
@@ -60,32 +51,17 @@ fn split(alloc: Global, line: &str) -> Result<Vec<String>, Memory> {
     Ok(list)
 }
 
-/// A value behind a blank.
-fn tell_next<D: Display>(value: &D, told: &mut Wording) {
-    told.add(" ");
-    told.show(value);
-}
-
 fn tell_server(options: &ServeOptions, told: &mut Wording) {
-    told.add("serve");
-    tell_next(&options.port, told);
-    tell_next(&options.workers, told);
-    tell_next(&options.open, told);
-    tell_next(&options.connections, told);
+    told.show(&format_args!("serve {} {}", options.port, options.workers));
+    told.show(&format_args!(" {} {}", options.open, options.connections));
     tell_settings(&options.settings, told);
     if let Some(peer) = options.peer {
-        told.add(" peer");
-        tell_next(&peer, told);
+        told.show(&format_args!(" peer {peer}"));
     }
 }
 
 fn tell_settings(set: &Settings, told: &mut Wording) {
-    tell_next(&set.window, told);
-    tell_next(&set.window_max, told);
-    tell_next(&set.fresh_ms, told);
-    tell_next(&set.lane, told);
-    tell_next(&set.batch, told);
-    tell_next(&set.history, told);
-    tell_next(&set.bookmark_ms, told);
-    tell_next(&set.timeout_s, told);
+    told.show(&format_args!(" {} {} {}", set.window, set.window_max, set.fresh_ms));
+    told.show(&format_args!(" {} {} {}", set.lane, set.batch, set.history));
+    told.show(&format_args!(" {} {}", set.bookmark_ms, set.timeout_s));
 }

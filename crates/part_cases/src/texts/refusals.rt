@@ -39,9 +39,8 @@ fn tell_failure(alloc: Global, failure: Failure, told: &mut Wording) {
     match failure.into_refusal(alloc) {
         Ok(refusal) => {
             tell_code(refusal.code, refusal.too_large, told);
-            told.add(refusal.reason.as_str());
-            told.add(": ");
-            told.add(refusal.message.as_str());
+            let (reason, message) = (refusal.reason.as_str(), refusal.message.as_str());
+            told.show(&format_args!("{reason}: {message}"));
         }
         Err(_) => told.add(NO_INPUT),
     }

@@ -12,13 +12,9 @@ use up_store::WriteAsk;
 
 /// Rows: `METHOD TARGET`, or `METHOD TARGET | BODY`. Before the body, fields may stand behind ` & `.
 pub fn answer(alloc: Global, input: &str, told: &mut Wording) {
-    tell_routed(&routed(alloc, input), told);
-}
-
-fn tell_routed(routed: &Option<Result<Routed, RouteNo>>, told: &mut Wording) {
-    match routed {
-        Some(Ok(routed)) => tell_route(routed, told),
-        Some(Err(why)) => told.debug(why),
+    match routed(alloc, input) {
+        Some(Ok(routed)) => tell_route(&routed, told),
+        Some(Err(why)) => told.debug(&why),
         None => told.add(NO_INPUT),
     }
 }
@@ -46,13 +42,8 @@ fn request_text(alloc: Global, input: &str) -> Result<String, Memory> {
     let mut text = Wording::new(alloc);
     let (head, body) = input.split_once(" | ").unwrap_or((input, ""));
     let (line, fields) = head.split_once(" & ").unwrap_or((head, "Host: a"));
-    text.add(line);
-    text.add(" HTTP/1.1\r\nContent-Length: ");
-    text.show(&body.len());
-    text.add("\r\n");
-    text.add(fields);
-    text.add("\r\n\r\n");
-    text.add(body);
+    text.show(&format_args!("{line} HTTP/1.1\r\nContent-Length: {}\r\n", body.len()));
+    text.show(&format_args!("{fields}\r\n\r\n{body}"));
     text.whole()
 }
 
@@ -67,14 +58,11 @@ fn tell_route(routed: &Routed, told: &mut Wording) {
         Routed::Write(ask) => tell_write(ask, told),
         Routed::Get(ask) => {
             tell_object("get ", ask.resource, &ask.key, told);
-            told.add(" ");
-            told.debug(&ask.meaning);
+            told.show(&format_args!(" {:?}", ask.meaning));
         }
         Routed::List(ask) => {
             tell_selection("list ", &ask.selection, told);
-            told.debug(&ask.meaning);
-            told.add(" ");
-            told.show(&ask.limit);
+            told.show(&format_args!("{:?} {}", ask.meaning, ask.limit));
         }
         Routed::Watch(ask) => {
             tell_selection("watch ", &ask.selection, told);
@@ -82,24 +70,18 @@ fn tell_route(routed: &Routed, told: &mut Wording) {
         }
         Routed::Operate(operation) => told.debug(operation),
         Routed::Transact(transaction) => tell_writes(transaction.items(), told),
-        Routed::Describe(document) => {
-            told.add("describe ");
-            told.debug(document);
-        }
+        Routed::Describe(document) => told.show(&format_args!("describe {document:?}")),
         Routed::Metrics => told.add("metrics"),
     }
 }
 
 /// What is asked for, the resource and the namespace, with a blank behind each.
 fn tell_selection(what: &str, selection: &Selection, told: &mut Wording) {
-    told.add(what);
-    told.add(selection.resource.plural());
-    told.add(" ");
+    told.show(&format_args!("{what}{} ", selection.resource.plural()));
     match &selection.ns {
-        Some(ns) => told.add(ns.as_str()),
-        None => told.add("*"),
+        Some(ns) => told.show(&format_args!("{} ", ns.as_str())),
+        None => told.add("* "),
     }
-    told.add(" ");
 }
 
 fn tell_write(ask: &WriteAsk, told: &mut Wording) {
@@ -111,18 +93,14 @@ fn tell_write(ask: &WriteAsk, told: &mut Wording) {
             given,
         } => {
             tell_object("replace ", *resource, &obj.key, told);
-            told.add(" ");
-            told.debug(given);
+            told.show(&format_args!(" {given:?}"));
         }
         WriteAsk::Remove { resource, key } => tell_object("remove ", *resource, key, told),
     }
 }
 
 fn tell_object(what: &str, resource: Resource, key: &Key, told: &mut Wording) {
-    told.add(what);
-    told.add(resource.plural());
-    told.add(" ");
-    told.add(key.as_str());
+    told.show(&format_args!("{what}{} {}", resource.plural(), key.as_str()));
 }
 
 /// All writes, each with a semicolon.

@@ -4,7 +4,6 @@ use crate::hub::scene::{Scene, Stage, Watch};
 use crate::hub::texts::{tell_lines, tell_rows};
 use crate::store::calls::tell_operated;
 use crate::store::writes::{write_of, writes_of};
-use crate::words::tell_number;
 use cache_hub::Hub;
 use case_rows::{NO_STEP, Steps, Wording, number, split};
 use kube_meta::{Memory, Resource};
@@ -118,9 +117,8 @@ fn tell_state<N: LogFacts>(hub: &Hub<N>, at: u64, told: &mut Wording) {
 
 fn pump<N: LogFacts>(stage: &mut Stage<N>, until: u64, told: &mut Wording) -> Result<(), Memory> {
     let pumped = stage.scene.pump(until)?;
-    tell_number("end ", pumped.end, told);
-    tell_number(", cuts ", pumped.cuts, told);
-    tell_number(", rebuilds ", pumped.rebuilds, told);
+    let (end, cuts, rebuilds) = (pumped.end, pumped.cuts, pumped.rebuilds);
+    told.show(&format_args!("end {end}, cuts {cuts}, rebuilds {rebuilds}"));
     Ok(())
 }
 
@@ -136,8 +134,7 @@ fn open<N: LogFacts>(
         return Ok(());
     };
     let (id, lane) = stage.scene.open(&selection, position)?;
-    told.add("watch ");
-    told.show(&stage.watches.len());
+    told.show(&format_args!("watch {}", stage.watches.len()));
     stage.watches.push(Watch {
         id,
         lane,
@@ -162,9 +159,7 @@ fn take<N: LogFacts>(stage: &mut Stage<N>, number: u64, told: &mut Wording) {
     } else {
         told.add("dropped ");
     }
-    told.show(&piece.from);
-    tell_number(" to ", piece.to, told);
-    told.add(": ");
+    told.show(&format_args!("{} to {}: ", piece.from, piece.to));
     tell_lines(&piece.lines, told);
 }
 
@@ -180,8 +175,7 @@ fn catch<N: LogFacts>(stage: &mut Stage<N>, number: u64, many: u64, told: &mut W
     {
         Ok(caught) => {
             watch.position = caught.upto;
-            tell_number("up to ", caught.upto, told);
-            told.add(": ");
+            told.show(&format_args!("up to {}: ", caught.upto));
             tell_lines(&caught.lines, told);
         }
         Err(no) => told.debug(&no),

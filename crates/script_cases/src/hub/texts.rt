@@ -1,6 +1,5 @@
 //! Answers in words.
 
-use crate::words::tell_number;
 use case_rows::{Wording, tell_row};
 use obj_tree::Snapshot;
 use watch_lane::Line;
@@ -12,12 +11,8 @@ pub fn tell_lines(lines: &[Line], told: &mut Wording) {
     }
     for line in lines {
         let row = line.shown.row();
-        told.add("[");
-        told.debug(&line.kind);
-        told.add(" ");
-        told.add(row.obj.key.name());
-        tell_number(" ", row.rev, told);
-        told.add("]");
+        let name = row.obj.key.name();
+        told.show(&format_args!("[{:?} {name} {}]", line.kind, row.rev));
     }
 }
 

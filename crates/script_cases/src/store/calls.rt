@@ -5,7 +5,6 @@ ghost use Rattle.std.specs.Prelude.{◌≡◌, true};
 use crate::store::opening::LAST;
 use crate::store::served::Served;
 use crate::store::writes::{unchanged, write_of, writes_of, written};
-use crate::words::tell_number;
 use case_rows::{NO_STEP, Steps, Wording, number, split, tell_row};
 use kube_meta::{Memory, Resource, Row};
 use rev_log::Revision;
@@ -96,7 +95,7 @@ fn hear<N: LogFacts>(
         Ok(rev) => told.show(&rev),
         Err(no) => told.debug(&no),
     }
-    tell_number("; floor ", pass.floor(), told);
+    told.show(&format_args!("; floor {}", pass.floor()));
     Ok(())
 }
 
@@ -119,7 +118,7 @@ fn make<N: LogFacts, U: Served<N>>(client: &mut Client<N, U>, ask: &WriteAsk, to
         Ok(written) => tell_written(&written, told),
         Err(no) => told.debug(&no),
     }
-    tell_number("; floor ", client.told.floor(), told);
+    told.show(&format_args!("; floor {}", client.told.floor()));
 }
 
 fn transact<N: LogFacts, U: Served<N>>(
@@ -131,7 +130,7 @@ fn transact<N: LogFacts, U: Served<N>>(
     match Transaction::new(writes_of(alloc, text)?) {
         Ok(ask) => {
             tell_transacted(&client.served.transact(&ask, &mut client.told), told);
-            tell_number("; floor ", client.told.floor(), told);
+            told.show(&format_args!("; floor {}", client.told.floor()));
         }
         Err(no) => told.debug(&no),
     }
@@ -152,8 +151,7 @@ fn tell_transacted(answered: &Result<Vec<Written>, TxWriteNo>, told: &mut Wordin
 }
 
 fn tell_written(written: &Written, told: &mut Wording) {
-    told.add(written.row.obj.key.name());
-    tell_number(" ", written.rev, told);
+    told.show(&format_args!("{} {}", written.row.obj.key.name(), written.rev));
 }
 
 fn list<N: LogFacts, U: Served<N>>(client: &mut Client<N, U>, at: u64, told: &mut Wording) {
@@ -167,8 +165,7 @@ fn begin<N: LogFacts, U: Served<N>>(client: &mut Client<N, U>, at: u64, told: &m
     match client.served.begin(Resource::Pods, at, &mut client.told) {
         Ok(feed) => {
             client.feed = Some(feed);
-            tell_number("upto ", feed.upto, told);
-            tell_number(", generation ", feed.gen_, told);
+            told.show(&format_args!("upto {}, generation {}", feed.upto, feed.gen_));
         }
         Err(no) => told.debug(&no),
     }
@@ -197,14 +194,12 @@ fn history<N: LogFacts, U: Served<N>>(
 ) -> Result<(), Memory> {
     let history = client.served.history(Resource::Pods, &mut client.told)?;
     tell_history(&history, told);
-    tell_number("; ", client.served.reads(), told);
-    told.add(" reads");
+    told.show(&format_args!("; {} reads", client.served.reads()));
     Ok(())
 }
 
 fn tell_history(history: &History, told: &mut Wording) {
-    tell_number("floor ", history.floor, told);
-    told.add(": ");
+    told.show(&format_args!("floor {}: ", history.floor));
     tell_rows(&history.rows, told);
     told.add(", ");
     tell_revisions(history.upto, &history.revisions, told);
@@ -240,15 +235,13 @@ fn tell_rows(rows: &[Row], told: &mut Wording) {
 
 /// How far revisions go, and how many changes each of them has.
 fn tell_revisions(upto: u64, revisions: &[Revision], told: &mut Wording) {
-    tell_number("upto ", upto, told);
-    told.add(": ");
+    told.show(&format_args!("upto {upto}: "));
     if revisions.is_empty() {
         told.add("none");
     }
     for revision in revisions {
-        tell_number("[", revision.rev, told);
-        tell_number(" of ", revision.changes.len() as u64, told);
-        told.add("]");
+        let (rev, changes) = (revision.rev, revision.changes.len());
+        told.show(&format_args!("[{rev} of {changes}]"));
     }
 }
 
