@@ -59,6 +59,16 @@ fn print_found(rt: &HostRuntime, looks: &mut Looks) -> io::Result<()> {
     }
 }
 
+// The nodes that are looked for by turns, one a look. By chance the bits of the first one are nearly those that all
+// pods have.
+const NODES: [&str; 5] = [
+    "spec.nodeName=node-7",
+    "spec.nodeName=node-21",
+    "spec.nodeName=node-42",
+    "spec.nodeName=node-63",
+    "spec.nodeName=node-84",
+];
+
 /// What is looked for.
 #[derive(Clone, Copy)]
 enum Turn {
@@ -73,7 +83,7 @@ enum Turn {
 struct Looks {
     turn: Turn,
     state: Snapshot,
-    node: Selection,
+    nodes: Vec<Selection>,
     label: Selection,
 }
 
@@ -83,15 +93,16 @@ impl Looks {
         Ok(Looks {
             turn: Turn::Node,
             state: state(alloc, count, labels)?,
-            node: selection(alloc, "", "spec.nodeName=node-7")?,
+            nodes: nodes(alloc)?,
             label: selection(alloc, "app=web-7", "")?,
         })
     }
 
-    fn sought(&self) -> &Selection {
-        match self.turn {
-            Turn::Node => &self.node,
-            Turn::Label => &self.label,
+    // What the look of this number is for.
+    fn sought(&self, look: u64) -> &Selection {
+        match (self.turn, self.nodes.get(look as usize)) {
+            (Turn::Node, Some(node)) => node,
+            _ => &self.label,
         }
     }
 }
@@ -99,16 +110,16 @@ impl Looks {
 impl Race for Looks {
     fn step(&mut self) -> u64 {
         let mut sum = 0u64;
-        for _ in 0..LOOKS {
-            sum = sum.wrapping_add(found(self.state.range(None), self.sought()));
+        for look in 0..LOOKS {
+            sum = sum.wrapping_add(found(self.state.range(None), self.sought(look)));
         }
         sum
     }
 
     fn plain(&mut self) -> u64 {
         let mut sum = 0u64;
-        for _ in 0..LOOKS {
-            sum = sum.wrapping_add(walked(self.state.range(None), self.sought()));
+        for look in 0..LOOKS {
+            sum = sum.wrapping_add(walked(self.state.range(None), self.sought(look)));
         }
         sum
     }
@@ -163,19 +174,11 @@ fn pod(alloc: Global, number: usize, count: usize, labels: usize) -> Result<Obj,
 
 fn labels_of(alloc: Global, number: usize, count: usize) -> Result<Labels, Memory> {
     let mut labels = Labels::new(alloc);
-    put(
-        alloc,
-        &mut labels,
-        "app",
-        format!(in alloc; "web-{}", number % 10)?,
-    )?;
+    let app = format!(in alloc; "web-{}", number % 10)?;
+    put(alloc, &mut labels, "app", app)?;
     for name in NAMES.iter().take(count.saturating_sub(1)) {
-        put(
-            alloc,
-            &mut labels,
-            name,
-            format!(in alloc; "v-{}", number % 23)?,
-        )?;
+        let value = format!(in alloc; "v-{}", number % 23)?;
+        put(alloc, &mut labels, name, value)?;
     }
     Ok(labels)
 }
@@ -183,6 +186,14 @@ fn labels_of(alloc: Global, number: usize, count: usize) -> Result<Labels, Memor
 fn put(alloc: Global, labels: &mut Labels, name: &str, value: String) -> Result<(), Memory> {
     let _ = labels.put(Text::new(alloc, name)?, Text::from_string(value))?;
     Ok(())
+}
+
+fn nodes(alloc: Global) -> Result<Vec<Selection>, Memory> {
+    let mut nodes = Vec::with_capacity(alloc, NODES.len())?;
+    for node in NODES {
+        nodes.push(selection(alloc, "", node)?)?;
+    }
+    Ok(nodes)
 }
 
 fn fields_of(alloc: Global, node: usize) -> Result<Fields, Memory> {
