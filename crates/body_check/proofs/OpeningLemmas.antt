@@ -1,23 +1,21 @@
 -- The initial events of a start and the bookmark that ends them, against the lines.
-use Rattle.std.proofs.Common.{◌≡◌, ◌↔◌, ℕ, ◌+◌, ◌-◌, ◌<◌, ◌≤◌, ◌^◌, Bool, true, false, IsTrue, eqb, ◌≢◌, List, [], ◌∷◌, ◌++◌, map, length, take, drop, get_or, Option, Some, None, Result, refl, sym, ap, ◌∙◌, subst, inl, inr, append-nil, append_assoc, arith}
+use Rattle.std.proofs.Common.{◌≡◌, ◌↔◌, ℕ, ◌+◌, ◌-◌, ◌<◌, ◌≤◌, ◌^◌, Bool, true, false, IsTrue, eqb, ◌≢◌, List, [], ◌∷◌, ◌++◌, map, length, take, drop, get_or, Option, Some, None, refl, sym, ap, ◌∙◌, subst, inl, inr, append-nil, append_assoc, arith}
 use Rattle.std.specs.Prelude.{if◌then◌else◌}
 use Rattle.std.proofs.lemmas.Bool.{cases_Bool, iff_false, false≢true, eqb-true, eq-eqb}
-use Rattle.std.proofs.lemmas.List.{map-append, take-append-drop, take_more, take_rest, at_drop_more, drop_all, length-take, length-drop, length-append}
+use Rattle.std.proofs.lemmas.List.{map-append, take-append-drop, take_more, take_rest, at_drop_more, length-take, length-drop, length-append}
 use Rattle.kube_meta.specs.Rows.{RowData}
 use Rattle.meta_view.specs.declared.form.Form.TheVariants.{Whole}
 use Rattle.meta_view.specs.Lines.{bookmark_line}
-use Rattle.select_all.specs.Listings.{listing}
 use Rattle.select_all.specs.Selecting.{selects}
 use Rattle.select_all.specs.Streams.{TransitionData}
 use Rattle.watch_record.specs.declared.records.Record.{Record}
 use Rattle.watch_rules.specs.Bodies.{Told, Closing, initial, initial_lines}
-use Rattle.watch_rules.specs.declared.starts.Start.{Start}
 use Rattle.watch_texts.proofs.Apart.{marks_apart}
 use Rattle.body_check.specs.declared.found.Found.{Found}
 use Rattle.body_check.specs.declared.found.Found.TheVariants.{Reached, Broken}
 use Rattle.body_check.specs.Courses.{text_in, course_of, rows_told, closing_texts, opening_texts}
-use Rattle.body_check.specs.Findings.{AreCompared, AreFirst, ArePartly, Behind, BeginsOtherwise, IsFound, good_of, later}
-use Rattle.body_check.specs.Places.{IsPlaced, IsMissed, IsReached, texts_of_rows}
+use Rattle.body_check.specs.Findings.{AreFirst, ArePartly, Behind, BeginsOtherwise, IsFound, good_of, later}
+use Rattle.body_check.specs.Places.{IsPlaced, IsReached, texts_of_rows}
 use Rattle.body_check.specs.Reading.{IsUnderWay, Reads}
 use Rattle.body_check.proofs.Findings.{behind_both, behind_none, behind_some, found_behind, found_first, found_partly}
 use Rattle.body_check.proofs.Reading.{reads_some}
@@ -40,9 +38,6 @@ module _ (case : Record) where
     | inr out ↦ out_texts row rows out ∙ ap (λ (l : List (List ℕ)). l ++ texts_of_rows case rows) (sym (out_texts row [] out))
   ]
 
-  pub placed_out : (n : ℕ) (row : RowData) → n ≤ length lines → selects case.ask.selection row.obj ≡ false → IsReached case n row n
-  placed_out n row fits out = record { within = fits; agree = sym (ap (λ (l : List (List ℕ)). take n lines ++ l) (out_texts row [] out) ∙ append-nil (take n lines)) }
-
   next_is : (n : ℕ) (line : List ℕ) → n < length lines → line ≡ get_or lines n line → drop n lines ≡ line ∷ drop (n + 1) lines
   next_is n line inside item = at_drop_more (λ (l : List (List ℕ)). l) lines n line inside ∙ ap (λ (y : List ℕ). y ∷ drop (n + 1) lines) (sym item)
 
@@ -63,9 +58,6 @@ module _ (case : Record) where
         })
   ]
 
-  pub placed_end : (n : ℕ) (row : RowData) → selects case.ask.selection row.obj ≡ true → length lines ≤ n → IsMissed case n row
-  placed_end n row chosen past = record { chosen = chosen; otherwise = subst (BeginsOtherwise (text_in case (Told (initial row)))) (sym (drop_all n lines past)) tt }
-
   -- ---- one row after another
 
   pub compared_more : (all : List (List ℕ)) (n next : ℕ) (row : RowData) (rows : List RowData) → all ≡ take n lines ++ texts_of_rows case (row ∷ rows) → IsReached case n row next
@@ -77,17 +69,6 @@ module _ (case : Record) where
   counted : (n : ℕ) → n ≤ length lines → n ≡ length (take n lines)
   counted n fits = let e = length-take n lines in omega (arith, e)
 
-  pub compared_missed : (all : List (List ℕ)) (n : ℕ) (row : RowData) (rows : List RowData) → all ≡ take n lines ++ texts_of_rows case (row ∷ rows) → n ≤ length lines → IsMissed case n row → ArePartly all lines n
-  compared_missed all n row rows so fits is = record {
-    good = take n lines;
-    missed = text_in case (Told (initial row));
-    others = texts_of_rows case rows;
-    counted = counted n fits;
-    parted = so ∙ ap (λ (l : List (List ℕ)). take n lines ++ l) (in_texts row rows is.chosen);
-    agree = sym (take-append-drop n lines);
-    otherwise = is.otherwise;
-  }
-
   pub compared_all : (all : List (List ℕ)) (n : ℕ) → all ≡ take n lines ++ texts_of_rows case [] → n ≤ length lines → AreFirst all lines n
   compared_all all n so fits =
       let same : all ≡ take n lines = so ∙ append-nil (take n lines) in
@@ -95,15 +76,6 @@ module _ (case : Record) where
         counted = counted n fits ∙ ap length (sym same);
         agree = sym (take-append-drop n lines) ∙ ap (λ (l : List (List ℕ)). l ++ drop n lines) (sym same);
       }
-
-  -- ---- which rows are told
-
-  pub listed_state : (start : Start) (rows : List RowData) (r : Result ℕ ℕ) → rows_told start case.ask.selection rows ≡ listing case.ask.selection rows
-      → AreCompared (texts_of_rows case rows) lines r → AreCompared (map (text_in case) (initial_lines (rows_told start case.ask.selection rows))) lines r
-  listed_state start rows r same is = subst (λ (l : List RowData). AreCompared (map (text_in case) (initial_lines l)) lines r) (sym same) is
-
-  pub listed_none : (start : Start) (rows : List RowData) → rows_told start case.ask.selection rows ≡ [] → AreFirst (map (text_in case) (initial_lines (rows_told start case.ask.selection rows))) lines 0
-  listed_none start rows none = subst (λ (l : List RowData). AreFirst (map (text_in case) (initial_lines l)) lines 0) (sym none) (record { counted = refl; agree = refl })
 
   -- ---- the closing bookmark
 

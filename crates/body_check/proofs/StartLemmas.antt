@@ -10,12 +10,11 @@ use Rattle.kube_meta.specs.declared.resources.Resource.{Resource}
 use Rattle.kube_meta.specs.declared.resources.Resource.TheVariants.{Pods}
 use Rattle.kube_meta.specs.Resources.{same_resource}
 use Rattle.kube_meta.specs.Rows.{RowData, AreRising}
-use Rattle.rev_log.specs.Changes.{RevisionData}
 use Rattle.rev_log.specs.Logs.{Log, IsLog, end_of}
 use Rattle.rev_log.specs.Rows.{Holds}
 use Rattle.rev_log.specs.States.{row_in_base, row_next}
 use Rattle.rev_log.proofs.FitLemmas.{are_logs}
-use Rattle.rev_log.proofs.MapLemmas.{take_all, values_rise, row_with-values}
+use Rattle.rev_log.proofs.MapLemmas.{values_rise, row_with-values}
 use Rattle.select_all.specs.declared.selection.Selection.{Selection}
 use Rattle.select_all.specs.Floors.{IsEvicted}
 use Rattle.select_all.specs.Selecting.{selects}
@@ -35,7 +34,6 @@ use Rattle.body_check.specs.Moves.{standing, drop_upto}
 use Rattle.body_check.specs.Reading.{IsUnderWay, Reads}
 use Rattle.body_check.proofs.Findings.{found-same}
 use Rattle.body_check.proofs.LossLemmas.{lost_evicted, evicted_lost}
-use Rattle.body_check.proofs.MoveLemmas.{told_by}
 use Rattle.body_check.proofs.Order.{BeginsAbove, untold_within}
 use Rattle.body_check.proofs.Pieces.{Goes, reads_start, starts_reads}
 
@@ -195,17 +193,6 @@ module _ (case : Record) where
 
   base_none : (resource : Resource) (key : List ℕ) → row_in_base [] resource key ≡ None
   base_none resource key = elim (cases_Bool (same_resource resource Pods)) [ inl pods ↦ rw pods refl | inr other ↦ rw other refl ]
-
-  pub moves_are : told_by case.ask.selection case.log.items ≡ untold_at case case.first
-  moves_are =
-      let none : case.first - case.first ≡ 0 = omega arith in
-      let all : take (end_of (record_log case) - case.first) case.log.items ≡ case.log.items = take_all case.log.items (end_of (record_log case) - case.first) (omega arith) in
-      let stood : (λ (key : List ℕ). row_in_base [] case.ask.selection.resource key) ≡ (λ key. None) = λ i key. base_none case.ask.selection.resource key i in
-      sym (
-      ap From none
-      ∙ ap (λ (rows : Standing). filter_map (transition_by (selects case.ask.selection)) (events_from case.ask.selection.resource rows (take (end_of (record_log case) - case.first) case.log.items))) stood
-      ∙ ap (λ (l : List RevisionData). filter_map (transition_by (selects case.ask.selection)) (events_from case.ask.selection.resource (λ key. None) l)) all
-      )
 
   -- below the log's first revision all moves come
   pub untold_before : (at : ℕ) → at < case.first → drop_upto at (untold_at case case.first) ≡ untold_at case at

@@ -1,19 +1,10 @@
 -- One start more.
-use Rattle.std.proofs.Common.{◌≡◌, ℕ, ◌+◌, ◌<◌, max, ◌⊎◌, inl, inr, List, take, refl, subst, arith}
+use Rattle.std.proofs.Common.{◌≡◌, ℕ, ◌+◌, ◌<◌, max, ◌⊎◌, inl, inr, List, take, subst, arith}
 use Rattle.std.proofs.lemmas.Bool.{cases_lt}
 use Rattle.body_check.specs.Findings.{Begins, IsBrokenAt}
 use Rattle.body_check.specs.Trials.{AreTried}
 
 module _ (IsAllowed : ℕ → Type 0) (Tells : ℕ → List (List ℕ) → ℕ → Type 0) (texts : List (List ℕ)) where
-  -- at first, where no start is below
-  pub tried_none : (next : ℕ) → ((at : ℕ) → IsAllowed at → at < next → ⊥) → AreTried IsAllowed Tells texts next 0
-  tried_none next never = record {
-    none = λ at p allowed below tells. never at allowed below;
-    within = omega arith;
-    begun = inl refl;
-    greatest = λ at m allowed below few begins. absurd (never at allowed below);
-  }
-
   last_or_below : (at next : ℕ) → at < next + 1 → (at < next) ⊎ (at ≡ next)
   last_or_below at next le = elim (cases_lt at next) [ inl below ↦ inl below | inr past ↦ inr (omega arith) ]
 

@@ -2,7 +2,7 @@
 use Rattle.std.proofs.Common.{◌≡◌, ℕ, suc, ◌+◌, ◌-◌, ◌<◌, ◌≤◌, inl, inr, Less, true, false, List, [], ◌∷◌, ◌++◌, length, get_or, take, drop, map, refl, sym, ap, ◌∙◌, subst, arith}
 use Rattle.std.specs.Prelude.{All, Some, None, slice_get}
 use Rattle.std.proofs.lemmas.Bool.{cases_lt, lt-ltb, le-ltb}
-use Rattle.std.proofs.lemmas.List.{length-map, length-append, length-take, length-take-le, length-drop, get_or-take, get_or-drop, get_or_append_left, get_or-append_right, take-append-le, drop-append-le}
+use Rattle.std.proofs.lemmas.List.{length-map, length-append, length-take, length-drop, get_or-take, get_or-drop, get_or_append_left, get_or-append_right, take-append-le, drop-append-le}
 use Rattle.std.proofs.lemmas.List.Elements.{All-append, All-take, All-cons, All-nil}
 use Rattle.std.proofs.lemmas.List.Sums.{length-filter}
 use Rattle.std.proofs.lemmas.Option.{get_or_from_slice_get, slice_get_within}
@@ -151,9 +151,6 @@ with_room ring events place room is next are enough =
     let long : length (kept ring.capacity (with_events ring events 0)) ≡ length left + length events =
     ap length (are.kept_are 0) ∙ length-append left (map (stamped 0) events) ∙ ap (λ n. length left + n) (length-map events (stamped 0)) in
     omega (arith, bounded ring events 0 is next, long, enough)
-
-pub how_many : (ring : RingData) (events : List EventRows) (now place : ℕ) → AreDropped ring events place → place ≡ length (dropped ring.capacity (with_events ring events now))
-how_many ring events now place are = sym (ap length (are.dropped_are now) ∙ length-take-le place ring.held are.within)
 
 -- the last ones, by their number
 pub keep_last-drop : (held : List Stamped) (place n : ℕ) → place ≤ length held → n ≡ length held - place → keep_last n held ≡ drop place held

@@ -76,9 +76,6 @@ apart many held x y gone stay =
       | inr ge ↦ absurd (omega (arith, count_falls y.event.rev x.event.rev held ge, ltb-false (count_above x.event.rev held) many gone, ltb-true (count_above y.event.rev held) many stay))
     ]
 
-AllBelow : List Stamped → List Stamped → Type 0
-AllBelow xs ys = All (λ d. All (λ k. d.event.rev < k.event.rev) ys) xs
-
 pub in_two : (many : ℕ) (held : List Stamped) → NotFalling held → dropped many held ++ kept many held ≡ held
 in_two many held order =
     let c = cut_of many held order in

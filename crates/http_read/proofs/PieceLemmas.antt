@@ -1,14 +1,13 @@
 -- Texts that are cut at a separator, and their blanks.
-use Rattle.std.proofs.Common.{◌≡◌, ◌≢◌, ℕ, suc, ◌+◌, ◌-◌, ◌<◌, ◌≤◌, ◌==◌, Bool, true, false, List, [], ◌∷◌, ◌++◌, length, take, drop, get_or, reverse, refl, sym, ap, subst, ◌∙◌, ⊎_elim, arith, cond, drop-cons}
+use Rattle.std.proofs.Common.{◌≡◌, ◌≢◌, ℕ, ◌-◌, ◌<◌, ◌≤◌, ◌==◌, List, [], ◌∷◌, length, refl, sym, subst, ⊎_elim, arith}
 use Rattle.std.proofs.lemmas.Bool.{cond-true, cond-false, cases_eq, eq-eqb, ne_eqb}
 use Rattle.std.proofs.lemmas.Bool.Decides.{nat_tests}
-use Rattle.std.proofs.lemmas.List.{take_more, drop_all, reverse-append, reverse-reverse}
 use Rattle.std.specs.Prelude.{All}
 use Rattle.std.specs.List.{position_or_len, before_first, after_first}
 use Rattle.std.proofs.lemmas.List.Elements.{All-take, All-drop}
 use Rattle.form_urlencoded.specs.Form.{split, onto_first, split_once}
 use Rattle.form_urlencoded.proofs.FormLemmas.{split_once_before_same, split_once_after_same, split_once_before_other, split_once_after_other}
-use Rattle.httparse.specs.Grammar.{is_ows, skip_ows, trim_ows}
+use Rattle.httparse.specs.Grammar.{skip_ows, trim_ows}
 use Rattle.http_read.specs.Pieces.{last_blanks_off}
 
 split-nil : (s : ℕ) → split s [] ≡ [] ∷ []
@@ -51,41 +50,6 @@ splits s (b ∷ bs) =
 
     none : (s b : ℕ) (bs : List ℕ) → b ≢ s → length (b ∷ bs) ≤ position_or_len (λ x. x == s) (b ∷ bs) → length bs ≤ position_or_len (λ x. x == s) bs
     none s b bs other h = grind (arith, nat_tests)
-
--- a blank in front is passed over
-pub skip-step : (text : List ℕ) (at : ℕ) → at < length text → is_ows (get_or text at 0) ≡ true → skip_ows (drop (at + 1) text) ≡ skip_ows (drop at text)
-skip-step text at h blank =
-    sym (ap skip_ows (drop-cons text at 0 h) ∙ cond-true _ _ _ blank ∙ ap (λ (n : ℕ). skip_ows (drop n text)) {x = suc at} {y = at + 1} (omega arith))
-
--- at any other byte it ends
-pub skip-stop : (text : List ℕ) (at : ℕ) → at < length text → is_ows (get_or text at 0) ≡ false → skip_ows (drop at text) ≡ drop at text
-skip-stop text at h other =
-    ap skip_ows (drop-cons text at 0 h) ∙ cond-false _ _ _ other ∙ sym (drop-cons text at 0 h)
-
--- and it ends at the end
-pub skip-end : (text : List ℕ) (at : ℕ) → length text ≤ at → skip_ows (drop at text) ≡ drop at text
-skip-end text at h = ap skip_ows (drop_all at text h) ∙ sym (drop_all at text h)
-
-last-off : (xs : List ℕ) (x : ℕ) (b : Bool) → is_ows x ≡ b → last_blanks_off (xs ++ (x ∷ [])) ≡ cond b (last_blanks_off xs) (xs ++ (x ∷ []))
-last-off xs x true e =
-    ap (λ l. reverse (skip_ows l)) (reverse-append xs (x ∷ [])) ∙ ap reverse (cond-true _ _ _ e)
-last-off xs x false e =
-    ap (λ l. reverse (skip_ows l)) (reverse-append xs (x ∷ [])) ∙ ap reverse (cond-false _ _ _ e) ∙ ap reverse (sym (reverse-append xs (x ∷ []))) ∙ reverse-reverse _
-
--- a blank at the end is taken off
-pub back-step : (text : List ℕ) (end : ℕ) → 0 < end → end ≤ length text → is_ows (get_or text (end - 1) 0) ≡ true
-    → last_blanks_off (take (end - 1) text) ≡ last_blanks_off (take end text)
-back-step text end h w blank =
-    sym (ap (λ (n : ℕ). last_blanks_off (take n text)) {x = end} {y = end - 1 + 1} (omega arith)
-    ∙ ap last_blanks_off (take_more text (end - 1) 0 (omega arith)) ∙ last-off (take (end - 1) text) _ true blank)
-
--- at any other byte it ends
-pub back-stop : (text : List ℕ) (end : ℕ) → 0 < end → end ≤ length text → is_ows (get_or text (end - 1) 0) ≡ false
-    → last_blanks_off (take end text) ≡ take end text
-back-stop text end h w other =
-    let whole : take end text ≡ take (end - 1) text ++ (get_or text (end - 1) 0 ∷ []) =
-    ap (λ (n : ℕ). take n text) {x = end} {y = end - 1 + 1} (omega arith) ∙ take_more text (end - 1) 0 (omega arith) in
-    ap last_blanks_off whole ∙ last-off (take (end - 1) text) _ false other ∙ sym whole
 
 -- both ends
 pub trim-both : (text : List ℕ) → last_blanks_off (skip_ows text) ≡ trim_ows text

@@ -49,21 +49,3 @@ module _ {X Y : Type 0} (f : X → Y) where
     pub filter-around : (xs : List X) (i : ℕ) (d : X) → i < length xs
         → filter p (map f xs) ≡ filter p (map f (take (i + 1) xs)) ++ filter p (map f (drop (i + 1) xs))
     filter-around xs i d h = ap (filter p) (map-around xs i d h) ∙ filter-append p _ _
-
-module _ {X : Type 0} (p : X → Bool) where
-  just_one : (x : X) (b : Bool) → p x ≡ b → find p (x ∷ []) ≡ cond b (Some x) None
-  just_one x b e = ap (λ (t : Bool). cond t (Some x) None) e
-
-  -- none was found so far, and this one isn't it
-  pub find-next : (xs : List X) (i : ℕ) (d : X) → i < length xs → find p (take i xs) ≡ None → p (get_or xs i d) ≡ false → find p (take (i + 1) xs) ≡ None
-  find-next xs i d h none other =
-      ap (find p) (take_more xs i d h) ∙ find-append p _ _
-      ∙ ap (λ o. option_or o (find p (get_or xs i d ∷ []))) none ∙ just_one _ false other
-
-  -- none was found so far, and this one is it
-  pub find-there : (xs : List X) (i : ℕ) (d : X) → i < length xs → find p (take i xs) ≡ None → p (get_or xs i d) ≡ true → find p xs ≡ Some (get_or xs i d)
-  find-there xs i d h none same =
-      ap (find p) (sym (take-append-drop (i + 1) xs)) ∙ find-append p _ _
-      ∙ ap (λ o. option_or o (find p (drop (i + 1) xs)))
-      (ap (find p) (take_more xs i d h) ∙ find-append p _ _
-      ∙ ap (λ o. option_or o (find p (get_or xs i d ∷ []))) none ∙ just_one _ true same)

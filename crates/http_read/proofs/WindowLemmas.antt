@@ -45,11 +45,6 @@ pub window-length : (b value : List ℕ) (start end : ℕ) {n : ℕ} → take (e
 window-length b value start end e w h =
     omega (arith, h, ap length e, length-take (end - start) (drop start b), length-drop start b)
 
--- a window's length is how far its two places are apart
-pub window-length-is : (b value : List ℕ) (start end : ℕ) → take (end - start) (drop start b) ≡ value → end ≤ length b → length value ≡ end - start
-window-length-is b value start end e w =
-    omega (arith, ap length e, length-take (end - start) (drop start b), length-drop start b)
-
 -- the first bytes, as many as there are
 pub take-min : (bytes : List ℕ) (n most : ℕ) → n ≡ min (length bytes) most → take n bytes ≡ take most bytes
 take-min bytes n most e =

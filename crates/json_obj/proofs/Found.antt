@@ -10,24 +10,11 @@ use Rattle.std.specs.Ordering.{match_ordering, ordering_reverse}
 use Rattle.std.specs.Str.{bytes_eq}
 use Rattle.kube_meta.specs.Labels.{Pairs, value_at}
 use Rattle.serde_json.specs.Data.{Data, null, boolean, number, string, array, object, Members, no_members, member, put}
-use Rattle.serde_json.specs.Find.{get, get_member, as_str, as_object}
+use Rattle.serde_json.specs.Find.{get, get_member, as_str}
 use Rattle.serde_json.specs.View.{view, members_view}
 use Rattle.serde_json.specs.Written.{has_float, members_have_float}
 use Rattle.json_obj.proofs.Puts.{or-false}
 use Rattle.serde_json.proofs.Views.{Entry, put_last, get_member-put, get_member-put_other}
-
-pub get-as_object : (name : List ℕ) (d : Data) → get name d ≡ option_and_then (get_member name) (as_object d)
-get-as_object name null = refl
-get-as_object name (boolean b) = refl
-get-as_object name (number n) = refl
-get-as_object name (string s) = refl
-get-as_object name (array ds) = refl
-get-as_object name (object ms) = refl
-
--- a member of a member that is an object, or isn't
-pub get-inner : (name : List ℕ) (found : Option Data) (o : Option Members) → o ≡ option_and_then as_object found → option_and_then (get name) found ≡ option_and_then (get_member name) o
-get-inner name None o e = rw e refl
-get-inner name (Some d) o e = rw e (get-as_object name d)
 
 below_middle : (first : Entry) (es : List Entry) (e : Entry) (more : List Entry) → AllByRecursion (λ y. string_cmp first.0 y ≡ Less) (keys_of (es ++ e ∷ more)) → string_cmp first.0 e.0 ≡ Less
 below_middle first [] e more h = h.0
@@ -65,14 +52,6 @@ labels_more done e more old new sorted so_far this others name =
     either : (b : Bool) → bytes_eq name (string_bytes e.0) ≡ b → value_at new (string_bytes e.0) ≡ text_of (string_bytes e.0) (members_view (done ++ e ∷ [])) → ((name ≡ string_bytes e.0 → ⊥) → value_at new name ≡ text_of name (members_view (done ++ e ∷ []))) → value_at new name ≡ text_of name (members_view (done ++ e ∷ []))
     either true is here there = subst (λ (x : List ℕ). value_at new x ≡ text_of x (members_view (done ++ e ∷ []))) (sym ((bytes_eq-Decides name (string_bytes e.0)).0 is)) here
     either false is here there = there (λ same. true≢false (sym ((bytes_eq-Decides name (string_bytes e.0)).1 same) ∙ is))
-
-pub plain-as_object : (d : Data) (ms : Members) → as_object d ≡ Some ms → has_float d ≡ false → members_have_float ms ≡ false
-plain-as_object null ms e plain = cc
-plain-as_object (boolean b) ms e plain = cc
-plain-as_object (number n) ms e plain = cc
-plain-as_object (string s) ms e plain = cc
-plain-as_object (array ds) ms e plain = cc
-plain-as_object (object l) ms e plain = cc
 
 plain-found : (o : Ordering) (rest : Option Data) (d m : Data) → (rest ≡ Some m → has_float m ≡ false) → has_float d ≡ false → match_ordering o rest (Some d) rest ≡ Some m → has_float m ≡ false
 plain-found Less rest d m later here e = later e

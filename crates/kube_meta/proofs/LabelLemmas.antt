@@ -1,17 +1,14 @@
 -- What a search finds among sorted labels, and what an edit at that place does.
-use Rattle.std.proofs.Common.{◌≡◌, ◌≢◌, ℕ, zero, suc, ◌+◌, ◌-◌, ◌<◌, ◌≤◌, Bool, true, false, cond, List, [], ◌∷◌, length, get_or, set, Some, None, Result, Ok, Err, IfOk, IfErr, refl, sym, ap, ◌∙◌, subst, inl, inr, Less, Equal, Greater, Ordering, arith, bytes_eq}
+use Rattle.std.proofs.Common.{◌≡◌, ◌≢◌, ℕ, zero, suc, ◌-◌, ◌<◌, ◌≤◌, Bool, true, false, cond, List, [], ◌∷◌, length, get_or, set, Some, None, Result, Ok, Err, IfOk, IfErr, refl, sym, ap, ◌∙◌, subst, inl, inr, Less, Equal, Greater, Ordering, arith, bytes_eq}
 use Rattle.std.specs.List.{insert}
 use Rattle.std.specs.List.Sorted.{IsSearchInRange, IsBinarySearchResult, IsNonDecreasingBy}
 use Rattle.std.specs.Ordering.{nat_cmp, ordering_index, ordering_reverse}
-use Rattle.std.proofs.lemmas.List.{get_or-set_same, get_or-set_other}
-use Rattle.std.proofs.Math.ListN.{length-set}
 use Rattle.std.specs.Cmp.Lexicographic.{slice_cmp}
 use Rattle.std.specs.FinMap.{nat_cmp-IsAntisymmetric, slice_cmp-IsAntisymmetric}
 use Rattle.std.proofs.lemmas.Cmp.{nat_list_cmp_total}
-use Rattle.std.proofs.lemmas.Bool.{false_from_ne_true, cases_lt, cases_eq, cases_order, true≢false}
+use Rattle.std.proofs.lemmas.Bool.{false_from_ne_true, cases_lt, true≢false}
 use Rattle.std.proofs.lemmas.Slice.Eq.{bytes_eq-Decides}
 use Rattle.std.proofs.lemmas.List.Sorted.{IsNonDecreasingBy-from_default}
-use Rattle.std.proofs.lemmas.List.Edits.{length-insert, get_or-insert_below, get_or-insert_at, get_or-insert_above}
 use Rattle.kube_meta.specs.Labels.{Pairs, value_at, name_at, IsBefore, AreSorted, PutsOnly, IsAt, IsGapFor}
 
 -- ---- texts
@@ -65,9 +62,6 @@ value_present (x ∷ l) name (suc i) inside has none =
 -- writing over the first label of the name, or adding one before any of the name, changes what is found there alone
 abbrev pub Updates : Pairs → Pairs → List ℕ → List ℕ → Type 0
 Updates old new name value = (other : List ℕ) → value_at new other ≡ cond (bytes_eq other name) (Some value) (value_at old other)
-
-both_differ : (other name here : List ℕ) → here ≡ name → bytes_eq other here ≡ bytes_eq other name
-both_differ other name here same = ap (bytes_eq other) same
 
 kept : {A : Type 0} (here this : Bool) (x v w : A) → (here ≡ true → this ≡ true → ⊥) → cond here x (cond this v w) ≡ cond this v (cond here x w)
 kept true true x v w apart = absurd (apart refl refl)
@@ -150,17 +144,6 @@ module _ (l : Pairs) (sorted : AreSorted l) (name : List ℕ) (at : ℕ) (is_at 
   pub puts_only_set : (value : List ℕ) → PutsOnly l (set l at (name, value)) name value
   puts_only_set value = puts_only _ _ name value (updates_set l name value at is_at.in_range is_at.has_name no_name_before_at)
 
-  name_at-set : (value : List ℕ) (k : ℕ) → name_at (set l at (name, value)) k ≡ name_at l k
-  name_at-set value k = elim (cases_eq k at) [
-    | inl same ↦ rw same (let inside : at < length l = is_at.in_range in let written : get_or (set l at (name, value)) at ([], []) ≡ (name, value) = rw get_or-set_same refl in ap (λ pair. pair.0) written ∙ sym is_at.has_name)
-    | inr differs ↦ ap (λ pair. pair.0) (get_or-set_other l at k (name, value) ([], []) differs)
-  ]
-
-  -- the names stay, and so does the order
-  pub sorted_set : (value : List ℕ) → AreSorted (set l at (name, value))
-  sorted_set value i j lt in_range =
-      rw (name_at-set value i, name_at-set value j) (sorted i j lt (omega (arith, length-set {A = List ℕ × List ℕ})))
-
 module _ (l : Pairs) (name : List ℕ) (at : ℕ) (gap : IsGapFor l name at) where
   no_name_at_all : NoNameBefore l name (length l)
   no_name_at_all j lt same = elim (cases_lt j at) [
@@ -173,20 +156,3 @@ module _ (l : Pairs) (name : List ℕ) (at : ℕ) (gap : IsGapFor l name at) whe
 
   pub puts_only_insert : (value : List ℕ) → PutsOnly l (insert l at (name, value)) name value
   puts_only_insert value = puts_only _ _ name value (updates_insert l name value at (λ j lt same. before_self _ _ (gap.smaller_before j lt) same))
-
-  pub sorted_insert : (value : List ℕ) → AreSorted l → AreSorted (insert l at (name, value))
-  sorted_insert value sorted i j lt in_range =
-      let new = insert l at (name, value) in
-      let length_new = length-insert l at (name, value) gap.in_range in
-      let below : (k : ℕ) → k < at → name_at new k ≡ name_at l k = λ k less. ap (λ pair. pair.0) (get_or-insert_below l at (name, value) ([], []) k less gap.in_range) in
-      let here : (k : ℕ) → k ≡ at → name_at new k ≡ name = λ k same. rw same (ap (λ pair. pair.0) (get_or-insert_at l at (name, value) ([], []) gap.in_range)) in
-      let above : (k : ℕ) → at < k → name_at new k ≡ name_at l (k - 1) = λ k more. subst (λ q. name_at new q ≡ name_at l (k - 1)) {x = k - 1 + 1} (omega arith) (ap (λ pair. pair.0) (get_or-insert_above l at (name, value) ([], []) (k - 1) (omega arith) gap.in_range)) in
-      elim (cases_order j at) [
-        | inl j_here ↦ rw (below i (omega arith), here j j_here) (gap.smaller_before i (omega arith))
-        | inr (inl j_below) ↦ rw (below i (omega arith), below j j_below) (sorted i j lt (omega arith))
-        | inr (inr j_above) ↦ elim (cases_order i at) [
-          | inl i_here ↦ rw (here i i_here, above j j_above) (gap.greater_after (j - 1) (omega arith) (omega (arith, length_new)))
-          | inr (inl i_below) ↦ rw (below i i_below, above j j_above) (sorted i (j - 1) (omega arith) (omega (arith, length_new)))
-          | inr (inr i_above) ↦ rw (above i i_above, above j j_above) (sorted (i - 1) (j - 1) (omega arith) (omega (arith, length_new)))
-        ]
-      ]

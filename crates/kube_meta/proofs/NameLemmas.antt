@@ -1,6 +1,6 @@
 -- On the grammars of names.
 use Rattle.std.proofs.Common.{◌≡◌, ℕ, zero, ◌+◌, ◌<◌, ◌-◌, suc, length-drop, Bool, true, false, not, cond, List, [], ◌∷◌, ◌++◌, length, ltb, ◌||◌, ◌&&◌, refl, Some, None, take, drop, position, inl, inr, sym, ◌∙◌, subst, arith}
-use Rattle.std.proofs.lemmas.Bool.{false_from_ne_true, and_parts, eqb-true, false≢true, cases_Bool, cond-true, cond-false, ltb-true}
+use Rattle.std.proofs.lemmas.Bool.{false_from_ne_true, and_parts, eqb-true, false≢true, cases_Bool, cond-true, cond-false}
 use Rattle.std.proofs.lemmas.Bool.Decides.{nat_tests}
 use Rattle.std.proofs.Math.Seq.{take-length}
 use Rattle.std.specs.List.{list_all, list_any, position_or_len, slice_split, onto_first}
@@ -48,15 +48,6 @@ label_key_whole text absent = elim (cases_Bool (ltb (position_or_len is_slash te
   | inr past ↦
       let any : list_any is_slash text ≡ false = list_any-position is_slash text ∙ past in
       rw any refl
-]
-
--- a first place is within the list
-pub position_within : (text : List ℕ) (slash : ℕ) → position is_slash text ≡ Some slash → slash < length text
-position_within text slash found = elim (cases_Bool (ltb (position_or_len is_slash text) (length text))) [
-  | inl within ↦
-      let here : position_or_len is_slash text ≡ slash = some_same (sym (cond-true _ _ _ within) ∙ found) in
-      rw (← here) (ltb-true _ _ within)
-  | inr past ↦ let none : None ≡ Some slash = sym (cond-false _ _ _ past) ∙ found in absurd (cc)
 ]
 
 -- a slice to the end

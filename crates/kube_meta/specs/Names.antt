@@ -67,14 +67,6 @@ is_label_key text =
 abbrev pub is_label_value : List ℕ → Bool
 is_label_value text = length text == 0 || is_label_name text
 
--- the text is an RFC 1123 label
-abbrev pub IsDnsLabel : List ℕ → Type 0
-IsDnsLabel text = IsTrue (is_dns_label text)
-
--- the text is an RFC 1123 subdomain
-abbrev pub IsDnsSubdomain : List ℕ → Type 0
-IsDnsSubdomain text = IsTrue (is_dns_subdomain text)
-
 -- the text can be the name of a namespace: an RFC 1123 label
 abbrev pub IsNamespace : List ℕ → Type 0
 IsNamespace text = IsTrue (is_namespace text)
@@ -82,10 +74,6 @@ IsNamespace text = IsTrue (is_namespace text)
 -- the text can be the name of an object of any of the resources: an RFC 1123 subdomain
 abbrev pub IsObjectName : List ℕ → Type 0
 IsObjectName text = IsTrue (is_object_name text)
-
--- the text can be the name segment of a label key
-abbrev pub IsLabelName : List ℕ → Type 0
-IsLabelName text = IsTrue (is_label_name text)
 
 -- the text can be the key of a label: a name segment, with or without a prefix and `/` before it
 abbrev pub IsLabelKey : List ℕ → Type 0

@@ -4,7 +4,7 @@ use Rattle.std.specs.List.{AllByRecursion, slice_get}
 use Rattle.std.proofs.Math.ListN.{length-set}
 use Rattle.std.proofs.lemmas.Bool.{cases_Bool, cases_eq, lt-ltb, le-ltb, eq-eqb, ne_eqb, eqb-true}
 use Rattle.std.proofs.lemmas.List.{take_more, get_or-set_same, get_or-set_other}
-use Rattle.std.proofs.lemmas.List.Elements.{filter-append, All-push, All-nil, All-from_recursion}
+use Rattle.std.proofs.lemmas.List.Elements.{filter-append, All-push, All-from_recursion}
 use Rattle.std.proofs.lemmas.List.Kept.{AllPairs-filter}
 use Rattle.kube_meta.specs.Rows.{RowData, key_of}
 use Rattle.rev_log.specs.Changes.{ChangeData, RevisionData, same_object, AreOfDistinctObjects}
@@ -102,9 +102,6 @@ put_full size from rows k row c old inside is within young change long_old hold 
     (row.rev, young, omega (arith, ap length holds, so_far, one, full))
 
 -- ---- rows are removed
-
-pub no_removals : (from : ℕ) (changes : List ChangeData) (slots : List (List ChangeData)) → Hold from slots changes → Remove from changes [] slots
-no_removals from changes slots hold = record { removed = []; hold = subst (Hold from slots) (sym (append-nil changes)) hold; keys = refl; removals = All-nil (IsRemoval from (length slots)) }
 
 map-push : (f : RowData → List ℕ) (xs : List RowData) (x : RowData) → map f (xs ++ x ∷ []) ≡ map f xs ++ f x ∷ []
 map-push f [] x = refl

@@ -1,5 +1,5 @@
 -- The keys that stand, key by key.
-use Rattle.std.proofs.Common.{◌≡◌, ℕ, ◌+◌, ◌<◌, Bool, true, false, not, cond, List, [], length, get_or, take, Option, Some, None, is_some, bytes_eq, refl, sym, ap, ◌∙◌}
+use Rattle.std.proofs.Common.{◌≡◌, ℕ, ◌+◌, ◌<◌, Bool, true, false, not, cond, List, length, get_or, take, Option, Some, None, is_some, bytes_eq, refl, sym, ap, ◌∙◌}
 use Rattle.std.specs.Prelude.{◌&&◌, ◌||◌}
 use Rattle.std.specs.BTreeSet.{BTreeSet, Updates}
 use Rattle.std.specs.Cmp.Lexicographic.{slice_cmp}
@@ -70,7 +70,3 @@ line_removed kind lines i line first old new inside is so_far takes key =
     ∙ and_unless (has first key) (tells kind (take i lines) key) (of line)
     ∙ ap (λ (t : TransitionData). has first key && not (list_any of (take i lines) || of t)) is
     ∙ ap (λ b. has first key && not b) (sym (list_any_more of lines i line inside))
-
-pub none_removed : (kind : Kind) (key : List ℕ) (b : Bool) → b ≡ (b && not (tells kind [] key))
-none_removed kind key true = refl
-none_removed kind key false = refl

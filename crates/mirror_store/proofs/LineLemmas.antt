@@ -1,8 +1,8 @@
 -- What one line makes of a mirror's log.
-use Rattle.std.proofs.Common.{◌≡◌, ℕ, ◌+◌, ◌-◌, ◌^◌, ◌<◌, ◌≤◌, Bool, true, false, eqb, List, [], ◌∷◌, ◌++◌, length, take, Option, None, Err, All, is_some, refl, sym, ap, ◌∙◌, subst, inl, inr, arith}
+use Rattle.std.proofs.Common.{◌≡◌, ℕ, ◌+◌, ◌-◌, ◌^◌, ◌<◌, ◌≤◌, Bool, true, false, eqb, List, [], ◌∷◌, ◌++◌, length, take, None, Err, All, is_some, refl, sym, ap, ◌∙◌, subst, inl, inr, arith}
 use Rattle.std.specs.List.{AllByRecursion}
 use Rattle.std.proofs.Math.Seq.{take-nil}
-use Rattle.std.proofs.lemmas.Bool.{cases_Bool, cases_eq, eq-eqb, ne_eqb}
+use Rattle.std.proofs.lemmas.Bool.{cases_Bool}
 use Rattle.std.proofs.lemmas.List.{length-append}
 use Rattle.std.proofs.lemmas.List.Elements.{All-nil, recursion_from_All}
 use Rattle.kube_meta.specs.declared.resources.Resource.TheVariants.{Pods}
@@ -13,16 +13,14 @@ use Rattle.rev_log.specs.Logs.{Log, IsLog, end_of}
 use Rattle.rev_log.specs.States.{row_at}
 use Rattle.select_all.specs.Streams.{TransitionData}
 use Rattle.up_api.specs.Sections.{log_upto}
-use Rattle.watch_rules.specs.Bodies.{Line, Told, Bookmark}
-use Rattle.mirror_law.specs.Following.{upto_of}
+use Rattle.watch_rules.specs.Bodies.{Told}
 use Rattle.mirror_law.specs.Mirrors.{of_revision, opened_log}
 use Rattle.mirror_law.specs.Taking.{row_before}
 use Rattle.mirror_keep.specs.Intakes.{IntakeData, IsIntake, IsAtEnd, Keeps, fits_kind, most_kept}
 use Rattle.mirror_keep.specs.Faults.{event_fault, mark_fault, is_repeated, last_of}
-use Rattle.mirror_keep.specs.declared.refusal.TakeNo.{TakeNo}
 use Rattle.mirror_keep.proofs.IntakeLemmas.{one_more, stood_here}
 use Rattle.mirror_store.specs.Kept.{Holds}
-use Rattle.mirror_store.specs.MirrorLogs.{MirrorLogData, Takes, Moves, MovesOne, Steps, Commits, Hears}
+use Rattle.mirror_store.specs.MirrorLogs.{MirrorLogData, Takes, Moves, MovesOne, Steps, Commits}
 use Rattle.mirror_store.specs.declared.refusal.MirrorNo.{MirrorNo}
 use Rattle.mirror_store.specs.declared.refusal.MirrorNo.TheVariants.{Refused, Passed, Memory}
 use Rattle.mirror_store.proofs.FaultLemmas.{IsGood, good, good_mark}
@@ -67,13 +65,6 @@ end_first to at (t ∷ kept) next last = omega (arith, next.0, last)
 
 pub mark_above : (old : MirrorLogData) (at : ℕ) → All (λ t. t.rev ≡ end_of old.log + 1) old.kept → last_of (end_of old.log) old.kept ≤ at → end_of old.log ≤ at
 mark_above old at next last = end_first (end_of old.log) at old.kept (recursion_from_All (λ t. t.rev ≡ end_of old.log + 1) old.kept next) last
-
--- ---- a line that was taken in part
-
-pub in_part : (old new : MirrorLogData) (line : Line) (fault : Option TakeNo) (why : MirrorNo) → fault ≡ None → Commits old (upto_of line) (Err why) new → Hears old fault line (Err why) new
-in_part old new line fault (Refused taken) none commits = absurd commits
-in_part old new line fault (Passed at) none commits = (none, record { selection = commits.0.selection; grows = commits.0.grows; within = omega (arith, commits.1) }, commits.2, commits.3)
-in_part old new line fault Memory none commits = (none, record { selection = commits.0.selection; grows = commits.0.grows; within = omega (arith, commits.1) })
 
 -- ---- an event
 
@@ -138,17 +129,6 @@ module _ (base : List RowData) (mirror : Bool) (q : Pass RevisionData) (old mid 
 none_kept : (old : MirrorLogData) (at : ℕ) (kept : List TransitionData) → AllByRecursion (λ t. t.rev ≡ end_of old.log + 1) kept → last_of (end_of old.log) kept ≤ at → at ≡ end_of old.log → kept ≡ []
 none_kept old at [] next last same = refl
 none_kept old at (t ∷ kept) next last same = absurd (omega (arith, next.0, last, same))
-
-pub takes_mark : (old new : MirrorLogData) (at : ℕ) → All (λ t. t.rev ≡ end_of old.log + 1) old.kept → last_of (end_of old.log) old.kept ≤ at → Moves old new → end_of new.log ≡ at → Takes old (Bookmark at) new
-takes_mark old new at next last moves end = record {
-  selection = moves.selection;
-  grows = moves.grows;
-  reached = end;
-  kept = moves.kept ∙ elim (cases_eq (end_of new.log) (end_of old.log)) [
-    | inl same ↦ rw (eq-eqb (end_of new.log) (end_of old.log) same) (none_kept old at old.kept (recursion_from_All (λ t. t.rev ≡ end_of old.log + 1) old.kept next) last (sym end ∙ same))
-    | inr other ↦ rw (ne_eqb (end_of new.log) (end_of old.log) other) refl
-  ];
-}
 
 -- ---- the beginning
 

@@ -2,7 +2,6 @@
 use Rattle.std.proofs.Common.{◌≡◌, ℕ, ◌+◌, ◌<◌, List, [], ◌∷◌, ◌++◌, length, All, refl, sym, ap, ◌∙◌, subst, inl, inr, arith, append_assoc, length-append}
 use Rattle.std.specs.List.{AllByRecursion}
 use Rattle.std.proofs.lemmas.Bool.{cases_lt, eq-eqb, ne_eqb}
-use Rattle.std.proofs.lemmas.List.{append-nil}
 use Rattle.std.proofs.lemmas.List.Elements.{recursion_from_All}
 use Rattle.kube_meta.specs.declared.resources.Resource.TheVariants.{Pods}
 use Rattle.rev_front.proofs.Beginnings.{fit_push}
@@ -25,19 +24,6 @@ none_at at other [] is above = refl
 none_at at other (t ∷ kept) is above = rw (ne_eqb t.rev other (λ same. absurd (omega (arith, same, is.0, above)))) (none_at at other kept is.1 above)
 
 -- ---- steps
-
--- nothing yet
-pub moves_begin : (m : MirrorLogData) → Moves m m
-moves_begin m = record {
-  selection = refl;
-  grows = record {
-    more = [];
-    log_is = ap (λ (revisions : List RevisionData). let log : Log = record m.log { revisions = revisions } in log) (sym (append-nil m.log.revisions));
-    told_by = λ i r at. cc;
-  };
-  kept = rw (eq-eqb (end_of m.log) (end_of m.log) refl) refl;
-  stands = λ rev key above. refl;
-}
 
 module _ (a b c : MirrorLogData) (next : All (λ t. t.rev ≡ end_of a.log + 1) a.kept) (before : Moves a b) (step : MovesOne b c) where
   each : AllByRecursion (λ t. t.rev ≡ end_of a.log + 1) a.kept

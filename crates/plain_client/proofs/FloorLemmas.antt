@@ -10,7 +10,6 @@ use Rattle.rev_log.specs.Logs.{Log, between, end_of}
 use Rattle.select_all.specs.Floors.{changes_in, changes_between, greatest, is_passed, ring_floor, IsEvicted, IsRingFloor}
 use Rattle.select_all.proofs.FloorLaws.{are_greatest}
 use Rattle.select_all.proofs.FloorSteps.{counts_join, floors_evict}
-use Rattle.select_all.proofs.StreamLaws.{between-none}
 use Rattle.plain_client.specs.Plain.{IsKept, plain_log}
 
 -- ---- one revision
@@ -79,17 +78,6 @@ module _ (log : Log) (resource : Resource) (window : ℕ) where
     pub within : at ≤ end
     pub wanted_is : wanted ≡ window - changes_between log resource at end
     pub found : ring_floor log resource window log.first end ≡ found_from (at - log.first)
-
-  pub search_begins : Searches end window
-  search_begins = record {
-    begun = omega arith;
-    within = omega arith;
-    wanted_is = let none : changes_between log resource end end ≡ 0 = ap (sum_by (changes_in resource)) (between-none log end end (omega arith)) in omega (arith, none);
-    found = refl;
-  }
-
-  pub search_ends : (at wanted : ℕ) → Searches at wanted → at ≤ log.first → ring_floor log resource window log.first end ≡ log.first
-  search_ends at wanted s low = s.found ∙ ap found_from {x = at - log.first} {y = 0} (omega (arith, low))
 
   module _ (at wanted : ℕ) (revision : RevisionData) (s : Searches (at + 1) wanted) (begun : log.first ≤ at) (is : slice_get log.revisions (at - log.first) ≡ Some revision) where
     counted : changes_between log resource at (at + 1) ≡ changes_in resource revision

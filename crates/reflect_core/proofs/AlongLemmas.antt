@@ -1,5 +1,5 @@
 -- A cache that takes in what polls give, while the pass beside it learns.
-use Rattle.std.proofs.Common.{◌≡◌, ℕ, ◌≤◌, List, [], ◌∷◌, ◌++◌, Result, Ok, Err, append_assoc, append-nil, refl, sym, ap, ◌∙◌, subst}
+use Rattle.std.proofs.Common.{◌≡◌, ℕ, ◌≤◌, List, [], ◌∷◌, ◌++◌, Result, Ok, Err, append_assoc, append-nil, sym, ap, ◌∙◌, subst}
 use Rattle.std.specs.Prelude.{IfOk, OnOk, OnErr}
 use Rattle.kube_meta.specs.Rows.{RowData}
 use Rattle.rev_front.specs.Passes.{Pass, end_from}
@@ -14,9 +14,6 @@ grown_twice : (log : Log) (more further : List RevisionData) → grown (grown lo
 grown_twice log more further = ap (λ (revisions : List RevisionData). record log { revisions = revisions }) (append_assoc log.revisions more further)
 
 module _ {S : Type 0} (ends_at : S → ℕ) (goes_along : Log → S → S → Type 0) where
-  pub taken_none : (log : Log) (old : S) → TakesInPolls ends_at goes_along log old old
-  taken_none log old = record { caches = []; each = refl }
-
   step_later : (log longer : Log) (more : List RevisionData) (old new : S) → longer ≡ grown log more → TakesIn ends_at goes_along log old new → TakesIn ends_at goes_along longer old new
   step_later log longer more old new longer_is step = record {
     known = step.known;

@@ -2,7 +2,6 @@
 use Rattle.std.proofs.Common.{◌≡◌, ℕ, ◌+◌, ◌<◌, ◌≤◌, ◌^◌, max, List, [], ◌∷◌, ◌++◌, length, refl, ap, sym, ◌∙◌, subst, arith, length-append}
 use mathlib.Core.Option.{none, some, some-injective}
 use lib.ListN.{get_elem?}
-use mathlib.Core.List.{IsPrefix}
 use Rattle.atomic_table.specs.Seated.{TableId}
 use Rattle.atomic_table.specs.Table.{State, Me, step}
 use Rattle.rev_front.specs.declared.sight.Sight.{Sight}
@@ -75,29 +74,6 @@ module _ {E : Type 0} where
 -- each pass goes on from itself by a load
 pub looked_extends : {E : Type 0} (p : Pass E) (n : ℕ) → p.shown ≤ n → Extends p (looked p n)
 looked_extends p n later = record { log_is = refl; seat_is = refl; seen_on = prefix_self p.seen; loads_on = prefix_grown p.loads (n ∷ []); shown_on = later; floor_on = omega arith; gen_on = omega arith }
-
-pub gen_extends : {E : Type 0} (p : Pass E) (n : ℕ) → p.gen ≤ n → Extends p (record p { gen = n })
-gen_extends p n later = record { log_is = refl; seat_is = refl; seen_on = prefix_self p.seen; loads_on = prefix_self p.loads; shown_on = omega arith; floor_on = omega arith; gen_on = later }
-
-pub floor_extends : {E : Type 0} (p : Pass E) (n : ℕ) → p.floor ≤ n → Extends p (record p { floor = n })
-floor_extends p n later = record { log_is = refl; seat_is = refl; seen_on = prefix_self p.seen; loads_on = prefix_self p.loads; shown_on = omega arith; floor_on = later; gen_on = omega arith }
-
--- and by a meeting
-pub met_extends : {E : Type 0} (p o q : Pass E) → Met p o q → Extends p q
-met_extends {E} p o q m =
-    let is = m.is in
-    let shown : q.shown ≡ max p.shown o.shown = ap (λ (x : Pass E). x.shown) is in
-    let floor : q.floor ≡ max p.floor o.floor = ap (λ (x : Pass E). x.floor) is in
-    let gen : q.gen ≡ max p.gen o.gen = ap (λ (x : Pass E). x.gen) is in
-    record {
-      log_is = ap (λ (x : Pass E). x.first) is;
-      seat_is = ap (λ (x : Pass E). x.seat) is;
-      seen_on = m.mine;
-      loads_on = subst (λ (ns : List ℕ). IsPrefix p.loads ns) (sym (ap (λ (x : Pass E). x.loads) is)) (prefix_self p.loads);
-      shown_on = omega arith;
-      floor_on = omega arith;
-      gen_on = omega arith;
-    }
 
 -- what the writer knows of a pass speaks of no seat
 pub covers_reseated : {E : Type 0} (w : Whole E) (p : Pass E) (seat : ℕ) → Covers w (record p { seat = seat }) → Covers w p

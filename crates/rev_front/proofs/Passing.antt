@@ -46,10 +46,6 @@ loads_hold fits p lawful all =
     (seen, subst (λ n. n ≤ end_from p.first p.seen) (sym lawful.last_is) (last_within 0 (end_from p.first p.seen) p.loads (omega arith) seen))
 
 module _ {E : Type 0} (fits : ℕ → E → Type 0) (first : ℕ) where
-  -- no fact of a pass speaks of its seat
-  pub reseated : (j k : ℕ) (v : Sight E) → IsPass fits (pass_of first j v) → IsPass fits (pass_of first k v)
-  reseated j k v p = record { looks_is = p.looks_is; last_is = p.last_is; rising = p.rising; told = p.told; within = p.within; from = p.from; bounded = p.bounded; fitting = p.fitting }
-
   pub looked_on : (j n : ℕ) (v : Sight E) → IsPass fits (pass_of first j v) → v.shown ≤ n → n ≤ 2 ^ 62 → IsPass fits (pass_of first j (record v { loads = v.loads ++ n ∷ []; shown = n }))
   looked_on j n v p later small = record {
     looks_is = refl;

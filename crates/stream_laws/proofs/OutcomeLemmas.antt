@@ -1,5 +1,5 @@
 -- The reading of a line has one outcome.
-use Rattle.std.proofs.Common.{◌≡◌, ◌==◌, ℕ, zero, suc, ◌+◌, ◌-◌, ◌<◌, ◌≤◌, Bool, true, false, cond, List, [], ◌∷◌, ◌++◌, None, Some, length, map, take, drop, refl, sym, ap, subst, ◌∙◌, arith, append_assoc, append-nil, length-append, take-append-drop, add-one, eq-zero-or-pos, inl, inr}
+use Rattle.std.proofs.Common.{◌≡◌, ◌==◌, ℕ, zero, suc, ◌+◌, ◌-◌, ◌<◌, ◌≤◌, Bool, false, cond, List, [], ◌∷◌, ◌++◌, None, Some, length, map, take, drop, refl, sym, ap, subst, ◌∙◌, arith, append_assoc, append-nil, length-append, take-append-drop, add-one, eq-zero-or-pos, inl, inr}
 use Rattle.std.specs.Prelude.{◌≢◌, Option}
 use Rattle.std.specs.List.{flat_map}
 use Rattle.std.proofs.lemmas.Bool.Decides.{nat_tests}
@@ -50,9 +50,6 @@ has_room (Some (suc n)) place part kept some = refl
 no_room : (room : Option ℕ) (place : Place) (part kept : List ℕ) → room ≡ Some 0 → by_room room place part kept ≡ refused Spent
 unfolding by_room
 no_room room place part kept none = ap (λ r. by_room r place part kept) none
-
-is_ten : (b : ℕ) → b ≡ 10 → (b == 10) ≡ true
-is_ten b e = grind (arith, nat_tests)
 
 no_ten : (b : ℕ) → (b ≡ 10 → ⊥) → (b == 10) ≡ false
 no_ten b e = grind (arith, nat_tests)

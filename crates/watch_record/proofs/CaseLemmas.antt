@@ -13,11 +13,11 @@ use Rattle.watch_record.specs.Headers.{header_text, is_in_range, header_at, head
 use Rattle.watch_record.specs.Revisions.{AreRevisionsOf}
 use Rattle.watch_record.specs.Reading.{ReadsLog}
 use Rattle.watch_record.specs.Asking.{is_asked, IsAskOf}
-use Rattle.watch_record.specs.Records.{has_floor, ask_fault, log_fault, header_fault, text_fault, is_too_long, record_fault, IsReadOf}
+use Rattle.watch_record.specs.Records.{has_floor, ask_fault, log_fault, text_fault, is_too_long, record_fault, IsReadOf}
 use Rattle.watch_record.specs.declared.header.Header.{Header}
 use Rattle.watch_record.specs.declared.records.Record.{Record}
 use Rattle.watch_record.specs.declared.refusals.RecordNo.{RecordNo}
-use Rattle.watch_record.specs.declared.refusals.RecordNo.TheVariants.{BadHeader, NoBody, BadFloor, BadAsk}
+use Rattle.watch_record.specs.declared.refusals.RecordNo.TheVariants.{BadHeader, BadFloor, BadAsk}
 
 -- a header is in range
 at-range : (line : List ℕ) (h header : Header) → header_at line h ≡ Some header → is_in_range header ≡ true
@@ -87,13 +87,6 @@ read-case header log ask lines body case (Some parts) is floor asked asks same m
 )
 
 -- ---- the whole
-
-pub no-body : (header : Header) (found : Option Parts) (ended : Bool) → found ≡ None → header_fault (Some header) found ended ≡ Some NoBody
-no-body header found ended none = ap (λ f. header_fault (Some header) f ended) none
-
-pub no-end : (header : Header) (found : Option Parts) (ended : Bool) → ended ≡ false → header_fault (Some header) found ended ≡ Some NoBody
-no-end header None ended wrong = refl
-no-end header (Some parts) ended wrong = ap (header_fault (Some header) (Some parts)) wrong
 
 pub of-text : (bytes : List ℕ) → is_too_long bytes ≡ false → IsUtf8 bytes → record_fault bytes ≡ text_fault bytes
 of-text bytes short utf8 = rw (short, is_utf8-from_IsUtf8 bytes utf8) refl

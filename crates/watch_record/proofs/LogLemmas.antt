@@ -1,5 +1,5 @@
 -- A log, as its lines are read one by one.
-use Rattle.std.proofs.Common.{◌≡◌, ℕ, zero, suc, ◌+◌, ◌<◌, ◌≤◌, ◌^◌, Bool, true, false, List, [], ◌∷◌, ◌++◌, Option, Some, None, option_map, IfSome, IsSome, length, All, refl, sym, ap, ◌∙◌, subst, arith, append_assoc, append-nil}
+use Rattle.std.proofs.Common.{◌≡◌, ℕ, zero, suc, ◌+◌, ◌<◌, ◌≤◌, ◌^◌, Bool, true, false, List, [], ◌∷◌, ◌++◌, Option, Some, None, option_map, IfSome, length, All, refl, sym, ap, ◌∙◌, subst, arith, append_assoc, append-nil}
 use Rattle.std.specs.Prelude.{◌==◌, slice_get, if◌then◌else◌}
 use Rattle.std.proofs.lemmas.Bool.{eqb-true}
 use Rattle.std.proofs.lemmas.List.{length_push}
@@ -11,7 +11,6 @@ use Rattle.rev_log.specs.Logs.{Fits}
 use Rattle.watch_record.specs.Lines.{Parts, with_line, parts_of}
 use Rattle.watch_record.specs.Revisions.{tells_revision, bad_place, IsRecordedRevision, AreRevisionsOf}
 use Rattle.watch_record.specs.Reading.{IsKept, KeepsLog, ReadsLog}
-use Rattle.watch_record.specs.declared.refusals.RecordNo.TheVariants.{BadLog}
 
 abbrev pub with_lines : List (List ℕ) → Parts → Parts
 with_lines front parts = record parts { log = front ++ parts.log }
@@ -67,9 +66,6 @@ counted-on n (Some m) = let same : n + suc m ≡ (n + 1) + m = omega arith in ap
 
 bad-good : (rev : ℕ) (line : List ℕ) (lines : List (List ℕ)) → tells_revision rev line ≡ true → bad_place rev (line ∷ lines) ≡ option_map suc (bad_place (rev + 1) lines)
 bad-good rev line lines is = ap (λ b. if b then option_map suc (bad_place (rev + 1) lines) else Some 0) is
-
-bad-bad : (rev : ℕ) (line : List ℕ) (lines : List (List ℕ)) → tells_revision rev line ≡ false → bad_place rev (line ∷ lines) ≡ Some 0
-bad-bad rev line lines is = ap (λ b. if b then option_map suc (bad_place (rev + 1) lines) else Some 0) is
 
 revisions-push : (rev : ℕ) (lines : List (List ℕ)) (log : List RevisionData) (line : List ℕ) (revision : RevisionData) → AreRevisionsOf rev lines log
     → IsRecordedRevision (rev + length lines) line revision → AreRevisionsOf rev (lines ++ line ∷ []) (log ++ revision ∷ [])
@@ -158,32 +154,6 @@ has_log-all first lines log left more [] so_far is none =
       refl,
     )
 has_log-all first lines log left more (b ∷ line) so_far is none = absurd (omega arith)
-
-abbrev IsBadAt : ℕ → ℕ → Option Parts → Type 0
-IsBadAt first place found = IfSome found (λ (parts : Parts). option_map (λ line. BadLog line) (bad_place (first + 1) parts.log) ≡ Some (BadLog place))
-
-pub has_log-bad : (first : ℕ) (lines : List (List ℕ)) (log : List RevisionData) (left more : List (List ℕ)) (line : List ℕ) (rev : ℕ)
-    → HasLog first lines log left → left ≡ line ∷ more → 0 < length line → rev ≡ first + 1 + length log → tells_revision rev line ≡ false → IsBadAt first (length log) (parts_of lines)
-has_log-bad first lines log left more line rev so_far is some at wrong =
-    let front = so_far.front in
-    let placed : rev ≡ (first + 1) + length front = omega (arith, so_far.size, at) in
-    let found : parts_of lines ≡ option_map (with_lines front) (option_map (with_line line) (parts_of more)) =
-    so_far.parts ∙ ap (λ l. option_map (with_lines front) (parts_of l)) is ∙ ap (option_map (with_lines front)) (parts-line line more some) in
-    subst (IsBadAt first (length log)) (sym found) (at_parts (parts_of more) (subst (λ n. tells_revision n line ≡ false) placed wrong))
-  where
-    at_parts : (rest : Option Parts) → tells_revision ((first + 1) + length so_far.front) line ≡ false
-        → IsBadAt first (length log) (option_map (with_lines so_far.front) (option_map (with_line line) rest))
-    at_parts None there = tt
-    at_parts (Some parts) there =
-        let place : length so_far.front + 0 ≡ length log = omega (arith, so_far.size) in
-        ap (option_map (λ l. BadLog l)) (so_far.good (line ∷ parts.log)
-        ∙ ap (option_map (λ n. length so_far.front + n)) (bad-bad ((first + 1) + length so_far.front) line parts.log there) ∙ ap Some place)
-
-pub has_log-ended : (first : ℕ) (lines : List (List ℕ)) (log : List RevisionData) (left : List (List ℕ)) → HasLog first lines log left → left ≡ [] → IsSome (parts_of lines) → ⊥
-has_log-ended first lines log left so_far is some =
-    let none : parts_of lines ≡ None = so_far.parts ∙ ap (λ l. option_map (with_lines so_far.front) (parts_of l)) is in
-    let found : false ≡ true = subst IsSome none some in
-    cc
 
 -- ---- tests of emptiness
 

@@ -1,12 +1,12 @@
 -- The object that a text holds.
 use Rattle.std.proofs.Common.{◌≡◌, ℕ, List, [], true, false, ◌&&◌, Option, Some, None, option_and_then, refl, sym, ap, ◌∙◌, subst}
-use Rattle.std.specs.Prelude.{◌≢◌, codes, is_some, is_none, unwrap_or, IsUtf8}
+use Rattle.std.specs.Prelude.{◌≢◌, codes, is_none, unwrap_or, IsUtf8}
 use Rattle.std.specs.Option.{option_map_or}
 use Rattle.std.proofs.lemmas.Bool.{and_parts}
 use Rattle.std.proofs.lemmas.Option.{same_Some}
 use Rattle.std.proofs.lemmas.Slice.Eq.{bytes_eq-Decides}
-use Rattle.serde_json.specs.Data.{Data, null, boolean, number, string, array, object}
-use Rattle.serde_json.specs.Find.{get, as_str, as_null}
+use Rattle.serde_json.specs.Data.{Data}
+use Rattle.serde_json.specs.Find.{get, as_str}
 use Rattle.serde_json.specs.Read.{read}
 use Rattle.serde_json.specs.Written.{has_float, compact_text}
 use Rattle.kube_meta.specs.Names.{is_object_name}
@@ -15,18 +15,12 @@ use Rattle.kube_meta.specs.declared.objects.Obj.{Obj}
 use Rattle.kube_meta.specs.declared.resources.Resource.{Resource}
 use Rattle.json_obj.specs.declared.refusals.ObjNo.{ObjNo}
 use Rattle.json_obj.specs.declared.refusals.ObjNo.TheVariants.{NotJson, Float, TooDeep, WrongKind, BadMeta, Memory}
-use Rattle.json_obj.specs.Objects.{IsTextOf, refusal, IsObjectOf, Stores, metadata_of, name_in, is_path_name}
+use Rattle.json_obj.specs.Objects.{IsTextOf, refusal, IsObjectOf, metadata_of, name_in, is_path_name}
 use Rattle.json_obj.proofs.AsShown.{allowed_by}
 use Rattle.watch_record.specs.Reading.{KeepsObject}
 
 same-data : (text : List ℕ) (d e : Data) → IsTextOf text d → IsTextOf text e → d ≡ e
 same-data text d e first second = same_Some d e (sym first.1 ∙ second.1)
-
-pub keeps-object : (resource : Resource) (ns name text : List ℕ) (stored : Obj × Option ℕ)
-    → ((e : Data) × IsTextOf text e × (refusal resource ns (Some name) e ≡ None) × Stores resource ns e stored)
-    → (d : Data) → IsTextOf text d → KeepsObject resource ns name d (Some stored.0)
-keeps-object resource ns name text stored (e, is, none, stores) d of =
-    subst (λ x. (refusal resource ns (Some name) x ≡ None) × IsObjectOf resource ns x stored.0) (same-data text e d is of) (none, stores.object)
 
 refused-as : (resource : Resource) (ns name text : List ℕ) (fault : ObjNo) → ((e : Data) × IsTextOf text e × (refusal resource ns (Some name) e ≡ Some fault))
     → (d : Data) → IsTextOf text d → KeepsObject resource ns name d None
@@ -56,14 +50,6 @@ named resource ns name d none =
 pub has-key : (resource : Resource) (key : List ℕ) (d : Data) (obj : Obj) → IsKey key → refusal resource (namespace_of key) (Some (name_of key)) d ≡ None
     → IsObjectOf resource (namespace_of key) d obj → obj.key ≡ key
 has-key resource key d obj form none is = is.key ∙ ap (joined (namespace_of key)) (named resource (namespace_of key) (name_of key) d none) ∙ sym form.parted
-
-pub null-is : (d : Data) → is_some (as_null d) ≡ true → d ≡ null
-null-is null e = refl
-null-is (boolean b) e = absurd cc
-null-is (number n) e = absurd cc
-null-is (string s) e = absurd cc
-null-is (array ds) e = absurd cc
-null-is (object ms) e = absurd cc
 
 -- ---- the object of a value's text
 

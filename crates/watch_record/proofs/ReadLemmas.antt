@@ -7,7 +7,7 @@ use Rattle.std.specs.Ordering.{is_lt}
 use Rattle.std.specs.List.Sorted.{IsStrictlySortedBy}
 use Rattle.std.proofs.lemmas.Bool.Decides.{nat_tests}
 use Rattle.std.proofs.lemmas.Bool.{and_parts, and_from, lt-ltb, leb-true, le-leb}
-use Rattle.std.proofs.lemmas.List.{at_drop_more, at_drop_all, map_push, length-map}
+use Rattle.std.proofs.lemmas.List.{at_drop_more, map_push, length-map}
 use Rattle.std.proofs.lemmas.List.Elements.{All-cons, All-append}
 use Rattle.serde_json.specs.View.{view, items_view}
 use Rattle.serde_json.specs.Written.{comma_if}
@@ -73,19 +73,6 @@ stepped : (vs : List Value) (i : ℕ) (v : Value) → i < length vs
     → told_from (drop i vs) ≡ option_and_then (λ t. option_map (λ m. t ∷ m) (told_from (drop (i + 1) vs))) (told_in (view (get_or vs i v)))
 stepped vs i v within = at_drop_more told_from vs i v within
 
-pub has_read-none : (rev : ℕ) (vs : List Value) (old : List ℕ) → HasRead rev vs 0 [] old old
-has_read-none rev vs old = record {
-  values = [];
-  rest = itself (told_from vs);
-  changes_are = tt;
-  keyed = λ k d within. absurd (omega arith);
-  writes = sym (append-nil old);
-}
-  where
-    itself : (found : Option (List Told)) → found ≡ option_map (λ m. [] ++ m) found
-    itself None = refl
-    itself (Some m) = refl
-
 pub has_read-more : (rev : ℕ) (vs : List Value) (i : ℕ) (v : Value) (changes : List ChangeData) (c : ChangeData) (later : Bool) (old middle new : List ℕ)
     → i < length vs → v ≡ get_or vs i v → HasRead rev vs i changes old middle → later ≡ nat_lt 0 (length changes)
     → ReadsChange rev later (told_in (view v)) c middle new → HasRead rev vs (i + 1) (changes ++ c ∷ []) old new
@@ -109,22 +96,6 @@ has_read-more rev vs i v changes c later old middle new within at so_far first h
 nothing : (values : List Told) (told : Option Told) (more : Option (List Told)) → told ≡ None
     → option_map (λ m. values ++ m) (option_and_then (λ t. option_map (λ m. t ∷ m) more) told) ≡ None
 nothing values told more is = rw is refl
-
-pub has_read-stopped : (rev : ℕ) (vs : List Value) (i : ℕ) (v : Value) (changes : List ChangeData) (old new : List ℕ)
-    → i < length vs → v ≡ get_or vs i v → HasRead rev vs i changes old new → told_in (view v) ≡ None → all_told (items_view vs) ≡ None
-has_read-stopped rev vs i v changes old new within at so_far none =
-    so_far.rest ∙ ap (option_map (λ m. so_far.values ++ m)) (stepped vs i v within)
-    ∙ nothing so_far.values (told_in (view (get_or vs i v))) (told_from (drop (i + 1) vs)) (ap (λ x. told_in (view x)) (sym at) ∙ none)
-
-pub has_read-all : (rev : ℕ) (vs : List Value) (i : ℕ) (changes : List ChangeData) (old new : List ℕ)
-    → length vs ≤ i → HasRead rev vs i changes old new → ReadsChanges rev (all_told (items_view vs)) changes old new
-has_read-all rev vs i changes old new past so_far = record {
-  values = so_far.values;
-  told_is = so_far.rest ∙ ap (option_map (λ m. so_far.values ++ m)) (at_drop_all told_from vs i past) ∙ ap Some (append-nil so_far.values);
-  changes_are = so_far.changes_are;
-  keyed = so_far.keyed;
-  writes = so_far.writes;
-}
 
 -- ---- rising changes
 

@@ -97,9 +97,6 @@ spaced (x ∷ a) rest = ap (λ (b : Bool). is_space x || b) (spaced a rest) ∙ 
     or_true true = refl
     or_true false = refl
 
-pub unspaced : (text a rest : List ℕ) → list_any is_space text ≡ false → text ≡ a ++ 32 ∷ rest → ⊥
-unspaced text a rest free e = let bad : false ≡ true = sym free ∙ ap (list_any is_space) e ∙ spaced a rest in cc
-
 -- no space stands before the first one
 pub before_space : (text : List ℕ) (at : ℕ) → position_or_len is_space text ≡ at → list_any is_space (take at text) ≡ false
 before_space text at found = ap (λ (n : ℕ). list_any is_space (take n text)) (sym found) ∙ none text
