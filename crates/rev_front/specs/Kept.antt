@@ -38,6 +38,14 @@ pub record IsReaderOf {E : Type 0} (fits : ℕ → E → Type 0) (first seat : �
   pub shown_is : max last told ≡ v.shown
   pub floor_is : floor ≡ v.floor
 
+-- the numbers of what is told are those of its seat
+pub record IsNewsOf {E : Type 0} (fits : ℕ → E → Type 0) (first seat : ℕ) (v : Sight E) (end shown floor : ℕ) : Type 0 where
+  pub role : v.role ≡ Reader
+  pub lawful : IsPass fits (pass_of first seat v)
+  pub end_is : end ≡ end_from first v.seen
+  pub shown_is : shown ≡ v.shown
+  pub floor_is : floor ≡ v.floor
+
 -- the first seat of a new log
 pub record IsBlank {E : Type 0} (table : TableId) (key : ℕ) (seat : Seat E (Sight E)) (first : ℕ) : Type 0 where
   pub key_is : key ≡ first

@@ -114,8 +114,7 @@ impl<E: Entry, N: LogName> Front<E, N> {
         let News {
             seat,
             end,
-            last,
-            heard,
+            shown,
             floor,
             of,
         } = self.tell();
@@ -123,8 +122,8 @@ impl<E: Entry, N: LogName> Front<E, N> {
             board,
             seat,
             end,
-            last,
-            heard,
+            last: self.last,
+            heard: shown,
             floor,
             of,
         })
@@ -150,8 +149,7 @@ impl<E: Entry, N: LogName> Front<E, N> {
         self.hear(News {
             seat,
             end,
-            last,
-            heard,
+            shown: last.max(heard),
             floor,
             of,
         });
@@ -170,8 +168,8 @@ impl<E: Entry, N: LogName> Front<E, N> {
         other.hear(mine);
     }
 
-    // What it knows, for another handle.
-    pub(crate) fn tell(&mut self) -> News<E, N>
+    /// What it knows, for another handle. It needs no memory.
+    pub fn tell(&mut self) -> News<E, N>
         ensures same { self.new ≡ self.old }
         ensures copy { result ≡ record self.old { seat = result.seat } }
     {
@@ -180,23 +178,21 @@ impl<E: Entry, N: LogName> Front<E, N> {
         News {
             seat,
             end: self.end,
-            last: self.last,
-            heard: self.heard,
+            shown: self.shown(),
             floor: self.floor,
             of: PhantomData,
         }
     }
 
-    // Takes in what another handle knows.
-    pub(crate) fn hear(&mut self, news: News<E, N>)
+    /// Takes in what another handle knows. Of what both have seen, the longer begins with the shorter.
+    pub fn hear(&mut self, news: News<E, N>)
         ensures met { Met self.old news self.new }
         ensures extends { Extends self.old self.new }
     {
         let News {
             seat,
             end,
-            last,
-            heard,
+            shown,
             floor,
             ..
         } = news;
@@ -204,7 +200,7 @@ impl<E: Entry, N: LogName> Front<E, N> {
         shared.join_seat::<Meet>(&mut self.seat, seat);
         shared.load::<RecallPass>(&mut self.seat, 0);
         self.end = self.end.max(end);
-        self.heard = self.heard.max(last).max(heard);
+        self.heard = self.heard.max(shown);
         self.floor = self.floor.max(floor);
     }
 }

@@ -28,5 +28,6 @@ pub use front::Front;
 pub use laws::{loads_are_seen, looks_stand};
 pub use made::blank;
 pub use name::LogName;
+pub use news::News;
 pub use pen::{Pen, Words};
 pub use std::alloc::AllocError as Memory;

@@ -96,8 +96,7 @@ impl<E: Entry, N: LogName> Pen<E, N> {
         let News {
             seat,
             end,
-            last,
-            heard,
+            shown,
             floor,
             of,
         } = self.tell();
@@ -105,8 +104,8 @@ impl<E: Entry, N: LogName> Pen<E, N> {
             board,
             seat,
             end,
-            last,
-            heard,
+            last: 0,
+            heard: shown,
             floor,
             of,
         })
@@ -132,8 +131,7 @@ impl<E: Entry, N: LogName> Pen<E, N> {
         self.hear(News {
             seat,
             end,
-            last,
-            heard,
+            shown: last.max(heard),
             floor,
             of,
         });
@@ -162,8 +160,7 @@ impl<E: Entry, N: LogName> Pen<E, N> {
         News {
             seat,
             end: self.revision,
-            last: 0,
-            heard: self.revision,
+            shown: self.revision,
             floor: self.floor,
             of: PhantomData,
         }

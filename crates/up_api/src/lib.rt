@@ -18,4 +18,4 @@ pub use held::Held;
 pub use named::LogFacts;
 pub use refusals::UpNo;
 pub use settings::Settings;
-pub use upstream::{Pass, Upstream, logs_grow, polls_join};
+pub use upstream::{News, Pass, Upstream, logs_grow, polls_join};

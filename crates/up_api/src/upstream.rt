@@ -17,6 +17,9 @@ use rev_log::Revision;
 /// A pass of a log of revisions.
 pub type Pass<N> = Front<Revision, N>;
 
+/// What a pass of such a log tells others, who take it in.
+pub type News<N> = rev_front::News<Revision, N>;
+
 /// The upstream of a cache. Each call is one section: no write comes between its parts.
 pub trait Upstream<N: LogFacts> {
     // the log, its floor and its generation, where they are told; none of the calls changes them
