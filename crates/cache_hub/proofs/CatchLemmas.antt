@@ -7,7 +7,7 @@ use Rattle.std.proofs.lemmas.List.{append_cancel_left, length-append}
 use Rattle.std.proofs.lemmas.List.Elements.{All-nil, All-from_recursion, recursion_from_All}
 use Rattle.kube_meta.specs.declared.objects.Obj.{Obj}
 use Rattle.rev_log.specs.Changes.{RevisionData}
-use Rattle.rev_log.specs.Logs.{Log, AreNumbered, upto, between}
+use Rattle.rev_log.specs.Logs.{Log, AreNumbered, between}
 use Rattle.rev_log.specs.States.{row_at, row_next}
 use Rattle.kube_meta.specs.declared.resources.Resource.{Resource}
 use Rattle.cache_core.specs.Caches.{held_event, held_events}

@@ -1,9 +1,8 @@
 -- The index and the map of lanes agree, and numbers that were not given out are free.
-use Rattle.std.proofs.Common.{◌≡◌, ◌==◌, ℕ, ◌≤◌, ◌<◌, Bool, true, false, cond, eqb-true, List, [], ◌∷◌, map, Option, Some, None, nat_lt, not, ◌&&◌, option_map, refl, sym, ap, ◌∙◌, subst, arith}
-use Rattle.std.specs.Prelude.{IsTrue, ◌||◌}
+use Rattle.std.proofs.Common.{◌≡◌, ℕ, Bool, true, false, cond, List, [], ◌∷◌, map, Option, Some, None, nat_lt, not, ◌&&◌, option_map, refl, sym, ap, ◌∙◌}
+use Rattle.std.specs.Prelude.{IsTrue, ◌||◌, nat_eq}
 use Rattle.std.specs.Map.{lookup, set_value}
 use Rattle.std.specs.Map.Calls.{RetainsPairs}
-use Rattle.std.specs.Ordering.{is_eq, nat_cmp}
 use Rattle.std.proofs.lemmas.Map.Steps.{set_value_same}
 use Rattle.kube_meta.specs.declared.objects.Obj.{Obj}
 use Rattle.select_all.specs.declared.selection.Selection.{Selection}
@@ -11,42 +10,14 @@ use Rattle.select_all.specs.Selecting.{holds}
 use Rattle.select_all.specs.Streams.{TransitionData, object_of}
 use Rattle.event_ring.specs.Events.{EventRows}
 use Rattle.kube_meta.specs.Rows.{RowData}
-use Rattle.watch_lane.specs.Index.{IndexData, Sets, lane_at, is_listed}
-use Rattle.cache_hub.specs.OpenLanes.{OpenLaneData, SetsLane, AreChanged, open_at}
+use Rattle.watch_lane.specs.Index.{IndexData, lane_at, is_listed}
+use Rattle.cache_hub.specs.OpenLanes.{OpenLaneData, AreChanged, IsIndexed, open_at}
 use Rattle.cache_hub.specs.Due.{due, due_in, due_at, transition_of}
 use Rattle.cache_hub.proofs.SendLemmas.{none_is_some}
 use Rattle.cache_hub.proofs.WaitingLemmas.{by_test}
 
 abbrev pub selection_in : Option OpenLaneData → Option Selection
 selection_in o = option_map (λ l. l.lane.selection) o
-
--- the index has the selection of each lane
-abbrev pub IsIndexed : IndexData → List (ℕ × OpenLaneData) → Type 0
-IsIndexed index lanes = (id : ℕ) → lane_at index.lanes id ≡ selection_in (open_at lanes id)
-
-abbrev pub AreFree : ℕ → List (ℕ × OpenLaneData) → Type 0
-AreFree next lanes = (id : ℕ) → next ≤ id → open_at lanes id ≡ None
-
-pub indexed_set : (index later : IndexData) (lanes new : List (ℕ × OpenLaneData)) (id : ℕ) (lane : Option OpenLaneData) → IsIndexed index lanes →
-    Sets index later id (selection_in lane) → SetsLane lanes new id lane → IsIndexed later new
-indexed_set index later lanes new id lane indexed sets puts = λ other.
-    sets.lanes other ∙ by (id == other) other ∙ ap selection_in (sym (puts other))
-  where
-    by : (b : Bool) (other : ℕ) → cond b (selection_in lane) (lane_at index.lanes other) ≡ selection_in (cond b lane (open_at lanes other))
-    by true other = refl
-    by false other = indexed other
-
-pub free_closed : (next id : ℕ) (lanes new : List (ℕ × OpenLaneData)) → AreFree next lanes → SetsLane lanes new id None → AreFree next new
-free_closed next id lanes new free sets = λ other above. sets other ∙ by (id == other) other above
-  where
-    by : (b : Bool) (other : ℕ) → next ≤ other → cond b None (open_at lanes other) ≡ None
-    by true other above = refl
-    by false other above = free other above
-
-pub free_put : (next later : ℕ) (lane : OpenLaneData) (lanes new : List (ℕ × OpenLaneData)) → AreFree next lanes → SetsLane lanes new next (Some lane) → next < later → AreFree later new
-free_put next later lane lanes new free sets more = λ other above. sets other ∙ by_test (next == other)
-    (λ same. absurd (omega (arith, above, more, eqb-true next other same)))
-    (λ differs. rw differs (free other (omega (arith, above, more))))
 
 -- ---- values that were all written
 
@@ -60,7 +31,7 @@ mapped_lookup change test (e ∷ lanes) = by (test e.0) (mapped_lookup change te
     by false more = more
 
 pub changed_by_map : (change : OpenLaneData → OpenLaneData) (lanes new : List (ℕ × OpenLaneData)) → new ≡ map (λ e. (e.0, change e.1)) lanes → AreChanged change lanes new
-changed_by_map change lanes new is = λ id. ap (λ xs. open_at xs id) is ∙ mapped_lookup change (λ other. is_eq (nat_cmp id other)) lanes
+changed_by_map change lanes new is = λ id. ap (λ xs. open_at xs id) is ∙ mapped_lookup change (nat_eq id) lanes
 
 -- ---- a lane that no event touches is told nothing
 
@@ -82,12 +53,11 @@ no_due true line none = none
 no_due false line none = refl
 
 -- the lanes that the index doesn't answer are told nothing
-pub untold : (index : IndexData) (lanes all : List (ℕ × OpenLaneData)) (ids : List ℕ) (event : EventRows) (old new : Option Obj) → IsIndexed index lanes → lanes ≡ all →
+pub untold : (index : IndexData) (lanes : List (ℕ × OpenLaneData)) (ids : List ℕ) (event : EventRows) (old new : Option Obj) → IsIndexed index lanes →
     old ≡ object_of event.before → new ≡ object_of event.now →
     ((id : ℕ) (s : Selection) → lane_at index.lanes id ≡ Some s → IsTrue (holds s old || holds s new) → IsTrue (is_listed ids id)) →
-    (q : ℕ) → is_listed ids q ≡ false → due_at all q event ≡ None
-untold index lanes all ids event old new indexed same was is listed q other =
-    subst (λ l. due_at l q event ≡ None) same (by (open_at lanes q) refl)
+    (q : ℕ) → is_listed ids q ≡ false → due_at lanes q event ≡ None
+untold index lanes ids event old new indexed was is listed q other = by (open_at lanes q) refl
   where
     none : (o : OpenLaneData) → lane_at index.lanes q ≡ Some o.lane.selection → due o.lane event ≡ None
     none o here = by_test (holds o.lane.selection old || holds o.lane.selection new)
@@ -115,7 +85,7 @@ mapped_pairs T g I each f (e ∷ es) kept holds r =
     r.6 ∙ ap (λ b. cond b ((e.0, r.1) ∷ r.3) r.3) a.0 ∙ (λ i. (e.0, a.1 i) ∷ rest i)
 
 -- a lane that was lent and given back as it was leaves all lanes as they were
-pub kept_entries : (id : ℕ) (lanes : List (ℕ × OpenLaneData)) (lane later : OpenLaneData) (new : List (ℕ × OpenLaneData)) → later ≡ lane → lookup (λ other. is_eq (nat_cmp id other)) lanes ≡ Some lane →
-    new ≡ set_value (λ other. is_eq (nat_cmp id other)) lanes later → new ≡ lanes
+pub kept_entries : (id : ℕ) (lanes : List (ℕ × OpenLaneData)) (lane later : OpenLaneData) (new : List (ℕ × OpenLaneData)) → later ≡ lane → lookup (nat_eq id) lanes ≡ Some lane →
+    new ≡ set_value (nat_eq id) lanes later → new ≡ lanes
 kept_entries id lanes lane later new same found written =
-    written ∙ set_value_same (λ other. is_eq (nat_cmp id other)) lanes later (found ∙ ap (λ (x : OpenLaneData). Some x) (sym same))
+    written ∙ set_value_same (nat_eq id) lanes later (found ∙ ap (λ (x : OpenLaneData). Some x) (sym same))

@@ -1,6 +1,5 @@
 -- Lanes that stand for a log go on to do so, whatever call of the cache changes them.
-use Rattle.std.proofs.Common.{◌≡◌, ◌==◌, ◌⊎◌, inl, inr, ◌++◌, ℕ, ◌≤◌, Bool, true, false, cond, nat_le, List, [], Option, Some, None, option_map, refl, sym, ap, ◌∙◌, subst, arith}
-use Rattle.std.specs.Ordering.{is_eq, nat_cmp}
+use Rattle.std.proofs.Common.{◌≡◌, ◌==◌, ◌⊎◌, inl, inr, ◌++◌, ℕ, ◌≤◌, Bool, true, false, cond, nat_le, List, [], Option, Some, None, option_map, refl, sym, ◌∙◌, subst, arith}
 use Rattle.std.proofs.lemmas.Bool.{leb-true, ltb-false}
 use Rattle.kube_meta.specs.declared.resources.Resource.{Resource}
 use Rattle.rev_log.specs.Logs.{Log, AreNumbered, end_of}
@@ -11,7 +10,6 @@ use Rattle.event_ring.specs.Events.{EventRows}
 use Rattle.cache_core.specs.Caches.{IsCacheOf, held_events, log_at}
 use Rattle.cache_world.specs.Lanes.{LaneData, BatchData, IsInStep, unsent}
 use Rattle.cache_world.proofs.LaneLemmas.{pumped_cases}
-use Rattle.watch_lane.proofs.Numbers.{is_eq-nat_cmp}
 use Rattle.cache_hub.specs.OpenLanes.{OpenLaneData, Each, AreOf, SetsLane, AreTold, open_at, newly_open, told_lane, caught_up, left_behind}
 use Rattle.cache_hub.specs.Due.{AreReady}
 use Rattle.cache_hub.specs.Hubs.{HubData, StandsFor}
@@ -35,7 +33,7 @@ stands_by log hub cache good = record {
 
 -- ---- a lane that is set, and lanes that are all changed
 
-some_is : {A : Type 0} (a b : A) → Some a ≡ Some b → a ≡ b
+pub some_is : {A : Type 0} (a b : A) → Some a ≡ Some b → a ≡ b
 some_is a b e = cc
 
 pub each_set : (fact : OpenLaneData → Type 0) (old new : List (ℕ × OpenLaneData)) (id : ℕ) (lane : Option OpenLaneData) →
@@ -117,9 +115,3 @@ pub told_are_good : (log : Log) (resource : Resource) (end : ℕ) (old new : Lis
 told_are_good log resource end old new begun reached of told =
     each_changed_by (IsGood (log_at log end) resource end) (λ id. told_lane log end (told.falls id)) old new told.each
     (λ id o here. good_upto log resource end (told_lane log end (told.falls id) o) begun reached (good_told log resource end (told.falls id) o (of id o here)))
-
--- ---- maps as functions
-
-pub sets_lane : (old new : List (ℕ × OpenLaneData)) (id : ℕ) (lane : Option OpenLaneData) →
-    ((q : ℕ) → open_at new q ≡ cond (is_eq (nat_cmp id q)) lane (open_at old q)) → SetsLane old new id lane
-sets_lane old new id lane updates = λ other. updates other ∙ ap (λ b. cond b lane (open_at old other)) (is_eq-nat_cmp id other)

@@ -7,3 +7,4 @@ pub mod TellLemmas
 pub mod IndexLemmas
 pub mod CatchLemmas
 pub mod HubLemmas
+mod BothLemmas

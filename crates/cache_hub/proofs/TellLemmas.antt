@@ -1,23 +1,24 @@
 -- A change is told lane by lane, or in one walk over all lanes.
-use Rattle.std.proofs.Common.{◌≡◌, ℕ, Bool, true, false, cond, eqb-true, length, get_or, arith, List, [], ◌∷◌, ◌++◌, Option, Some, None, option_map, is_some, refl, sym, ap, ◌∙◌, subst}
-use Rattle.std.specs.List.{AllByRecursion, FoldsTo, cons_option}
-use Rattle.std.specs.List.Sorted.{IsStrictlyIncreasing, IsStrictlySortedBy}
-use Rattle.std.specs.Map.{keys_of}
-use Rattle.std.specs.Map.Calls.{CallableOnEachPair, RetainsPairs, SomeCallAtPair}
-use Rattle.std.specs.Ordering.{is_eq, nat_cmp}
-use Rattle.std.proofs.lemmas.Map.Made.{is_some-lookup}
-use Rattle.kube_meta.specs.Rows.{RowData}
-use Rattle.rev_front.specs.Passes.{Pass, end_from}
-use Rattle.rev_log.specs.Changes.{RevisionData}
+use Rattle.std.proofs.Common.{◌≡◌, ℕ, zero, suc, ◌≤◌, Bool, true, false, cond, eqb-true, eq-eqb, length, get_or, slice_get, arith, List, [], ◌∷◌, Option, Some, None, option_map, refl, sym, ap, ◌∙◌, subst}
+use Rattle.std.specs.Prelude.{nat_eq}
+use Rattle.std.specs.List.{AllByRecursion, IsDistinct, cons_option}
+use Rattle.std.specs.List.Sorted.{IsStrictlyIncreasing}
+use Rattle.std.specs.Map.{keys_of, values_of}
+use Rattle.indexmap.specs.IndexMap.{set_value_at}
 use Rattle.rev_log.specs.Logs.{Log}
 use Rattle.event_ring.specs.Events.{EventRows}
-use Rattle.up_api.specs.Sections.{log_of}
 use Rattle.watch_lane.specs.Index.{is_listed}
-use Rattle.watch_lane.proofs.Numbers.{is_eq-nat_cmp, increasing_from_sorted}
-use Rattle.cache_hub.specs.OpenLanes.{OpenLaneData, AreTold, open_at, told_lane}
-use Rattle.cache_hub.specs.Due.{due_in, AreReady, AreUntold, IsReady, IsWaiting}
-use Rattle.cache_hub.proofs.WaitingLemmas.{AreDistinct, by_test, distinct_from_increasing, is_waiting, same_number}
-use Rattle.cache_hub.proofs.SendLemmas.{IsSentTo, none_is_some, none_waits}
+use Rattle.select_all.specs.declared.selection.Selection.{Selection}
+use Rattle.watch_lane.specs.Batches.{PieceData}
+use Rattle.cache_hub.specs.OpenLanes.{OpenLaneData, Each, AreTold, open_at, told_lane}
+use Rattle.cache_hub.specs.Due.{due_in, AreReady, AreUntold, IsPieceOf, IsWaiting}
+use Rattle.cache_hub.proofs.LaneLemmas.{some_is}
+use Rattle.cache_hub.proofs.WaitingLemmas.{AreDistinct, by_test, distinct_from_increasing, is_waiting}
+use Rattle.cache_hub.proofs.SendLemmas.{IsSentTo, none_waits}
+
+-- there is none behind the last one
+none_found : (i : ℕ) (lane : OpenLaneData) → None ≡ Some lane → ⊥
+none_found i lane e = cc
 
 module _ (log : Log) (end : ℕ) where
   -- the lanes under these numbers are still to be told; each other one was told, or has to be told nothing
@@ -45,68 +46,88 @@ module _ (log : Log) (end : ℕ) where
 
   -- ---- one walk over all lanes
 
-  -- the first lane was told, and the others were
-  told_first : (id : ℕ) (here falls : Bool) (others : ℕ → Bool) (before now : OpenLaneData) (old new : List (ℕ × OpenLaneData)) → now ≡ told_lane log end falls before →
-      open_at new id ≡ option_map (told_lane log end (others id)) (open_at old id) →
-      cond here (Some now) (open_at new id) ≡ option_map (told_lane log end (cond here falls (others id))) (cond here (Some before) (open_at old id))
-  told_first id true falls others before now old new told rest = ap (λ (x : OpenLaneData). Some x) told
-  told_first id false falls others before now old new told rest = rest
+  -- the first lanes were told, and the others are as they were
+  abbrev pub AreWalked : ℕ → List (ℕ × OpenLaneData) → List (ℕ × OpenLaneData) → Type 0
+  AreWalked i [] now = now ≡ []
+  AreWalked zero (e ∷ es) now = now ≡ e ∷ es
+  AreWalked (suc i) (e ∷ es) [] = ⊥
+  AreWalked (suc i) (e ∷ es) (x ∷ xs) = (x.0 ≡ e.0) × ((falls : Bool) × (x.1 ≡ told_lane log end falls e.1)) × AreWalked i es xs
 
-  -- What `retain` leaves where its closure always answers `true` and tells each lane that is ready, as long as
-  -- something holds of what it captures.
-  pub told_by_walk : {F : Type 0} (T : F → ℕ → OpenLaneData → Bool → OpenLaneData → F → Type 0) (I : F → Type 0) (R : OpenLaneData → Type 0) →
-      ((f : F) (k : ℕ) (v : OpenLaneData) (b : Bool) (w : OpenLaneData) (f' : F) → I f → R v → T f k v b w f' → (b ≡ true) × ((falls : Bool) × (w ≡ told_lane log end falls v)) × I f') →
-      (f : F) (es kept : List (ℕ × OpenLaneData)) → I f → AllByRecursion (λ e. R e.1) es → RetainsPairs T f es kept → AreTold log end es kept
-  told_by_walk T I R each f [] kept holds all r = record { falls = λ id. false; each = λ id. ap (λ xs. open_at xs id) r }
-  told_by_walk T I R each f (e ∷ es) kept holds all r =
-      let a = each f e.0 e.1 r.0 r.1 r.2 holds all.0 r.4 in
-      let rest = told_by_walk T I R each r.2 es r.3 a.2 all.1 r.5 in
+  pub walk_begins : (start : List (ℕ × OpenLaneData)) → AreWalked zero start start
+  walk_begins [] = refl
+  walk_begins (e ∷ es) = refl
+
+  pub walked_on : (i : ℕ) (start now : List (ℕ × OpenLaneData)) (lane later : OpenLaneData) → AreWalked i start now → slice_get (values_of now) i ≡ Some lane →
+      (falls : Bool) × (later ≡ told_lane log end falls lane) → AreWalked (suc i) start (set_value_at now i later)
+  walked_on i [] now lane later walked found told = absurd (none_found i lane (ap (λ xs. slice_get (values_of xs) i) (sym walked) ∙ found))
+  walked_on zero (e ∷ es) now lane later walked found told =
+      subst (λ (xs : List (ℕ × OpenLaneData)). AreWalked 1 (e ∷ es) (set_value_at xs 0 later)) (sym walked)
+      (refl, (told.0, told.1 ∙ ap (told_lane log end told.0) (some_is lane e.1 (sym found ∙ ap (λ xs. slice_get (values_of xs) 0) walked))), walk_begins es)
+  walked_on (suc i) (e ∷ es) [] lane later walked found told = elim walked [ ]
+  walked_on (suc i) (e ∷ es) (x ∷ xs) lane later walked found told = (walked.0, walked.1, walked_on i es xs lane later walked.2 found told)
+
+  -- what holds of each lane as it was holds of one that wasn't walked over
+  pub fact_at : (fact : OpenLaneData → Type 0) (i : ℕ) (start now : List (ℕ × OpenLaneData)) (lane : OpenLaneData) → AllByRecursion (λ e. fact e.1) start →
+      AreWalked i start now → slice_get (values_of now) i ≡ Some lane → fact lane
+  fact_at fact i [] now lane all walked found = absurd (none_found i lane (ap (λ xs. slice_get (values_of xs) i) (sym walked) ∙ found))
+  fact_at fact zero (e ∷ es) now lane all walked found =
+      subst fact (some_is e.1 lane (ap (λ xs. slice_get (values_of xs) 0) (sym walked) ∙ found)) all.0
+  fact_at fact (suc i) (e ∷ es) [] lane all walked found = elim walked [ ]
+  fact_at fact (suc i) (e ∷ es) (x ∷ xs) lane all walked found = fact_at fact i es xs lane all.1 walked.2 found
+
+  pub walk_ends : (i : ℕ) (start now : List (ℕ × OpenLaneData)) → length start ≤ i → AreWalked i start now → AreTold log end start now
+  walk_ends i [] now all walked = record { falls = λ id. false; each = λ id. ap (λ xs. open_at xs id) walked }
+  walk_ends zero (e ∷ es) now all walked = absurd (omega (arith, all))
+  walk_ends (suc i) (e ∷ es) [] all walked = elim walked [ ]
+  walk_ends (suc i) (e ∷ es) (x ∷ xs) all walked =
+      let rest = walk_ends i es xs (omega (arith, all)) walked.2 in
       record {
-        falls = λ id. cond (is_eq (nat_cmp id e.0)) a.1.0 (rest.falls id);
-        each = λ id. ap (λ xs. open_at xs id) (r.6 ∙ ap (λ b. cond b ((e.0, r.1) ∷ r.3) r.3) a.0)
-            ∙ told_first id (is_eq (nat_cmp id e.0)) a.1.0 rest.falls e.1 r.1 es r.3 a.1.1 (rest.each id);
+        falls = λ id. cond (nat_eq id e.0) walked.1.0 (rest.falls id);
+        each = λ id. ap (λ n. cond (nat_eq id n) (Some x.1) (open_at xs id)) walked.0
+            ∙ told_first id (nat_eq id e.0) walked.1.0 rest.falls e.1 x.1 es xs walked.1.1 (rest.each id);
       }
+    where
+      -- the first lane was told, and the others were
+      told_first : (id : ℕ) (here falls : Bool) (others : ℕ → Bool) (before now : OpenLaneData) (old new : List (ℕ × OpenLaneData)) → now ≡ told_lane log end falls before →
+          open_at new id ≡ option_map (told_lane log end (others id)) (open_at old id) →
+          cond here (Some now) (open_at new id) ≡ option_map (told_lane log end (cond here falls (others id))) (cond here (Some before) (open_at old id))
+      told_first id true falls others before now old new told rest = ap (λ (x : OpenLaneData). Some x) told
+      told_first id false falls others before now old new told rest = rest
 
-  -- the lanes behind the first one are ready too, since none of them has its number
-  ready_behind : (event : EventRows) (e : ℕ × OpenLaneData) (rest : List (ℕ × OpenLaneData)) → is_listed (keys_of rest) e.0 ≡ false → AreReady log end (event ∷ []) (e ∷ rest) → AreReady log end (event ∷ []) rest
-  ready_behind event e rest apart ready = λ id o here. by_test (is_eq (nat_cmp id e.0))
-      (λ same. absurd (none_is_some
-      (sym apart ∙ sym (is_some-lookup (λ other. is_eq (nat_cmp e.0 other)) rest)
-      ∙ ap is_some (subst (λ n. open_at rest n ≡ Some o) (eqb-true id e.0 (sym (is_eq-nat_cmp id e.0) ∙ same)) here))))
-      (λ differs. ready id o (ap (λ b. cond b (Some e.1) (open_at rest id)) differs ∙ here))
+-- ---- what holds of each lane, by number and by place
 
-  each_ready : (event : EventRows) (lanes : List (ℕ × OpenLaneData)) → AreDistinct (keys_of lanes) → AreReady log end (event ∷ []) lanes → AllByRecursion (λ e. IsReady log end (event ∷ []) e.1) lanes
-  each_ready event [] distinct ready = tt
-  each_ready event (e ∷ rest) distinct ready = (
-    ready e.0 e.1 (ap (λ b. cond b (Some e.1) (open_at rest e.0)) (same_number e.0)),
-    each_ready event rest distinct.1 (ready_behind event e rest distinct.0 ready),
-  )
+-- no lane has a number that differs from those of all of them
+absent : (id : ℕ) (lanes : List (ℕ × OpenLaneData)) → AllByRecursion (λ other. nat_eq id other ≡ false) (keys_of lanes) → open_at lanes id ≡ None
+absent id [] apart = refl
+absent id (e ∷ rest) apart = rw apart.0 (absent id rest apart.1)
 
-  pub all_ready : (event : EventRows) (lanes : List (ℕ × OpenLaneData)) → IsStrictlySortedBy nat_cmp (keys_of lanes) → AreReady log end (event ∷ []) lanes → AllByRecursion (λ e. IsReady log end (event ∷ []) e.1) lanes
-  all_ready event lanes sorted ready = each_ready event lanes (distinct_from_increasing (keys_of lanes) (increasing_from_sorted (keys_of lanes) sorted)) ready
+-- it holds of the lanes behind the first one too, since none of them has its number
+each_behind : (fact : OpenLaneData → Type 0) (e : ℕ × OpenLaneData) (rest : List (ℕ × OpenLaneData)) → open_at rest e.0 ≡ None → Each fact (e ∷ rest) → Each fact rest
+each_behind fact e rest apart each = λ id o here. by_test (nat_eq id e.0)
+    (λ same. absurd (none_found id o (sym apart ∙ subst (λ n. open_at rest n ≡ Some o) (eqb-true id e.0 same) here)))
+    (λ differs. each id o (ap (λ b. cond b (Some e.1) (open_at rest id)) differs ∙ here))
 
--- A closure that may be called at each value, as long as something holds of what it captures, may be called at each
--- entry in turn.
-reached : {F K X : Type 0} (T : F → K → X → Bool → X → F → Type 0) (Q : F → K → X → Type 0) (I : F → Type 0) (R : X → Type 0) →
-    ((f : F) (k : K) (v : X) (b : Bool) (w : X) (f' : F) → I f → R v → T f k v b w f' → I f') → ((f : F) (k : K) (v : X) → I f → R v → Q f k v) →
-    (before after : List (K × X)) (f f' : F) (k : K) (v : X) → I f → AllByRecursion (λ e. R e.1) (before ++ (k, v) ∷ after) → FoldsTo (SomeCallAtPair T) f before f' → Q f' k v
-reached T Q I R keeps takes [] after f f' k v holds all calls = subst (λ g. Q g k v) calls (takes f k v holds all.0)
-reached T Q I R keeps takes (e ∷ before) after f f' k v holds all calls =
-    reached T Q I R keeps takes before after calls.0 f' k v (keeps f e.0 e.1 calls.1.0 calls.1.1 calls.0 holds all.0 calls.1.2) all.1 calls.2
+pub each_all : (fact : OpenLaneData → Type 0) (lanes : List (ℕ × OpenLaneData)) → IsDistinct nat_eq (keys_of lanes) → Each fact lanes → AllByRecursion (λ e. fact e.1) lanes
+unfolding IsDistinct
+each_all fact [] distinct each = tt
+each_all fact (e ∷ rest) distinct each = (
+  each e.0 e.1 (ap (λ b. cond b (Some e.1) (open_at rest e.0)) (eq-eqb e.0 e.0 refl)),
+  each_all fact rest distinct.1 (each_behind fact e rest (absent e.0 rest distinct.0) each),
+)
 
-pub callable_on_each : {F K X : Type 0} (T : F → K → X → Bool → X → F → Type 0) (Q : F → K → X → Type 0) (I : F → Type 0) (R : X → Type 0) →
-    ((f : F) (k : K) (v : X) (b : Bool) (w : X) (f' : F) → I f → R v → T f k v b w f' → I f') → ((f : F) (k : K) (v : X) → I f → R v → Q f k v) →
-    (f : F) (es : List (K × X)) → I f → AllByRecursion (λ e. R e.1) es → CallableOnEachPair T Q f es
-callable_on_each T Q I R keeps takes f es holds all = record {
-  at = λ before after f' k v is calls. reached T Q I R keeps takes before after f f' k v holds (subst (AllByRecursion (λ e. R e.1)) is all) calls;
-}
+-- a piece of the selection of one of several lanes that are alike is of that of each
+pub piece_for_all : (log : Log) (end : ℕ) (s own : Selection) (piece : Option PieceData) (lanes : List (ℕ × OpenLaneData)) → AllByRecursion (λ e. e.1.lane.selection ≡ s) lanes →
+    own ≡ s → IsPieceOf log end own piece → AllByRecursion (λ e. IsPieceOf log end e.1.lane.selection piece) lanes
+piece_for_all log end s own piece [] alike same is = tt
+piece_for_all log end s own piece (e ∷ es) alike same is = (
+  subst (λ x. IsPieceOf log end x piece) (same ∙ sym alike.0) is,
+  piece_for_all log end s own piece es alike.1 same is,
+)
 
--- a pass that was split off knows the same log
-pub split_log : (base : List RowData) (p own : Pass RevisionData) → own ≡ record p { seat = own.seat } → log_of base own ≡ log_of base p
-split_log base p own copy = ap (log_of base) copy
-
-pub split_end : (p own : Pass RevisionData) → own ≡ record p { seat = own.seat } → end_from own.first own.seen ≡ end_from p.first p.seen
-split_end p own copy = ap (λ (q : Pass RevisionData). end_from q.first q.seen) copy
+-- no piece is one of each
+pub no_piece : (log : Log) (end : ℕ) (lanes : List (ℕ × OpenLaneData)) → AllByRecursion (λ e. IsPieceOf log end e.1.lane.selection None) lanes
+no_piece log end [] = tt
+no_piece log end (e ∷ es) = (tt, no_piece log end es)
 
 -- a list of one event
 pub one_event : (events : List EventRows) (event : EventRows) → length events ≡ 1 → event ≡ get_or events 0 event → events ≡ event ∷ []

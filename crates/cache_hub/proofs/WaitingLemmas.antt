@@ -110,6 +110,12 @@ one_is : (line : Option TransitionData) → cons_option line [] ≡ one line
 one_is None = refl
 one_is (Some line) = refl
 
+pub due_on : (lane : LaneData) (events : List EventRows) (i : ℕ) (event : EventRows) → i < length events → event ≡ get_or events i event →
+    all_due lane (take (i + 1) events) ≡ all_due lane (take i events) ++ one (due lane event)
+due_on lane events i event within is = let next : suc i ≡ i + 1 = omega arith in
+    ap (filter_map (due lane)) (ap (λ n. take n events) (sym next) ∙ take-suc events i event within ∙ ap (λ e. take i events ++ e ∷ []) (sym is))
+    ∙ filter_map-append (due lane) (take i events) (event ∷ []) ∙ ap (λ xs. all_due lane (take i events) ++ xs) (one_is (due lane event))
+
 pub all_due_on : (lanes : List (ℕ × OpenLaneData)) (events : List EventRows) (i : ℕ) (event : EventRows) (old new : Waiting) → i < length events → event ≡ get_or events i event →
     AllDue lanes (take i events) old → AddsEach lanes event old new → AllDue lanes (take (i + 1) events) new
 all_due_on lanes events i event old new within is all adds = let next : suc i ≡ i + 1 = omega arith in λ id.

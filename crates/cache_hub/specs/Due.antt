@@ -85,6 +85,11 @@ abbrev pub IsPieceIn : Log → ℕ → Option PieceData → Type 0
 IsPieceIn log end None = Unit {0}
 IsPieceIn log end (Some piece) = IsPiece log end piece
 
+-- and of one of a selection
+abbrev pub IsPieceOf : Log → ℕ → Selection → Option PieceData → Type 0
+IsPieceOf log end s None = Unit {0}
+IsPieceOf log end s (Some piece) = IsPiece log end piece × (piece.selection ≡ s)
+
 -- a line, if there is one, as a list
 abbrev pub one : Option TransitionData → List TransitionData
 one None = []

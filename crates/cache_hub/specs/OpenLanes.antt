@@ -1,11 +1,11 @@
 -- The open lanes of a cache: what is kept of each, and what the calls of the cache make of them.
-use Rattle.std.specs.Prelude.{◌≡◌, ◌==◌, ℕ, Bool, false, List, [], ◌++◌, map, count_by, Option, Some, None, option_map, if◌then◌else◌}
+use Rattle.std.specs.Prelude.{◌≡◌, ◌==◌, ℕ, ◌≤◌, Bool, false, List, [], ◌++◌, map, count_by, nat_eq, Option, Some, None, option_map, if◌then◌else◌}
 use Rattle.std.specs.Map.{lookup}
-use Rattle.std.specs.Ordering.{is_eq, nat_cmp}
 use Rattle.kube_meta.specs.declared.resources.Resource.{Resource}
 use Rattle.rev_log.specs.Logs.{Log}
 use Rattle.select_all.specs.declared.selection.Selection.{Selection}
 use Rattle.watch_lane.specs.Batches.{PieceData, BatchData as NotedBatch}
+use Rattle.watch_lane.specs.Index.{IndexData, lane_at}
 use Rattle.cache_world.specs.Lanes.{LaneData, BatchData, IsInStep, MissesNothing, pumped_lane, queued, rebuilt_lane, opened_lane, caught_lane}
 
 -- a lane, how many batches its queue has room for, and all that were put into it, the oldest first
@@ -24,7 +24,7 @@ batch_from piece = record { selection = piece.selection; from = piece.from; to =
 
 -- the lane under a number
 abbrev pub open_at : List (ℕ × OpenLaneData) → ℕ → Option OpenLaneData
-open_at lanes id = lookup (λ other. is_eq (nat_cmp id other)) lanes
+open_at lanes id = lookup (nat_eq id) lanes
 
 -- what holds of each lane
 abbrev pub Each : (OpenLaneData → Type 0) → List (ℕ × OpenLaneData) → Type 0
@@ -94,3 +94,21 @@ pub record LanesData : Type 0 where
 abbrev pub LaneCaughtUp : Option ℕ → ℕ → ℕ → LanesData → LanesData → Type 0
 LaneCaughtUp None to end old new = new ≡ old
 LaneCaughtUp (Some id) to end old new = SetsLane old.all new.all id (option_map (caught_up to end) (open_at old.all id)) × (new.room ≡ old.room)
+
+-- ---- lanes in two maps, of which one has an index
+
+-- the index has the selection of each of these lanes
+abbrev pub IsIndexed : IndexData → List (ℕ × OpenLaneData) → Type 0
+IsIndexed index lanes = (id : ℕ) → lane_at index.lanes id ≡ option_map (λ o. o.lane.selection) (open_at lanes id)
+
+-- none has this number or a greater one
+abbrev pub AreFree : ℕ → List (ℕ × OpenLaneData) → Type 0
+AreFree next lanes = (id : ℕ) → next ≤ id → open_at lanes id ≡ None
+
+-- those of one map have other numbers than those of the other
+abbrev pub AreApart : List (ℕ × OpenLaneData) → List (ℕ × OpenLaneData) → Type 0
+AreApart placed alike = (id : ℕ) (o : OpenLaneData) → open_at alike id ≡ Some o → open_at placed id ≡ None
+
+-- all have the same selection
+abbrev pub AreAlike : List (ℕ × OpenLaneData) → Type 0
+AreAlike lanes = (s : Selection) × Each (λ o. o.lane.selection ≡ s) lanes

@@ -4,13 +4,13 @@ ghost use Rattle.std.specs.Prelude.{◌≡◌};
 
 use crate::open_lane::OpenLane;
 use bells::Bell;
-use std::collections::BTreeMap;
+use indexmap::IndexMap;
 use std::sync::Arc;
 use up_api::LogFacts;
 
 /// Calls the watcher of a lane, if it is there, by this bell.
 pub(crate) fn hang<N: LogFacts>(
-    lanes: &mut BTreeMap<u64, OpenLane<N>>,
+    lanes: &mut IndexMap<u64, OpenLane<N>>,
     id: u64,
     bell: Option<Arc<Bell>>,
 )
@@ -23,21 +23,24 @@ pub(crate) fn hang<N: LogFacts>(
 
 /// Hands the bells of the watchers that are called to who rings.
 pub(crate) fn hand_over_all<N: LogFacts>(
-    lanes: &mut BTreeMap<u64, OpenLane<N>>,
+    placed: &mut IndexMap<u64, OpenLane<N>>,
+    alike: &mut IndexMap<u64, OpenLane<N>>,
     called: &mut Vec<u64>,
     calls: &mut Vec<Arc<Bell>>,
 )
-    ensures { lanes.new.entries ≡ lanes.old.entries }
+    ensures placed { placed.new.entries ≡ placed.old.entries }
+    ensures alike { alike.new.entries ≡ alike.old.entries }
 {
     for id in &*called {
-        hand_over(lanes, *id, calls);
+        hand_over(placed, *id, calls);
+        hand_over(alike, *id, calls);
     }
     called.clear();
 }
 
 // Hands the bell of a lane's watcher, if it is there, to who rings.
 fn hand_over<N: LogFacts>(
-    lanes: &mut BTreeMap<u64, OpenLane<N>>,
+    lanes: &mut IndexMap<u64, OpenLane<N>>,
     id: u64,
     calls: &mut Vec<Arc<Bell>>,
 )

@@ -8,6 +8,7 @@ mod due;
 mod hub;
 mod lanes;
 mod open_lane;
+mod placed;
 mod sleeper;
 mod telling;
 

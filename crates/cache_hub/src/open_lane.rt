@@ -1,13 +1,13 @@
 //! What is kept of one lane.
 
-ghost use Rattle.std.specs.Prelude.{◌≡◌, ◌≢◌, ◌≤◌, ◌⊎◌, ◌↔◌, Bool, false, Some, [], ◌∷◌, ◌++◌, map, IfOk, IsTrue, is_some, option_map, option_copied};
+ghost use Rattle.std.specs.Prelude.{◌≡◌, ◌≢◌, ◌≤◌, ◌⊎◌, ◌↔◌, Bool, false, Some, [], ◌∷◌, ◌++◌, map, IfOk, IfSome, IsTrue, is_some, option_map, option_copied};
 ghost use Rattle.std.specs.List.{list_any};
 ghost use Rattle.rev_front.specs.Passes.{end_from};
 ghost use Rattle.select_all.specs.Streams.{transitions};
 ghost use Rattle.up_api.specs.Sections.{log_of};
 ghost use Rattle.cache_world.specs.Lanes.{unsent, opened_lane};
 ghost use Rattle.watch_lane.specs.Batches.{Begins};
-ghost use Rattle.cache_hub.specs.Due.{IsPiece, IsPieceIn, IsReady, IsWaiting, all_due, due, missed, transition_of};
+ghost use Rattle.cache_hub.specs.Due.{IsPiece, IsPieceIn, IsPieceOf, IsReady, IsWaiting, all_due, due, missed, transition_of};
 ghost use Rattle.cache_hub.specs.OpenLanes.{GetsAll, GoesAlong, batch_from, batch_of, told_lane, left_behind, caught_up};
 
 use crate::sleeper::Sleeper;
@@ -22,11 +22,12 @@ use std::sync::Arc;
 use up_api::{LogFacts, Pass};
 use watch_lane::{Batch, LaneIn, Line, Piece};
 
-/// A watcher's selection, the revision up to which it was told everything, whether it is behind and so gets nothing
-/// until it has caught up, the end of its queue, and whom to call, if anybody may rest at the lane.
+/// A watcher's selection, which other lanes may share, the revision up to which it was told everything, whether it is
+/// behind and so gets nothing until it has caught up, the end of its queue, and whom to call, if anybody may rest at
+/// the lane.
 #[derive(Drop)]
 pub(crate) struct OpenLane<N: LogFacts> {
-    selection: Selection,
+    selection: Arc<Selection>,
     mark: u64,
     behind: bool,
     queue: LaneIn<N>,
@@ -39,13 +40,13 @@ impl<N: LogFacts> Model for OpenLane<N> {
 
     ghost Value = { OpenLaneData };
 
-    ghost view = { λ l. record { lane = record { selection = l.selection; mark = l.mark; behind = l.behind }; room = l.queue.capacity; sent = map batch_of l.queue.sent } };
+    ghost view = { λ l. record { lane = record { selection = l.selection.value; mark = l.mark; behind = l.behind }; room = l.queue.capacity; sent = map batch_of l.queue.sent } };
 }
 
 impl<N: LogFacts> OpenLane<N> {
     /// A lane that is opened at a position of a cache with this end.
-    pub fn new(selection: Selection, at: u64, end: u64, queue: LaneIn<N>) -> OpenLane<N>
-        ensures { result ≡ record { lane = opened_lane selection at end; room = queue.capacity; sent = map batch_of queue.sent } }
+    pub fn new(selection: Arc<Selection>, at: u64, end: u64, queue: LaneIn<N>) -> OpenLane<N>
+        ensures { result ≡ record { lane = opened_lane selection.value at end; room = queue.capacity; sent = map batch_of queue.sent } }
     {
         let behind = at < end;
         queue.set_behind(behind);
@@ -92,74 +93,102 @@ impl<N: LogFacts> OpenLane<N> {
         line_of(&self.selection, event)
     }
 
-    /// Is told of an event, all that came up to `end`: where it concerns the lane, that gets a batch, or is behind.
-    /// `last` is the last piece that was made of the event for a lane. A lane that goes on with it is told it too, and
+    /// Is told of events, all that came up to `end`: where one concerns the lane, that gets a batch, or is behind.
+    /// `last` is the last piece that was made of them for a lane. A lane that goes on with it is told it too, and
     /// nothing is made for that lane; for any other one a piece is made, which is the last one then.
     pub fn tell(
         &mut self,
         alloc: Global,
-        event: &Event,
+        events: &[Event],
         end: u64,
         last: &mut Option<Arc<Piece>>,
         told: &mut Pass<N>,
         called: &mut Vec<u64>,
     )
         requires within { end ≤ end_from told.old.first told.old.seen }
-        requires ready { IsReady (log_of N.base told.old) end (event.now ∷ []) self.old }
+        requires ready { IsReady (log_of N.base told.old) end events.now self.old }
         requires last { IsPieceIn (log_of N.base told.old) end (option_map (λ p. p.value) last.old) }
         ensures told { told.new ≡ told.old }
         ensures last { IsPieceIn (log_of N.base told.old) end (option_map (λ p. p.value) last.new) }
         ensures sent { (falls : Bool) × (self.new ≡ told_lane (log_of N.base told.old) end falls self.old) }
     {
         if let Some(piece) = &*last
-            && self.goes_on_with(piece)
+            && !self.selection.same(&piece.selection)
+        {
+            *last = None;
+        }
+        self.tell_along(alloc, events, end, last, told, called);
+    }
+
+    /// The same where the last piece is of the lane's selection, which isn't looked at then: with fewer steps from lane
+    /// to lane a processor has the next lane's memory at hand in time.
+    pub fn tell_along(
+        &mut self,
+        alloc: Global,
+        events: &[Event],
+        end: u64,
+        last: &mut Option<Arc<Piece>>,
+        told: &mut Pass<N>,
+        called: &mut Vec<u64>,
+    )
+        requires within { end ≤ end_from told.old.first told.old.seen }
+        requires ready { IsReady (log_of N.base told.old) end events.now self.old }
+        requires last { IsPieceOf (log_of N.base told.old) end self.old.lane.selection (option_map (λ p. p.value) last.old) }
+        ensures told { told.new ≡ told.old }
+        ensures last { IsPieceOf (log_of N.base told.old) end self.old.lane.selection (option_map (λ p. p.value) last.new) }
+        ensures sent { (falls : Bool) × (self.new ≡ told_lane (log_of N.base told.old) end falls self.old) }
+    {
+        if let Some(piece) = &*last
+            && self.is_at(piece.from)
         {
             return self.hand(piece, end, told, called);
         }
-        let own = self.tell_anew(alloc, event, end, told, called);
+        let own = self.tell_anew(alloc, events, end, told, called);
         if own.is_some() {
             *last = own;
         }
     }
 
-    // Whether it gets what comes, and goes on with this piece.
-    fn goes_on_with(&self, piece: &Piece) -> bool
-        ensures { IsTrue result ↔ ((self.now.lane.behind ≡ false) × Begins piece.now self.now.lane.selection self.now.lane.mark) }
+    // Whether it gets what comes behind a revision.
+    fn is_at(&self, from: u64) -> bool
+        ensures { IsTrue result ↔ ((self.now.lane.behind ≡ false) × (from ≡ self.now.lane.mark)) }
     {
-        !self.behind && piece.begins(&self.selection, self.mark)
+        !self.behind && from == self.mark
     }
 
-    // Is told of an event by a piece of its own, which is the answer.
+    // Is told of events by a piece of its own, which is the answer.
     fn tell_anew(
         &mut self,
         alloc: Global,
-        event: &Event,
+        events: &[Event],
         end: u64,
         told: &mut Pass<N>,
         called: &mut Vec<u64>,
     ) -> Option<Arc<Piece>>
         requires within { end ≤ end_from told.old.first told.old.seen }
-        requires ready { IsReady (log_of N.base told.old) end (event.now ∷ []) self.old }
+        requires ready { IsReady (log_of N.base told.old) end events.now self.old }
         ensures told { told.new ≡ told.old }
-        ensures piece { IsPieceIn (log_of N.base told.old) end (option_map (λ p. p.value) result) }
+        ensures piece { IsPieceOf (log_of N.base told.old) end self.old.lane.selection (option_map (λ p. p.value) result) }
         ensures sent { (falls : Bool) × (self.new ≡ told_lane (log_of N.base told.old) end falls self.old) }
     {
-        match self.lines(alloc, event) {
+        match self.lines(alloc, events) {
             Ok(lines) => self.take(alloc, lines, end, told, called),
             Err(Memory) => {
-                self.miss_one(event, called);
+                self.miss(events, called);
                 None
             }
         }
     }
 
-    // All that it has to be told of an event.
-    fn lines(&self, alloc: Global, event: &Event) -> Result<Vec<Line>, Memory>
-        ensures { IfOk result (λ lines. lines.items ≡ all_due self.now.lane (event.entry.now ∷ [])) }
+    // All that it has to be told of events.
+    fn lines(&self, alloc: Global, events: &[Event]) -> Result<Vec<Line>, Memory>
+        ensures { IfOk result (λ lines. lines.items ≡ all_due self.now.lane events.now) }
     {
         let mut lines = Vec::new(alloc);
-        if let Some(line) = self.due(event)? {
-            lines.push(line)?;
+        for event in events {
+            if let Some(line) = self.due(event)? {
+                lines.push(line)?;
+            }
         }
         Ok(lines)
     }
@@ -176,7 +205,7 @@ impl<N: LogFacts> OpenLane<N> {
         requires within { end ≤ end_from told.old.first told.old.seen }
         requires waiting { IsWaiting (log_of N.base told.old) end lines.items (Some self.old) }
         ensures told { told.new ≡ told.old }
-        ensures piece { IsPieceIn (log_of N.base told.old) end (option_map (λ p. p.value) result) }
+        ensures piece { IsPieceOf (log_of N.base told.old) end self.old.lane.selection (option_map (λ p. p.value) result) }
         ensures sent { (falls : Bool) × (self.new ≡ told_lane (log_of N.base told.old) end falls self.old) }
     {
         if lines.is_empty() {
@@ -199,7 +228,7 @@ impl<N: LogFacts> OpenLane<N> {
         requires lines { lines.items ≡ unsent (log_of N.base told.old) end self.old.lane }
         requires some { lines.items ≢ [] }
         ensures told { told.new ≡ told.old }
-        ensures piece { IsPieceIn (log_of N.base told.old) end (option_map (λ p. p.value) result) }
+        ensures piece { IsPieceOf (log_of N.base told.old) end self.old.lane.selection (option_map (λ p. p.value) result) }
         ensures sent { (falls : Bool) × (self.new ≡ told_lane (log_of N.base told.old) end falls self.old) }
     {
         match self.piece(alloc, lines, end) {
@@ -293,15 +322,6 @@ impl<N: LogFacts> OpenLane<N> {
         }
     }
 
-    // The same of one event.
-    fn miss_one(&mut self, event: &Event, called: &mut Vec<u64>)
-        ensures { self.new ≡ missed (event.entry.now ∷ []) self.old }
-    {
-        if self.is_due(event) {
-            self.fall_behind(called);
-        }
-    }
-
     fn is_concerned(&self, events: &[Event]) -> bool
         ensures { result ≡ list_any (λ event. is_some (due self.now.lane event)) events.now }
     {
@@ -333,11 +353,28 @@ impl<N: LogFacts> OpenLane<N> {
         self.behind
     }
 
+    /// Whether it is for this selection.
+    pub fn is_for(&self, selection: &Selection) -> bool
+        ensures { IsTrue result ↔ (self.now.lane.selection ≡ selection.now) }
+    {
+        self.selection.same(selection)
+    }
+
+    /// Its selection, shared once more, where it is this one.
+    pub fn share(&self, selection: &Selection) -> Option<Arc<Selection>>
+        ensures { IfSome result (λ shared. shared.value ≡ selection.now) }
+    {
+        if self.is_for(selection) {
+            return Arc::try_clone(&self.selection).ok();
+        }
+        None
+    }
+
     /// Whether the lane is for this selection and isn't behind.
     pub fn gets_all(&self, selection: &Selection) -> bool
         ensures { IsTrue result ↔ GetsAll selection.now (Some self.now) }
     {
-        !self.behind && self.selection.same(selection)
+        !self.behind && self.is_for(selection)
     }
 
     /// Whether its watcher, at a position, misses nothing.
@@ -358,7 +395,7 @@ impl<N: LogFacts> OpenLane<N> {
     }
 }
 
-// The batch of a piece, which is shared once more, with a pass of its own.
+// The batch of a piece, which is shared once more, with what the pass tells.
 fn batch_for<N: LogFacts>(piece: &Arc<Piece>, told: &mut Pass<N>) -> Result<Batch<N>, Memory>
     requires within { piece.now.value.to ≤ end_from told.old.first told.old.seen }
     requires lines_are { piece.now.value.lines ≡ transitions (log_of N.base told.old) piece.now.value.selection piece.now.value.from piece.now.value.to }
@@ -367,8 +404,7 @@ fn batch_for<N: LogFacts>(piece: &Arc<Piece>, told: &mut Pass<N>) -> Result<Batc
     ensures batch { IfOk result (λ batch. batch_of batch ≡ batch_from piece.now.value) }
 {
     let shared = Arc::try_clone(piece)?;
-    let note = told.split()?;
-    Ok(Batch::new(shared, note))
+    Ok(Batch::new(shared, told.tell()))
 }
 
 /// The line that tells a watch of an event, if it concerns it: the object now, or where that isn't selected the one

@@ -46,7 +46,7 @@ pub fn next_batch<N: LogFacts>(
     None
 }
 
-/// A batch as what a turn gives. The pass that comes with it has seen its lines. These are copied where other watches
+/// A batch as what a turn gives. What comes with it knows its lines. These are copied where other watches
 /// share them, by each watch for itself and without any lock. Where there is no memory for that the batch is lost, and
 /// the ring tells what it told.
 pub fn received<N: LogFacts>(
@@ -60,10 +60,10 @@ pub fn received<N: LogFacts>(
     ensures turn { IfOk result (λ took. (window : ℕ) (p : PassData RevisionData) →
         IsWatchTurn N.base window p (record { selection = batch.selection; position = batch.from }) took told.new) }
 {
-    let Batch { piece, mut note } = batch;
+    let Batch { piece, note } = batch;
     let _mine = told.shown();
     let _theirs = note.shown();
-    told.share(&mut note);
+    told.hear(note);
     let _known = told.shown();
     let from = piece.from;
     let upto = piece.to;

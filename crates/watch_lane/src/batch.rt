@@ -3,17 +3,17 @@
 use crate::piece::Piece;
 use std::marker::Model;
 use std::sync::Arc;
-use up_api::{LogFacts, Pass};
+use up_api::{LogFacts, News};
 
-/// A piece of the stream of one watch, of at least one line, with a pass of the log that has seen it. The piece is
-/// shared by the watches that are told the same; the pass is the batch's own. Contracts see the piece's fields in
-/// place of the shared pointer to it.
+/// A piece of the stream of one watch, of at least one line, with what a pass of the log tells that has seen it.
+/// The piece is shared by the watches that are told the same. Contracts see the piece's fields in place of the shared
+/// pointer to it, and a pass.
 #[derive(Drop)]
 pub struct Batch<N: LogFacts> {
     /// The piece, which may be shared.
     pub piece: Arc<Piece>,
-    /// A pass of the log, which has seen the revision up to which the piece goes.
-    pub note: Pass<N>,
+    /// What a pass of the log tells, which has seen the revision up to which the piece goes.
+    pub note: News<N>,
 }
 
 impl<N: LogFacts> Model for Batch<N> {
@@ -33,8 +33,8 @@ impl<N: LogFacts> Batch<N> {
     ghost use Rattle.up_api.specs.Sections.{log_of};
     ghost use Rattle.watch_lane.specs.Batches.{IsBatch, noted};
 
-    /// The batch of a piece and a pass that has seen it.
-    pub fn new(piece: Arc<Piece>, note: Pass<N>) -> Batch<N>
+    /// The batch of a piece and of what a pass tells that has seen it.
+    pub fn new(piece: Arc<Piece>, note: News<N>) -> Batch<N>
         requires within { piece.value.to ≤ end_from note.first note.seen }
         requires lines_are { piece.value.lines ≡ transitions (log_of N.base note) piece.value.selection piece.value.from piece.value.to }
         requires some { piece.value.lines ≢ [] }

@@ -84,10 +84,10 @@ impl LaneIndex {
         }
     }
 
-    /// Whether at least half of the lanes ask for no name, value or namespace, and so are always answered. No contract
-    /// speaks of it.
-    pub fn is_wide(&self) -> bool {
-        self.lanes.len() <= self.places.others.len().saturating_mul(2)
+    /// Whether a selection asks for a name, a value or a namespace. A lane of another one is always answered, so who
+    /// has many of them may do without the index. No contract speaks of it.
+    pub fn has_place(&self, selection: &Selection) -> bool {
+        place_of(self.field, selection).is_some()
     }
 
     /// The lanes that a change of an object from `old` to `new` may concern, in rising order. There is

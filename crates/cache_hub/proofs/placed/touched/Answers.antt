@@ -2,13 +2,12 @@ use Rattle.std.proofs.Common.{ap, ◌∙◌}
 use Rattle.std.proofs.lemmas.Result.{IfOk-weaker}
 use Rattle.select_all.specs.Streams.{object_of}
 use Rattle.event_ring.specs.Events.{EventRows}
-use Rattle.cache_hub.specs.OpenLanes.{LanesData}
 use Rattle.cache_hub.proofs.IndexLemmas.{untold, object_is}
-use Rattle.cache_hub.proofs.lanes.Lanes.touched.Goals as goal
+use Rattle.cache_hub.proofs.placed.touched.Goals as goal
 
 pub returns-clause-others : goal.returns-clause-others
-returns-clause-others g c = IfOk-weaker c.touched.result _ _
-    (λ ids listed. untold c.self.inside.index c.self.inside.lanes.entries c.args.self.now.all ids.items c.args.event.now _ _ c.self.invariant.2 (ap (λ (x : LanesData). x.all) c.self.view_is)
+returns-clause-others c = IfOk-weaker c.touched.result _ _
+    (λ ids listed lanes indexed. untold c.args.index.now lanes ids.items c.args.event.now _ _ indexed
     (c.object.ensures ∙ object_is (λ s. s.value) c.event.inside.before ∙ ap (λ (e : EventRows). object_of e.before) c.event.view_is)
     (c.object-2.ensures ∙ object_is (λ s. s.value) c.event.inside.now ∙ ap (λ (e : EventRows). object_of e.now) c.event.view_is)
     listed)

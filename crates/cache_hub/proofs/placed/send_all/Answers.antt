@@ -1,7 +1,7 @@
 use Rattle.std.proofs.Common.{refl, subst, rules}
 use Rattle.up_api.specs.Sections.{log_of}
 use Rattle.cache_hub.proofs.SendLemmas.{AreSending, sending_begins, sending_ends, apart_from_sorted, nothing_left, none_is_some}
-use Rattle.cache_hub.proofs.lanes.send_all.Goals as goal
+use Rattle.cache_hub.proofs.placed.send_all.Goals as goal
 
 pub loop-id-init : goal.loop-id-init
 loop-id-init g c = (refl, sending_begins (log_of g.N.LogFacts.base c.args.told.now) c.args.end c.args.lanes.now.entries c.args.waiting.entries (apart_from_sorted c.args.waiting.entries (search rules)) c.requires.waiting)

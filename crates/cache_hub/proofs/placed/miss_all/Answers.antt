@@ -1,7 +1,7 @@
 use Rattle.std.proofs.Common.{◌≡◌, refl, rules}
 use Rattle.cache_hub.specs.Due.{missed}
 use Rattle.cache_hub.proofs.IndexLemmas.{changed_by_map, mapped_pairs}
-use Rattle.cache_hub.proofs.lanes.miss_all.Goals as goal
+use Rattle.cache_hub.proofs.placed.miss_all.Goals as goal
 
 pub returns : goal.returns
 returns g c =

@@ -1,8 +1,0 @@
-use Rattle.std.proofs.Common.{subst, sym}
-use Rattle.cache_hub.proofs.WaitingLemmas.{IsNoting, noting_begins}
-use Rattle.cache_hub.proofs.lanes.Lanes.note.Goals as goal
-
-pub loop-id-init : goal.loop-id-init
-loop-id-init g c =
-    subst (IsNoting c.args.self.now.all c.args.event.now c.args.waiting.now.entries c.args.waiting.now.entries) (sym c.deref-id-items.ensures.value)
-    (noting_begins c.args.self.now.all c.args.event.now c.args.waiting.now.entries c.in_ok-ids.ids.items c.in_ok-ids.ensures.rising c.in_ok-ids.ensures.others)
