@@ -129,8 +129,10 @@ impl<N: LogFacts> Bench<N> {
         self.scene.compact(2_000);
     }
 
-    /// Takes all batches out of the lanes. The answer is how many lines they had.
+    /// Takes all batches out of the lanes, and all lines out of the plain cache's queues of all objects. The answer is
+    /// how many lines the lanes had.
     pub fn drain(&mut self) -> usize {
+        self.plain.drain();
         let mut lines = 0usize;
         for lane in &mut self.lanes {
             for _ in 0..256 {

@@ -5,6 +5,7 @@ use encode_once::Shown;
 use kube_meta::{Key, Memory, Row, Text};
 use obj_tree::Snapshot;
 use rev_log::Change;
+use rtrb::{Consumer, Producer, RingBuffer};
 use std::alloc::Global;
 use std::collections::{BTreeMap, VecDeque};
 use std::sync::Arc;
@@ -13,13 +14,16 @@ use up_api::Polled;
 /// The lines of one watcher, or the last changes.
 type Queue = VecDeque<Arc<Shown>>;
 
+/// For how many lines a queue of all objects has room.
+const ROOM: usize = 16;
+
 fn tell(queue: &mut Queue, now: &Arc<Shown>) -> Result<(), Memory> {
     queue.push_back(Arc::try_clone(now)?)?;
     Ok(())
 }
 
 /// A plain cache. It keeps its last `many` changes, and has queues of nodes and namespaces, of single objects, and of
-/// all objects.
+/// all objects. Out of the last ones another thread can take lines, as out of a lane.
 #[derive(Drop)]
 pub struct Plain {
     alloc: Global,
@@ -27,7 +31,8 @@ pub struct Plain {
     held: Queue,
     places: BTreeMap<Text, Queue>,
     single: BTreeMap<Key, Queue>,
-    all: Vec<Queue>,
+    all: Vec<Producer<Arc<Shown>>>,
+    readers: Vec<Consumer<Arc<Shown>>>,
     many: usize,
 }
 
@@ -41,6 +46,7 @@ impl Plain {
             places: BTreeMap::new(alloc),
             single: BTreeMap::new(alloc),
             all: Vec::new(alloc),
+            readers: Vec::new(alloc),
             many,
         }
     }
@@ -86,8 +92,21 @@ impl Plain {
     }
 
     fn open_all(&mut self) -> Result<(), Memory> {
-        self.all.push(VecDeque::new(self.alloc))?;
+        let (queue, reader) = RingBuffer::new(self.alloc, ROOM)?;
+        self.all.push(queue)?;
+        self.readers.push(reader)?;
         Ok(())
+    }
+
+    /// Takes all lines out of the queues of all objects.
+    pub fn drain(&mut self) {
+        for reader in &mut self.readers {
+            for _ in 0..ROOM {
+                if reader.pop().is_err() {
+                    break;
+                }
+            }
+        }
     }
 
     /// Takes in what a poll gave.
@@ -129,7 +148,7 @@ impl Plain {
             tell(queue, now)?;
         }
         for queue in &mut self.all {
-            tell(queue, now)?;
+            let _full = queue.push(Arc::try_clone(now)?);
         }
         Ok(())
     }
