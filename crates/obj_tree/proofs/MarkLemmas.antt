@@ -20,6 +20,10 @@ pub words_told : {X : Type 0} (f : X → RowData) (word : RowData → ℕ) (xs :
 words_told f word [] = refl
 words_told f word (x ∷ xs) = ap (λ (rest : List ℕ). word (f x) ∷ rest) (words_told f word xs)
 
+-- the words of the same rows
+pub words_alike : {X : Type 0} (f : X → RowData) (word : RowData → ℕ) (xs ys : List X) → map f xs ≡ map f ys → map (λ x. word (f x)) xs ≡ map (λ x. word (f x)) ys
+words_alike f word xs ys same = sym (words_told f word xs) ∙ ap (map word) same ∙ words_told f word ys
+
 lacking : (fours : List ℕ) (word : RowData → ℕ) (page : List RowData) (mask k : ℕ) (d : RowData) → HaveFours fours (map word page) → Lack fours mask → k < length page → has_bits (word (get_or page k d)) mask ≡ false
 lacking fours word page mask k d have lack inside =
     let joins : has_bits (get_or fours (four_at k) 0) (word (get_or page k d)) ≡ true =

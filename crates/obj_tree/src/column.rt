@@ -41,6 +41,16 @@ impl Column {
         Column { words, fours }
     }
 
+    // The same words once more, with room for another.
+    pub(crate) fn copied(&self, alloc: Global) -> Result<Column, Memory>
+        ensures { IfOk result (λ column. column ≡ self.now) }
+    {
+        let mut words = Vec::with_capacity(alloc, self.words.len() + 1)?;
+        words.extend_from_slice(&self.words)?;
+        let fours = self.fours;
+        Ok(Column { words, fours })
+    }
+
     // The bits of each four words.
     pub(crate) fn fours(&self) -> &[u64; 16]
         ensures { HaveFours result.now self.now }
@@ -59,11 +69,14 @@ impl Column {
         Ok(())
     }
 
-    // Puts a word in place of the one at a place.
+    // Puts a word in place of the one at a place. Most rows keep their words, and then there is nothing to do.
     pub(crate) fn replace(&mut self, place: usize, word: u64)
         requires { place < length self.old }
         ensures { self.new ≡ set self.old place word }
     {
+        if self.words[place] == word {
+            return;
+        }
         self.words[place] = word;
         self.fours = fours_of(&self.words);
     }

@@ -86,6 +86,16 @@ pub(crate) fn marks_of(alloc: Global, pages: &[Arc<Page>]) -> Vec<Mark>
     }
 }
 
+/// The same marks once more, or none where there is no memory for them.
+pub(crate) fn copied_marks(alloc: Global, marks: &[Mark]) -> Vec<Mark>
+    ensures { (pages : List (List RowData)) → AreMarks marks.now pages → AreMarks result.items pages }
+{
+    match Vec::from_slice(alloc, marks) {
+        Ok(copies) => copies,
+        Err(_) => Vec::new(alloc),
+    }
+}
+
 fn all_marks(alloc: Global, pages: &[Arc<Page>]) -> Result<Vec<Mark>, Memory>
     ensures { IfOk result (λ marks. AreMarks marks.items (values_of pages.now)) }
 {

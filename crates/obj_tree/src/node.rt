@@ -9,7 +9,7 @@ ghost use Rattle.obj_tree.specs.Pages.{values_of, joined, begins_by, HoldEach, A
 ghost use Rattle.obj_tree.specs.Marks.{AreMarks};
 
 use crate::edges::{Edge, spot_of};
-use crate::mark::{Mark, marks_of};
+use crate::mark::{Mark, copied_marks, marks_of};
 use crate::page::Page;
 use crate::pages;
 use crate::part::Part;
@@ -98,7 +98,7 @@ impl Node {
         ensures { IfOk result (λ node. node ≡ self.now) }
     {
         let pages = copied(alloc, &self.pages)?;
-        let marks = marks_of(alloc, &pages);
+        let marks = copied_marks(alloc, &self.marks);
         Ok(Node {
             prefix: self.prefix,
             len: self.len,

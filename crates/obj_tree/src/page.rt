@@ -89,6 +89,21 @@ impl Page {
         at - from
     }
 
+    // Puts a row in place of those from a place up to another: of one, or of none.
+    pub(crate) fn put(&mut self, from: usize, to: usize, shown: Arc<Shown>) -> Result<(), Memory>
+        requires order { from ≤ to }
+        requires near { to ≤ from + 1 }
+        requires place { to ≤ length self.old }
+        ensures ok { OnOk result (self.new ≡ row_put self.old from to shown.value) }
+        ensures err { OnErr result (self.new ≡ self.old) }
+    {
+        if from == to {
+            return self.insert(from, shown);
+        }
+        self.replace(from, shown);
+        Ok(())
+    }
+
     // Puts a row at a place, before those that stand there.
     pub(crate) fn insert(&mut self, place: usize, shown: Arc<Shown>) -> Result<(), Memory>
         requires { place ≤ length self.old }
@@ -165,43 +180,31 @@ impl Page {
         }
     }
 
-    // A copy with a row in place of those from a place up to another.
-    pub(crate) fn with(
-        &self,
-        alloc: Global,
-        from: usize,
-        to: usize,
-        shown: Arc<Shown>,
-    ) -> Result<Page, Memory>
-        requires order { from ≤ to }
-        requires inside { to ≤ length self.now }
-        ensures { IfOk result (λ page. page ≡ row_put self.now from to shown.value) }
+    // Another page of the same rows, which are shared, with room for one more. Their words are copied: a look at each
+    // row would take longer than all else.
+    pub(crate) fn copied(&self, alloc: Global) -> Result<Page, Memory>
+        ensures { IfOk result (λ page. page ≡ self.now) }
     {
-        let (front, _) = self.rows.split_at(from);
-        let (_, back) = self.rows.split_at(to);
         let mut rows = Vec::with_capacity(alloc, self.rows.len() + 1)?;
-        share(&mut rows, front)?;
-        rows.push(shown)?;
-        share(&mut rows, back)?;
-        let page = Page::of(alloc, rows)?;
-        Ok(page)
-    }
-
-    // A copy without the row at a place.
-    pub(crate) fn except(&self, alloc: Global, place: usize) -> Result<Page, Memory>
-        requires { place < length self.now }
-        ensures { IfOk result (λ page. page ≡ row_gone self.now place) }
-    {
-        let (front, _) = self.rows.split_at(place);
-        let (_, back) = self.rows.split_at(place + 1);
-        joined(alloc, front, back)
+        share(&mut rows, &self.rows)?;
+        let fields = self.fields.copied(alloc)?;
+        let labels = self.labels.copied(alloc)?;
+        Ok(Page {
+            prefix: self.prefix,
+            rows,
+            fields,
+            labels,
+        })
     }
 
     // The rows of this page and then those of another, as one page.
     pub(crate) fn joined(&self, alloc: Global, next: &Page) -> Result<Page, Memory>
         ensures { IfOk result (λ page. page ≡ self.now ++ next.now) }
     {
-        joined(alloc, &self.rows, &next.rows)
+        let mut rows = Vec::with_capacity(alloc, self.rows.len().saturating_add(next.rows.len()))?;
+        share(&mut rows, &self.rows)?;
+        share(&mut rows, &next.rows)?;
+        Page::of(alloc, rows)
     }
 
     // Puts a row at a place, and moves the rows from the 33rd on into a page of their own.
@@ -306,16 +309,6 @@ fn prefix_of(rows: &[Arc<Shown>]) -> KeyPrefix
         Some(shown) => *shown.prefix(),
         None => KeyPrefix::none(),
     }
-}
-
-fn joined(alloc: Global, front: &[Arc<Shown>], back: &[Arc<Shown>]) -> Result<Page, Memory>
-    ensures { IfOk result (λ page. page ≡ values_of front.now ++ values_of back.now) }
-{
-    let mut rows = Vec::new(alloc);
-    share(&mut rows, front)?;
-    share(&mut rows, back)?;
-    let page = Page::of(alloc, rows)?;
-    Ok(page)
 }
 
 // Puts shared rows behind others.

@@ -175,13 +175,11 @@ fn put_in(
     ensures err { OnErr result (page.new.value ≡ page.old.value) }
 {
     match Arc::get_mut(page) {
-        Some(own) if from == to => own.insert(from, shown),
-        Some(own) => {
-            own.replace(from, shown);
-            Ok(())
-        }
+        Some(own) => own.put(from, to, shown),
         None => {
-            *page = Arc::new(alloc, page.with(alloc, from, to, shown)?)?;
+            let mut copy = page.copied(alloc)?;
+            copy.put(from, to, shown)?;
+            *page = Arc::new(alloc, copy)?;
             Ok(())
         }
     }
@@ -234,7 +232,8 @@ fn remove_row(
         remove_in(alloc, &mut pages[at], place)?;
         return Ok(());
     }
-    let page = pages[at].except(alloc, place)?;
+    let mut page = pages[at].copied(alloc)?;
+    page.remove(place);
     put_smaller(alloc, pages, at, page)
 }
 
@@ -250,7 +249,9 @@ fn remove_in(alloc: Global, page: &mut Arc<Page>, place: usize) -> Result<(), Me
             Ok(())
         }
         None => {
-            *page = Arc::new(alloc, page.except(alloc, place)?)?;
+            let mut copy = page.copied(alloc)?;
+            copy.remove(place);
+            *page = Arc::new(alloc, copy)?;
             Ok(())
         }
     }
@@ -377,8 +378,8 @@ fn divide_in(
     match Arc::get_mut(page) {
         Some(own) => own.divide(alloc, place, shown),
         None => {
-            let mut copy = page.with(alloc, place, place, shown)?;
-            let back = copy.cut_back(alloc)?;
+            let mut copy = page.copied(alloc)?;
+            let back = copy.divide(alloc, place, shown)?;
             *page = Arc::new(alloc, copy)?;
             Ok(back)
         }
