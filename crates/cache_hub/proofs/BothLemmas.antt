@@ -96,7 +96,7 @@ ready_alike log end es p w apart ready = λ id o here. ready id o (found_in_alik
 
 -- ---- lanes of two maps stay apart, and those of one alike
 
-none_is : {P : Type 0} (o : OpenLaneData) → None ≡ Some o → P
+pub none_is : {P : Type 0} (o : OpenLaneData) → None ≡ Some o → P
 none_is o e = absurd (cc)
 
 pub apart_closed : (p w p' w' : Map) (id : ℕ) → AreApart p w → SetsLane p p' id None → SetsLane w w' id None → AreApart p' w'

@@ -12,13 +12,10 @@ use Rattle.select_all.specs.declared.selection.Selection.{Selection}
 use Rattle.watch_lane.specs.Batches.{PieceData}
 use Rattle.cache_hub.specs.OpenLanes.{OpenLaneData, Each, AreTold, open_at, told_lane}
 use Rattle.cache_hub.specs.Due.{due_in, AreReady, AreUntold, IsPieceOf, IsWaiting}
+use Rattle.cache_hub.proofs.BothLemmas.{none_is}
 use Rattle.cache_hub.proofs.LaneLemmas.{some_is}
 use Rattle.cache_hub.proofs.WaitingLemmas.{AreDistinct, by_test, distinct_from_increasing, is_waiting}
 use Rattle.cache_hub.proofs.SendLemmas.{IsSentTo, none_waits}
-
--- there is none behind the last one
-none_found : (i : ℕ) (lane : OpenLaneData) → None ≡ Some lane → ⊥
-none_found i lane e = cc
 
 module _ (log : Log) (end : ℕ) where
   -- the lanes under these numbers are still to be told; each other one was told, or has to be told nothing
@@ -59,7 +56,7 @@ module _ (log : Log) (end : ℕ) where
 
   pub walked_on : (i : ℕ) (start now : List (ℕ × OpenLaneData)) (lane later : OpenLaneData) → AreWalked i start now → slice_get (values_of now) i ≡ Some lane →
       (falls : Bool) × (later ≡ told_lane log end falls lane) → AreWalked (suc i) start (set_value_at now i later)
-  walked_on i [] now lane later walked found told = absurd (none_found i lane (ap (λ xs. slice_get (values_of xs) i) (sym walked) ∙ found))
+  walked_on i [] now lane later walked found told = none_is lane (ap (λ xs. slice_get (values_of xs) i) (sym walked) ∙ found)
   walked_on zero (e ∷ es) now lane later walked found told =
       subst (λ (xs : List (ℕ × OpenLaneData)). AreWalked 1 (e ∷ es) (set_value_at xs 0 later)) (sym walked)
       (refl, (told.0, told.1 ∙ ap (told_lane log end told.0) (some_is lane e.1 (sym found ∙ ap (λ xs. slice_get (values_of xs) 0) walked))), walk_begins es)
@@ -69,7 +66,7 @@ module _ (log : Log) (end : ℕ) where
   -- what holds of each lane as it was holds of one that wasn't walked over
   pub fact_at : (fact : OpenLaneData → Type 0) (i : ℕ) (start now : List (ℕ × OpenLaneData)) (lane : OpenLaneData) → AllByRecursion (λ e. fact e.1) start →
       AreWalked i start now → slice_get (values_of now) i ≡ Some lane → fact lane
-  fact_at fact i [] now lane all walked found = absurd (none_found i lane (ap (λ xs. slice_get (values_of xs) i) (sym walked) ∙ found))
+  fact_at fact i [] now lane all walked found = none_is lane (ap (λ xs. slice_get (values_of xs) i) (sym walked) ∙ found)
   fact_at fact zero (e ∷ es) now lane all walked found =
       subst fact (some_is e.1 lane (ap (λ xs. slice_get (values_of xs) 0) (sym walked) ∙ found)) all.0
   fact_at fact (suc i) (e ∷ es) [] lane all walked found = elim walked [ ]
@@ -104,7 +101,7 @@ absent id (e ∷ rest) apart = rw apart.0 (absent id rest apart.1)
 -- it holds of the lanes behind the first one too, since none of them has its number
 each_behind : (fact : OpenLaneData → Type 0) (e : ℕ × OpenLaneData) (rest : List (ℕ × OpenLaneData)) → open_at rest e.0 ≡ None → Each fact (e ∷ rest) → Each fact rest
 each_behind fact e rest apart each = λ id o here. by_test (nat_eq id e.0)
-    (λ same. absurd (none_found id o (sym apart ∙ subst (λ n. open_at rest n ≡ Some o) (eqb-true id e.0 same) here)))
+    (λ same. none_is o (sym apart ∙ subst (λ n. open_at rest n ≡ Some o) (eqb-true id e.0 same) here))
     (λ differs. each id o (ap (λ b. cond b (Some e.1) (open_at rest id)) differs ∙ here))
 
 pub each_all : (fact : OpenLaneData → Type 0) (lanes : List (ℕ × OpenLaneData)) → IsDistinct nat_eq (keys_of lanes) → Each fact lanes → AllByRecursion (λ e. fact e.1) lanes

@@ -21,10 +21,9 @@ use std::sync::Arc;
 use up_api::{LogFacts, Pass};
 use watch_lane::{LaneIndex, LaneOut, lane};
 
-/// The lanes of a cache under their numbers, which are never used again. Those of one selection that each change may
-/// concern stand by themselves, and the others with the index that finds the ones which a change may concern: by name,
-/// by the first listed field, or by namespace. Beside them stand the numbers of the lanes whose watchers are called,
-/// each once.
+/// The lanes of a cache under their numbers, which are never used again. Those that want all objects are alike, and
+/// stand by themselves; the others have the index that finds the ones which a change may concern: by name, by the first
+/// listed field, or by namespace. Beside them stand the numbers of the lanes whose watchers are called, each once.
 #[derive(Drop)]
 pub(crate) struct Lanes<N: LogFacts> {
     alloc: Global,
@@ -106,7 +105,7 @@ impl<N: LogFacts> Lanes<N> {
     {
         let id = self.next;
         let next = id.checked_add(1).ok_or(Memory)?;
-        if are_like(&self.alike, &self.index, selection) {
+        if are_like(&self.alike, selection) {
             self.alike.insert(id, lane)?;
             self.next = next;
             return Ok(id);
@@ -250,18 +249,16 @@ impl<N: LogFacts> Lanes<N> {
     }
 }
 
-// Whether lanes are for this selection; where there are none, whether each change may concern one that is.
-fn are_like<N: LogFacts>(
-    lanes: &IndexMap<u64, OpenLane<N>>,
-    index: &LaneIndex,
-    selection: &Selection,
-) -> bool
+// Whether lanes are for this selection; where there are none, whether it is one of all objects.
+fn are_like<N: LogFacts>(lanes: &IndexMap<u64, OpenLane<N>>, selection: &Selection) -> bool
     requires { AreAlike lanes.now.entries }
     ensures { IsTrue result → Each (λ o. o.lane.selection ≡ selection.now) lanes.now.entries }
 {
     match lanes.get_index(0) {
         Some((_, lane)) => lane.is_for(selection),
-        None => !index.has_place(selection),
+        None => selection.ns.is_none()
+            && selection.labels.is_empty()
+            && selection.fields.is_empty(),
     }
 }
 

@@ -84,12 +84,6 @@ impl LaneIndex {
         }
     }
 
-    /// Whether a selection asks for a name, a value or a namespace. A lane of another one is always answered, so who
-    /// has many of them may do without the index. No contract speaks of it.
-    pub fn has_place(&self, selection: &Selection) -> bool {
-        place_of(self.field, selection).is_some()
-    }
-
     /// The lanes that a change of an object from `old` to `new` may concern, in rising order. There is
     /// no object before it is created and after it is removed.
     pub fn touched(&self, old: Option<&Obj>, new: Option<&Obj>) -> Result<Vec<u64>, Memory>
