@@ -1,15 +1,15 @@
 -- What the types of the table's handles keep stays true over a step.
-use Rattle.std.proofs.Common.{◌≡◌, ℕ, ◌+◌, ◌<◌, ◌≤◌, ◌^◌, max, List, [], ◌∷◌, ◌++◌, length, refl, ap, sym, ◌∙◌, subst, arith, length-append}
+use Rattle.std.proofs.Common.{◌≡◌, ℕ, ◌+◌, ◌-◌, ◌<◌, ◌≤◌, ◌^◌, max, List, [], ◌∷◌, ◌++◌, length, refl, ap, sym, ◌∙◌, subst, arith, length-append}
 use mathlib.Core.Option.{none, some, some-injective}
 use lib.ListN.{get_elem?}
 use Rattle.atomic_table.specs.Seated.{TableId}
 use Rattle.atomic_table.specs.Table.{State, Me, step}
 use Rattle.rev_front.specs.declared.sight.Sight.{Sight}
-use Rattle.rev_front.specs.Passes.{LogId, Pass, Extends, Met, Whole, Covers, briefed, pass_from, revision, longer, last_or, looked}
-use Rattle.rev_front.specs.Rule.{looks, pass_of, whole_of, Rule, Stands}
+use Rattle.rev_front.specs.Passes.{LogId, Pass, Extends, Met, Whole, Covers, briefed, pass_from, revision, longer, last_or, looked, quiets}
+use Rattle.rev_front.specs.Rule.{looks, pass_of, whole_of, Rule, Stands, Leads}
 use Rattle.rev_front.specs.Kept.{Sits, Comes, Writes, IsReaderOf}
 use Rattle.rev_front.proofs.Beginnings.{prefix_self, prefix_grown, longer_of_prefix, last_push}
-use Rattle.rev_front.proofs.Passing.{looked_on, commit_leads}
+use Rattle.rev_front.proofs.Passing.{looked_on, commit_leads, quiet_leads}
 
 -- a seat that sits at the table may step there
 pub seated : {E : Type 0} (id : LogId) (table : TableId) (key : ℕ) (seat : TableId) (carried : List (ℕ × E)) (at : TableId) → Sits id table key seat carried → at ≡ table → (seat ≡ at) × (0 < at.words) × (1 < at.words) × (2 < at.words)
@@ -58,6 +58,18 @@ module _ {E : Type 0} where
         floor_is = w.floor_is;
       } in
       subst (λ (z : ℕ × Sight E). Writes fits first z.0 z.1 (reached + 1) gen floor) (λ i. (sym same i, sym (ap (λ (x : Me E (Sight E)). x.0) is) i)) now
+
+  -- the pen behind quiet entries
+  pub pass_over_writes : (fits : ℕ → E → Type 0) (quiet : ℕ → E) → ((r : ℕ) → fits r (quiet r)) → (first j k : ℕ) (m m' : Me E (Sight E)) (reached upto gen floor : ℕ) → k ≡ j
+      → m' ≡ (record m.0 { seen = m.0.seen ++ quiets quiet reached (upto - reached); shown = upto }, m.1) → reached ≤ upto → upto ≤ 2 ^ 62 → Writes fits first j m.0 reached gen floor → Writes fits first k m'.0 upto gen floor
+  pass_over_writes fits quiet all first j k m m' reached upto gen floor same is on room w =
+      let at = w.revision_is in
+      let far : m.0.shown + (upto - reached) ≡ upto = omega (arith, at) in
+      let v : Sight E = record m.0 { seen = m.0.seen ++ quiets quiet reached (upto - reached); shown = upto } in
+      let grown = quiet_leads fits first quiet all m.0 (upto - reached) w.leads (omega (arith, far)) in
+      let leads : Leads fits first v = subst (Leads fits first) (λ i. record m.0 { seen = m.0.seen ++ quiets quiet (sym at i) (upto - reached); shown = far i }) grown in
+      let now : Writes fits first j v upto gen floor = record { first_seat = w.first_seat; leads = leads; revision_is = refl; gen_is = w.gen_is; floor_is = w.floor_is } in
+      subst (λ (z : ℕ × Sight E). Writes fits first z.0 z.1 upto gen floor) (λ i. (sym same i, sym (ap (λ (x : Me E (Sight E)). x.0) is) i)) now
 
   -- the words of a closed table stand in a state that meets the rule
   pub closes : (fits : ℕ → E → Type 0) (key j : ℕ) (v : Sight E) (ws : List ℕ) (a b c : ℕ) → j ≡ 0 → (s : State E (Sight E)) → Rule fits key s → get_elem? s.views j ≡ some v → s.words ≡ ws

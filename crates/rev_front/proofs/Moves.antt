@@ -1,5 +1,5 @@
 -- Each step keeps the rule of the table.
-use Rattle.std.proofs.Common.{◌≡◌, ◌≢◌, ℕ, ◌+◌, ◌<◌, ◌≤◌, ◌^◌, ◌==◌, eqb, Bool, true, false, List, [], ◌∷◌, ◌++◌, length, get_or, set, refl, ap, sym, ◌∙◌, subst, ⊎_elim, arith, eq-eqb}
+use Rattle.std.proofs.Common.{◌≡◌, ◌≢◌, ℕ, ◌+◌, ◌-◌, ◌<◌, ◌≤◌, ◌^◌, ◌==◌, eqb, Bool, true, false, List, [], ◌∷◌, ◌++◌, length, get_or, set, refl, ap, sym, ◌∙◌, subst, ⊎_elim, arith, eq-eqb}
 use mathlib.Core.Option.{some, none, some-injective}
 use mathlib.Core.List.{IsPrefix}
 use lib.ListN.{get_elem?}
@@ -9,10 +9,10 @@ use Rattle.atomic_table.specs.Table.{State, Me, step, keeps, Allows, Splits, Joi
 use Rattle.atomic_table.proofs.Lists.{at_set, set_else, set_again, at_longer, at_snoc}
 use Rattle.rev_front.specs.declared.sight.Role.TheVariants.{Reader, Gone}
 use Rattle.rev_front.specs.declared.sight.Sight.{Sight}
-use Rattle.rev_front.specs.Passes.{IsPass}
-use Rattle.rev_front.specs.Rule.{pass_of, opening_sight, Leads, Follows, Rule, commits, sets_gen, sets_floor, looks, reads_gen, reads_floor, copied, met, learnt, gone, recalls_pass, recalls_pen}
+use Rattle.rev_front.specs.Passes.{IsPass, quiets}
+use Rattle.rev_front.specs.Rule.{pass_of, opening_sight, Leads, Follows, Rule, commits, passes_over, sets_gen, sets_floor, looks, reads_gen, reads_floor, copied, met, learnt, gone, recalls_pass, recalls_pen}
 use Rattle.rev_front.proofs.Beginnings.{prefix_self, prefix_trans, prefix_grown}
-use Rattle.rev_front.proofs.Passing.{looked_on, gen_on, floor_on, copied_on, copied_pen, met_on, met_follows, learnt_leads, commit_leads, gen_leads, floor_leads}
+use Rattle.rev_front.proofs.Passing.{looked_on, gen_on, floor_on, copied_on, copied_pen, met_on, met_follows, learnt_leads, commit_leads, quiet_leads, gen_leads, floor_leads}
 
 module _ {E : Type 0} (fits : ℕ → E → Type 0) (first : ℕ) where
   abbrev St : Type 0
@@ -233,6 +233,30 @@ module _ {E : Type 0} (fits : ℕ → E → Type 0) (first : ℕ) where
               (prefix_grown m.0.seen (e ∷ [])) (omega arith, omega arith, omega arith),
           (found, λ x same. ap (λ (y : E). (record m.0 { seen = m.0.seen ++ y ∷ []; shown = m.0.shown + 1 }, m.1)) (some-injective e x same)),
         )
+
+    pass_over_at : (quiet : ℕ → E) → ((r : ℕ) → fits r (quiet r)) → (m : Me E (Sight E)) (old new : ℕ) → old ≡ m.0.shown → old ≤ new → new ≤ 2 ^ 62
+        → Allows (Rule fits first) slots 0 m 0 (λ n. either (n == old) new n) (passes_over quiet (step slots 0 old new none) m)
+    pass_over_at quiet all m old new is on room s r deep at small =
+        let l = led s r m.0 at in
+        let w : Sight E = record m.0 { seen = m.0.seen ++ quiets quiet old (new - old); shown = new } in
+        let n : ℕ = get_or s.words 0 0 in
+        let found : n ≡ old = ap (λ (ws : List ℕ). get_or ws 0 0) l.words ∙ sym is in
+        let stored : either (n == old) new n ≡ new = ap (λ (b : Bool). either b new n) (eq-eqb n old found) in
+        let far : m.0.shown + (new - old) ≡ new = omega (arith, is) in
+        let grown = quiet_leads fits first quiet all m.0 (new - old) l.leads (omega (arith, far)) in
+        let leads : Leads fits first w = subst (Leads fits first) (λ i. record m.0 { seen = m.0.seen ++ quiets quiet (sym is i) (new - old); shown = far i }) grown in (
+          w,
+          keeps,
+          tt,
+          pen_moves s m.0 w l at (set s.words 0 (either (n == old) new n)) (ap (λ (k : ℕ). set s.words 0 k) stored ∙ ap (λ (ws : List ℕ). set ws 0 new) l.words) leads
+              (prefix_grown m.0.seen (quiets quiet old (new - old))) (omega (arith, is), omega arith, omega arith),
+          (found, refl),
+        )
+
+    pub pass_over_allowed : (quiet : ℕ → E) → ((r : ℕ) → fits r (quiet r)) → (id : ℕ) (m : Me E (Sight E)) (old new : ℕ) → id ≡ 0 → old ≡ m.0.shown → old ≤ new → new ≤ 2 ^ 62
+        → Allows (Rule fits first) slots id m 0 (λ n. either (n == old) new n) (passes_over quiet (step slots 0 old new none) m)
+    pass_over_allowed quiet all id m old new z is on room =
+        subst (λ (k : ℕ). Allows (Rule fits first) slots k m 0 (λ n. either (n == old) new n) (passes_over quiet (step slots 0 old new none) m)) (sym z) (pass_over_at quiet all m old new is on room)
 
     pub recall_pen_allowed : (id : ℕ) (m : Me E (Sight E)) → id ≡ 0 → Allows (Rule fits first) slots id m 0 (λ n. n) (recalls_pen (step slots 0 0 0 none) m)
     recall_pen_allowed id m z = subst (λ (k : ℕ). Allows (Rule fits first) slots k m 0 (λ n. n) (recalls_pen (step slots 0 0 0 none) m)) (sym z) (recall_pen_at m)

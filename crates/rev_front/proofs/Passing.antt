@@ -1,11 +1,12 @@
 -- What stays true of a pass, and of the pen, over a step.
-use Rattle.std.proofs.Common.{◌≡◌, ℕ, ◌+◌, ◌-◌, ◌≤◌, ◌^◌, max, List, [], ◌∷◌, ◌++◌, length, length-append, refl, ap, sym, ◌∙◌, subst, arith}
+use Rattle.std.proofs.Common.{◌≡◌, ℕ, zero, suc, ◌+◌, ◌-◌, ◌≤◌, ◌^◌, max, List, [], ◌∷◌, ◌++◌, length, length-append, append_assoc, refl, ap, sym, ◌∙◌, subst, arith}
 use Rattle.std.specs.Prelude.{All}
+use Rattle.std.proofs.lemmas.List.{append-nil}
 use Rattle.std.specs.List.Sorted.{IsNonDecreasing}
 use Rattle.std.proofs.lemmas.List.Elements.{All-push, All-nil}
 use Rattle.std.proofs.lemmas.List.Sorted.{IsNonDecreasingBy-push, IsNonDecreasingBy-short}
 use Rattle.rev_front.specs.declared.sight.Sight.{Sight}
-use Rattle.rev_front.specs.Passes.{Pass, IsPass, Extends, LooksStand, LoadsAreSeen, FitFrom, end_from, last_or}
+use Rattle.rev_front.specs.Passes.{Pass, IsPass, Extends, LooksStand, LoadsAreSeen, FitFrom, end_from, last_or, quiets}
 use Rattle.rev_front.specs.Rule.{pass_of, Leads, Follows, met, learnt, copied}
 use Rattle.rev_front.proofs.Beginnings.{prefix_self, prefix_trans, prefix_grown, prefix_length, last_push, last_within, longer_is, longer_begins, longer_first, longer_second, fit_push}
 
@@ -134,6 +135,21 @@ module _ {E : Type 0} (fits : ℕ → E → Type 0) (first : ℕ) where
         brought = prefix_trans v.brought v.seen (v.seen ++ e ∷ []) p.brought (prefix_grown v.seen (e ∷ []));
         known = (omega arith, k.1, k.2);
       }
+
+  -- the pen behind so many quiet entries
+  pub quiet_leads : (quiet : ℕ → E) → ((r : ℕ) → fits r (quiet r)) → (v : Sight E) (n : ℕ) → Leads fits first v → v.shown + n ≤ 2 ^ 62 → Leads fits first (record v { seen = v.seen ++ quiets quiet v.shown n; shown = v.shown + n })
+  quiet_leads quiet all v zero p room = subst (Leads fits first) (λ i. record v { seen = sym (append-nil v.seen) i; shown = sym none i }) p
+    where
+      none : v.shown + 0 ≡ v.shown
+      none = omega arith
+  quiet_leads quiet all v (suc n) p room =
+      let q : E = quiet (v.shown + 1) in
+      let w : Sight E = record v { seen = v.seen ++ q ∷ []; shown = v.shown + 1 } in
+      let one : Leads fits first w = commit_leads v q p (omega arith) (all (v.shown + 1)) in
+      let rest = quiet_leads quiet all w n one (omega arith) in
+      let seen : w.seen ++ quiets quiet w.shown n ≡ v.seen ++ quiets quiet v.shown (suc n) = append_assoc v.seen (q ∷ []) (quiets quiet (v.shown + 1) n) in
+      let shown : w.shown + n ≡ v.shown + suc n = omega arith in
+      subst (Leads fits first) (λ i. record v { seen = seen i; shown = shown i }) rest
 
   pub gen_leads : (v : Sight E) (n : ℕ) → Leads fits first v → v.generation ≤ n → n ≤ 2 ^ 62 → Leads fits first (record v { generation = n })
   gen_leads v n p later small =

@@ -1,5 +1,5 @@
 -- One log that only grows, its one writer, and passes, each of which knows a beginning of it.
-use Rattle.std.specs.Prelude.{◌≡◌, ℕ, ◌+◌, ◌<◌, ◌≤◌, ◌^◌, max, List, [], ◌∷◌, ◌++◌, length, All, Some, slice_get, nat_lt, if◌then◌else◌}
+use Rattle.std.specs.Prelude.{◌≡◌, ℕ, zero, suc, ◌+◌, ◌<◌, ◌≤◌, ◌^◌, max, List, [], ◌∷◌, ◌++◌, length, All, Some, slice_get, nat_lt, if◌then◌else◌}
 use Rattle.std.specs.List.Sorted.{IsNonDecreasing}
 use mathlib.Core.List.{IsPrefix}
 use Rattle.atomic_table.specs.Seated.{TableId}
@@ -20,6 +20,11 @@ end_from first log = first + length log
 -- each entry fits its revision
 abbrev pub FitFrom : {E : Type 0} → (ℕ → E → Type 0) → ℕ → List E → Type 0
 FitFrom {E} fits first log = (i : ℕ) (e : E) → slice_get log i ≡ Some e → fits (first + 1 + i) e
+
+-- the entries of so many revisions behind this one, at which nothing happens
+abbrev pub quiets : {E : Type 0} → (ℕ → E) → ℕ → ℕ → List E
+quiets quiet from zero = []
+quiets quiet from (suc n) = quiet (from + 1) ∷ quiets quiet (from + 1) n
 
 -- the longer of two logs
 abbrev pub longer : {E : Type 0} → List E → List E → List E

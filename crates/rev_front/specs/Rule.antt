@@ -1,12 +1,12 @@
 -- The rule of the table: what holds of its three words and of what all seats know, at every moment. And what each step tells.
-use Rattle.std.specs.Prelude.{◌≡◌, ℕ, ◌+◌, ◌≤◌, ◌^◌, max, List, [], ◌∷◌, ◌++◌, length}
+use Rattle.std.specs.Prelude.{◌≡◌, ℕ, ◌+◌, ◌-◌, ◌≤◌, ◌^◌, max, List, [], ◌∷◌, ◌++◌, length}
 use mathlib.Core.Option.{some}
 use mathlib.Core.List.{IsPrefix}
 use lib.ListN.{get_elem?}
 use Rattle.atomic_table.specs.Table.{State, Me, Step}
 use Rattle.rev_front.specs.declared.sight.Role.TheVariants.{Writer, Reader, Gone}
 use Rattle.rev_front.specs.declared.sight.Sight.{Sight}
-use Rattle.rev_front.specs.Passes.{Pass, IsPass, Whole, IsWhole, end_from, last_or, longer}
+use Rattle.rev_front.specs.Passes.{Pass, IsPass, Whole, IsWhole, end_from, last_or, longer, quiets}
 
 module _ {E : Type 0} (first : ℕ) where
   -- a seat that reads, as a pass
@@ -58,6 +58,10 @@ module _ {E : Type 0} where
   -- the log grows by the entry that the step announces
   abbrev pub commits : Step E → Me E (Sight E) → ℕ → Me E (Sight E) → Type 0
   commits st m n m' = (n ≡ st.first) × ((e : E) → st.said ≡ some e → m' ≡ (record m.0 { seen = m.0.seen ++ e ∷ []; shown = m.0.shown + 1 }, m.1))
+
+  -- the log grows by the quiet entries from the word that was there up to the one that is stored
+  abbrev pub passes_over : (ℕ → E) → Step E → Me E (Sight E) → ℕ → Me E (Sight E) → Type 0
+  passes_over quiet st m n m' = (n ≡ st.first) × (m' ≡ (record m.0 { seen = m.0.seen ++ quiets quiet st.first (st.second - st.first); shown = st.second }, m.1))
 
   -- the generation, or the floor, is the number that is stored
   abbrev pub sets_gen : Step E → Me E (Sight E) → ℕ → Me E (Sight E) → Type 0

@@ -6,4 +6,7 @@ pub trait Entry: Drop {
 
     // The entries that may stand in a log at a revision.
     ghost fits: { ℕ → Self → Type 0 };
+
+    // The entry that stands at a revision at which nothing happens.
+    ghost quiet: { ℕ → Self };
 }

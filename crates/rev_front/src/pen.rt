@@ -1,7 +1,7 @@
 //! The writer of a log.
 
-ghost use Rattle.std.specs.Prelude.{◌≡◌, ◌+◌, ◌<◌, ◌≤◌, ◌^◌, [], ◌∷◌, ◌++◌, IfOk, IsOk, MatchResult};
-ghost use Rattle.rev_front.specs.Passes.{Covers, Extends, IsWhole, briefed, pass_from, revision as reached};
+ghost use Rattle.std.specs.Prelude.{◌≡◌, ℕ, ◌+◌, ◌-◌, ◌<◌, ◌≤◌, ◌^◌, [], ◌∷◌, ◌++◌, IfOk, IsOk, MatchResult};
+ghost use Rattle.rev_front.specs.Passes.{Covers, Extends, IsWhole, briefed, pass_from, quiets, revision as reached};
 ghost use Rattle.rev_front.specs.Rule.{Stands};
 
 use crate::entry::Entry;
@@ -9,7 +9,7 @@ use crate::front::Front;
 use crate::name::LogName;
 use crate::news::News;
 use crate::sight::{Board, Place};
-use crate::steps::{Commit, Copies, Learn, RecallPen, SetFloor, SetGen};
+use crate::steps::{Commit, Copies, Learn, PassOver, RecallPen, SetFloor, SetGen};
 use std::alloc::{AllocError, Global};
 use std::marker::{Model, PhantomData};
 use std::sync::Arc;
@@ -60,6 +60,18 @@ impl<E: Entry, N: LogName> Pen<E, N> {
         shared.compare_exchange_with::<Commit>(&mut self.seat, 0, self.revision, next, entry);
         self.revision = next;
         next
+    }
+
+    /// Passes over revisions at which nothing happens, up to this one.
+    pub fn pass_over(&mut self, upto: u64)
+        requires onward { reached self.old ≤ upto }
+        requires last { upto ≤ 2 ^ 62 }
+        requires fits { (r : ℕ) → E.fits r (E.quiet r) }
+        ensures log { self.new ≡ record self.old { log = self.old.log ++ quiets E.quiet (reached self.old) (upto - reached self.old) } }
+    {
+        let shared = &self.board.shared;
+        shared.compare_exchange::<PassOver>(&mut self.seat, 0, self.revision, upto);
+        self.revision = upto;
     }
 
     /// Raises the generation by one, which cuts all feeds of older ones, and answers it.

@@ -1,6 +1,7 @@
 //! What each kind of step on the table tells.
-ghost use Rattle.rev_front.specs.Rule.{commits, sets_gen, sets_floor, looks, reads_gen, reads_floor, copied, met, learnt, gone, recalls_pass, recalls_pen};
+ghost use Rattle.rev_front.specs.Rule.{commits, passes_over, sets_gen, sets_floor, looks, reads_gen, reads_floor, copied, met, learnt, gone, recalls_pass, recalls_pen};
 
+use crate::entry::Entry;
 use crate::sight::Sight;
 use atomic_table::{Join, Play, Split};
 
@@ -9,6 +10,13 @@ pub struct Commit;
 
 impl<E> Play<E, Sight<E>> for Commit {
     ghost then = { commits };
+}
+
+/// The pen passes over revisions at which nothing happens.
+pub struct PassOver;
+
+impl<E: Entry> Play<E, Sight<E>> for PassOver {
+    ghost then = { passes_over E.quiet };
 }
 
 /// The pen stores the generation.

@@ -35,6 +35,10 @@ AreNumbered first (revision ∷ more) = (revision.rev ≡ first + 1) × AreNumbe
 abbrev pub Fits : ℕ → RevisionData → Type 0
 Fits at revision = (revision.rev ≡ at) × IsRevision revision
 
+-- the revision that stands where nothing changes
+abbrev pub quiet_at : ℕ → RevisionData
+quiet_at at = record { rev = at; changes = [] }
+
 -- where each revision fits its place, each carries the number of its place, and is one
 abbrev pub FittingLogsAreNumbered : Type 0
 FittingLogsAreNumbered =

@@ -137,9 +137,11 @@ fn have_number(changes: &[Change], rev: u64) -> bool
 }
 
 impl Entry for Revision {
-    ghost use Rattle.rev_log.specs.Logs.{Fits};
+    ghost use Rattle.rev_log.specs.Logs.{Fits, quiet_at};
 
     ghost fits = { Fits };
+
+    ghost quiet = { quiet_at };
 }
 
 impl Clone for Change {

@@ -25,6 +25,8 @@ impl Entry for Note {
     ghost use Rattle.std.specs.Prelude.{◌≡◌};
 
     ghost fits = { λ n note. n ≡ note.number };
+
+    ghost quiet = { λ n. record { number = n } };
 }
 
 /// The pen of a log, unless it was closed, and passes.
