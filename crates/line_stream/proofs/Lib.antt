@@ -5,3 +5,8 @@ pub mod IdleLemmas
 pub mod HeadLemmas
 pub mod StandLemmas
 pub mod OnlyLemmas
+pub mod SizeLemmas
+pub mod StreamHeadLemmas
+pub mod StreamLemmas
+pub mod AgreeLemmas
+pub mod OutcomeLemmas

@@ -8,3 +8,5 @@ pub mod Heads
 pub mod HeadSteps
 pub mod Standing
 pub mod Laws
+pub mod Streams
+pub mod Outcomes

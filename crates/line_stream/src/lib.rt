@@ -11,7 +11,7 @@ mod look;
 mod place;
 mod refusal;
 
-pub use laws::lines_are_read_in_one_way;
+pub use laws::{lines_are_read_in_one_way, outcomes_agree, readings_agree, streams_are_read_back};
 pub use lines::{LineReader, Step};
 pub use place::Place;
 pub use refusal::LineNo;

@@ -4,7 +4,7 @@ use Rattle.kube_meta.specs.Rows.{RowData}
 use Rattle.kube_meta.specs.declared.resources.Resource.TheVariants.{Pods}
 use Rattle.select_all.specs.declared.selection.Kind.TheVariants.{Added}
 use Rattle.mirror_opening.specs.Reading.{AreTexts, most_opening}
-use Rattle.stream_laws.specs.Streams.{ReadingsAgree}
+use Rattle.line_stream.specs.Streams.{ReadingsAgree}
 use Rattle.watch_read.specs.Laws.{LinesAreOne, as_read}
 use Rattle.watch_read.specs.Lines.{IsPeerLine}
 use Rattle.watch_read.specs.declared.peer_line.PeerLine.TheVariants as peer

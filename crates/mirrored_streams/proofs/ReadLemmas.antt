@@ -11,8 +11,8 @@ use Rattle.rev_log.specs.Logs.{Log}
 use Rattle.sess_turns.specs.Streams.{frames_of, stream_text}
 use Rattle.sess_turns.specs.Turns.{watch_lines}
 use Rattle.sess_turns.proofs.BodyLemmas.{turns_are_bodies}
-use Rattle.stream_laws.specs.Streams.{whole_stream, AreRead}
-use Rattle.stream_laws.proofs.AgreeLemmas.{streams-read-back}
+use Rattle.line_stream.specs.Streams.{whole_stream, AreRead}
+use Rattle.line_stream.proofs.AgreeLemmas.{streams-read-back}
 use Rattle.up_api.specs.Sections.{log_of}
 use Rattle.watch_read.specs.Feeds.{HasNoLineFeed, is_line_feed}
 use Rattle.watch_read.specs.Laws.{LinesReadBack, TextsHaveNoLineFeed, as_read}

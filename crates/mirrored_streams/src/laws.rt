@@ -3,7 +3,7 @@
 ghost use Rattle.mirrored_streams.specs.Openings.{OpeningsAreOne};
 ghost use Rattle.mirrored_streams.specs.Streams.{WatchesAreRead};
 
-use stream_laws::readings_agree;
+use line_stream::readings_agree;
 use watch_read::{lines_are_one, lines_read_back, texts_have_no_line_feed};
 
 /// Whoever stands in a beginning of what a session writes to a watch, in chunks of whole objects, stands with the texts

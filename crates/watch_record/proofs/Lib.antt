@@ -5,3 +5,5 @@ pub mod ObjectLemmas
 pub mod WriteLemmas
 pub mod LogLemmas
 pub mod CaseLemmas
+pub mod KeyTexts
+pub mod ReadBack

@@ -4,3 +4,4 @@ pub mod Revisions
 pub mod Reading
 pub mod Asking
 pub mod Records
+pub mod Laws

@@ -4,6 +4,7 @@
 mod asking;
 mod header;
 mod heading;
+mod laws;
 mod parts;
 mod reading;
 mod records;
@@ -14,6 +15,7 @@ mod values;
 mod writing;
 
 pub use header::Header;
+pub use laws::lines_are_read_back;
 pub use reading::read_record;
 pub use records::Record;
 pub use refusals::RecordNo;

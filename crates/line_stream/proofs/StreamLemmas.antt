@@ -10,9 +10,9 @@ use Rattle.http_send.specs.Replies.{stream_head_text, chunk_head_text, chunk_tex
 use Rattle.line_stream.specs.Chunks.{sized, ended, place_behind, Carries}
 use Rattle.line_stream.specs.Standing.{IsLine, lines_bytes, Stands}
 use Rattle.line_stream.proofs.PieceLemmas.{carries-none, carries-one, carries-data, carries-append}
-use Rattle.stream_laws.specs.Streams.{stream_bytes, whole_stream, reader_at, StreamsStand}
-use Rattle.stream_laws.proofs.SizeLemmas.{size_line, size-printed, size-is-line, size-is, size-short}
-use Rattle.stream_laws.proofs.HeadLemmas.{stream-begins}
+use Rattle.line_stream.specs.Streams.{stream_bytes, whole_stream, reader_at, StreamsStand}
+use Rattle.line_stream.proofs.SizeLemmas.{size_line, size-printed, size-is-line, size-is, size-short}
+use Rattle.line_stream.proofs.StreamHeadLemmas.{stream-begins}
 use Rattle.line_stream.specs.declared.place.Place.{Place}
 use Rattle.line_stream.specs.declared.place.Place.TheVariants.{AtSize, Inside, Last, Over}
 

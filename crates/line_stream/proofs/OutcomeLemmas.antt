@@ -13,8 +13,8 @@ use Rattle.line_stream.specs.Readers.{ReaderData, most_line, Spends, FitsRoom, G
 use Rattle.line_stream.proofs.PieceLemmas.{pieces-agree}
 use Rattle.line_stream.proofs.ReaderLemmas.{goes-more}
 use Rattle.line_stream.proofs.IdleLemmas.{IsAhead, goings-agree, at-feed, feed-none}
-use Rattle.stream_laws.specs.Outcomes.{Outcome, whole, over, refused, HasOutcome, OutcomesAgree}
-use Rattle.stream_laws.proofs.AgreeLemmas.{nothing_over}
+use Rattle.line_stream.specs.Outcomes.{Outcome, whole, over, refused, HasOutcome, OutcomesAgree}
+use Rattle.line_stream.proofs.AgreeLemmas.{nothing_over}
 use Rattle.line_stream.specs.declared.place.Place.{Place}
 use Rattle.line_stream.specs.declared.place.Place.TheVariants.{AtSize, Inside, Last, Over}
 use Rattle.line_stream.specs.declared.refusal.LineNo.TheVariants.{BadHead, Refused, BadChunk, Overlong, Unfinished, Spent, CutShort, ReadFault, Memory}

@@ -1,7 +1,6 @@
-//! That what is written of a log is read.
-#![tactic(auto)]
+//! Laws of the reading of records.
 
-ghost use Rattle.record_laws.specs.Lines.{LinesAreReadBack};
+ghost use Rattle.watch_record.specs.Laws.{LinesAreReadBack};
 
 /// The line that `log_lines` writes of a revision, as a store accepts it and with a change, is read as that revision.
 pub fn lines_are_read_back()

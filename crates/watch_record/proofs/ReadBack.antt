@@ -27,9 +27,9 @@ use Rattle.json_obj.proofs.AsShown.{allowed_by, none_by, as_shown, allowed-shown
 use Rattle.json_obj.proofs.PieceTexts.{quoted_then}
 use Rattle.json_obj.proofs.ReadBack.{read-compact_text}
 use Rattle.rev_log.specs.Changes.{ChangeData, HasItsKey}
-use Rattle.record_laws.specs.Lines.{IsStoredFor, LinesAreReadBack}
+use Rattle.watch_record.specs.Laws.{IsStoredFor, LinesAreReadBack}
 use Rattle.watch_record.specs.Revisions.{resource_member, change_text, line_front, recorded_line, text_of_change, Told, is_change, told_in, all_told, told_changes, text_of_told, is_line_of, IsChangeOf, AreChangesOf}
-use Rattle.record_laws.proofs.KeyTexts.{key-plain}
+use Rattle.watch_record.proofs.KeyTexts.{key-plain}
 use Rattle.watch_record.proofs.ReadLemmas.{same-length, revision-in-order}
 
 -- ---- a change's value, and its text

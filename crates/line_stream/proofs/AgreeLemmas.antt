@@ -11,8 +11,8 @@ use Rattle.line_stream.specs.Readers.{ReaderData, IsWithinLine}
 use Rattle.line_stream.specs.Standing.{IsLine, HoldsLines, lines_bytes, Stands}
 use Rattle.line_stream.proofs.PieceLemmas.{pieces-agree}
 use Rattle.line_stream.proofs.IdleLemmas.{within-none}
-use Rattle.stream_laws.specs.Streams.{reader_at, AreRead, StreamsReadBack, ReadingsAgree}
-use Rattle.stream_laws.proofs.StreamLemmas.{streams-stand}
+use Rattle.line_stream.specs.Streams.{reader_at, AreRead, StreamsReadBack, ReadingsAgree}
+use Rattle.line_stream.proofs.StreamLemmas.{streams-stand}
 use Rattle.line_stream.specs.declared.place.Place.{Place}
 use Rattle.line_stream.specs.declared.place.Place.TheVariants.{AtSize, Over}
 
