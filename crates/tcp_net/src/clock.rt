@@ -1,6 +1,6 @@
 //! The clock of a connection.
 
-ghost use Rattle.std.specs.Prelude.{◌≡◌, None};
+ghost use Rattle.std.specs.Prelude.{◌≡◌, ◌↔◌, IsTrue, None};
 
 use crate::connection::Connection;
 use bells::{Bell, Rung, Woken, has_left, has_room};
@@ -83,7 +83,14 @@ impl<R: std::time::Clock + Wait> Rung for PeerClock<R> {
             }
         }
         let woken = self.bell.rest(&self.rt, count, &self.peer, ms);
-        self.has_left = self.has_left || woken == Woken::Left;
+        self.has_left = self.has_left || is_leave(woken);
         true
     }
+}
+
+// Whether a rest ended since the peer has left, and not for its time or a ring.
+fn is_leave(woken: Woken) -> bool
+    ensures { IsTrue result ↔ (woken ≡ Woken.Left) }
+{
+    woken == Woken::Left
 }

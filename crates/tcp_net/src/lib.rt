@@ -5,9 +5,12 @@
 mod clock;
 mod connection;
 mod ends;
+mod line;
 mod net;
 mod port;
 mod remedy;
+mod waits;
+mod way;
 
 pub use clock::PeerClock;
 pub use connection::Connection;

@@ -4,6 +4,7 @@ ghost use Rattle.std.specs.Prelude.{◌≡◌, None, IfOk};
 
 use crate::connection::Connection;
 use crate::ends::ends_of;
+use crate::line::Side;
 use crate::port::{LoopbackPort, loopback};
 use edge_io::{Failed, Net, ReadEnd, WriteEnd};
 use std::alloc::Global;
@@ -103,6 +104,10 @@ fn connect<R: std::net::Net<Stream = TcpStream>>(
 ) -> io::Result<(ReadEnd<Connection>, WriteEnd<Connection>)>
     ensures { IfOk result (λ ends. (ends.0.faults ≡ 0) × (ends.1.faults ≡ 0)) }
 {
-    let (source, sink, _peer) = ends_of(alloc, TcpStream::connect(rt, loopback(port))?)?;
+    let (source, sink, _peer) = ends_of(
+        alloc,
+        TcpStream::connect(rt, loopback(port))?,
+        Side::Program,
+    )?;
     Ok((source, sink))
 }

@@ -1,21 +1,24 @@
 //! A port that connections are accepted at.
 
 ghost use Rattle.std.specs.Prelude.{◌≡◌, IfOk};
+ghost use Rattle.tcp_net.specs.Places.{IsLoopback};
 
 use crate::clock::PeerClock;
 use crate::connection::Connection;
 use crate::ends::ends_of;
+use crate::line::Side;
 use crate::remedy::{Remedy, remedy_of};
 use bells::{Bell, listen_long};
 use edge_io::{Failed, Listener, ReadEnd, WriteEnd};
 use std::alloc::Global;
 use std::io::{Eprint, ErrorKind};
-use std::net::{Ipv4Addr, SocketAddr, TcpListener, TcpStream};
+use std::net::{IpAddr, Ipv4Addr, SocketAddr, TcpListener, TcpStream};
 use std::sync::Arc;
 use std::time::{Duration, Instant};
 use std::{io, thread};
 
-/// How many milliseconds pass until a connection is accepted again, where the system wants descriptors or memory.
+/// How many milliseconds pass until a connection is accepted again, where the system wants descriptors or memory, or
+/// doesn't let it be for another reason.
 const WANT_MS: u64 = 50;
 
 /// A TCP port of this machine's loopback address that connections are accepted at. It is never over. The clocks of its
@@ -52,8 +55,10 @@ where
 }
 
 /// This machine's loopback address at a port.
-pub(crate) fn loopback(port: u16) -> SocketAddr {
-    SocketAddr::from((Ipv4Addr::LOCALHOST, port))
+pub(crate) fn loopback(port: u16) -> SocketAddr
+    ensures { IsLoopback port result }
+{
+    SocketAddr::new(IpAddr::V4(Ipv4Addr::new(127, 0, 0, 1)), port)
 }
 
 impl<R> LoopbackPort<R> {
@@ -80,7 +85,7 @@ type Ends<R> = (ReadEnd<Connection>, WriteEnd<Connection>, PeerClock<R>);
 
 impl<R: std::time::Clock + Eprint + Copy> LoopbackPort<R> {
     // The next connection that can be set up. Those that can't, or that broke before they were accepted, are passed
-    // over, and where the system wants descriptors or memory, that is waited out, and said once.
+    // over. Where the system doesn't let any be accepted that is waited out, and said once.
     fn next_ends(&self) -> io::Result<Ends<R>> {
         let mut is_said = false;
         for _ in 0..u64::MAX {
@@ -91,26 +96,38 @@ impl<R: std::time::Clock + Eprint + Copy> LoopbackPort<R> {
                 },
                 Err(error) => error,
             };
-            match remedy_of(&error) {
+            match remedy_of(error.raw_os_error()) {
                 Remedy::GoOn => {}
                 Remedy::Wait => {
                     if !is_said {
-                        let _ = eprintln!(self.rt;
-                            "watchcache: connections wait for descriptors or memory: {error}"
-                        );
+                        self.say_waits(&error);
                         is_said = true;
                     }
                     thread::sleep(&self.rt, Duration::from_millis(WANT_MS));
                 }
-                Remedy::GiveUp => return Err(error),
+                Remedy::GiveUp => {
+                    self.say_ends(&error);
+                    return Err(error);
+                }
             }
         }
         Err(io::Error::from(ErrorKind::Other))
     }
 
+    // A line that can't be written is left out.
+    fn say_waits(&self, error: &io::Error) {
+        let _ = eprintln!(self.rt;
+            "watchcache: connections wait, since none can be accepted now: {error}"
+        );
+    }
+
+    fn say_ends(&self, error: &io::Error) {
+        let _ = eprintln!(self.rt; "watchcache: no connection can be accepted any more: {error}");
+    }
+
     // The ends and the clock of a connection.
     fn set_up(&self, stream: TcpStream) -> io::Result<Ends<R>> {
-        let (source, sink, peer) = ends_of(self.alloc, stream)?;
+        let (source, sink, peer) = ends_of(self.alloc, stream, Side::Client)?;
         let bell = Arc::new(self.alloc, Bell::new())?;
         let clock = PeerClock::since(self.rt, self.start, peer, bell);
         Ok((source, sink, clock))

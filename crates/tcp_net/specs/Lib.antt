@@ -1,0 +1,3 @@
+pub mod Remedies
+pub mod Waits
+pub mod Places
