@@ -1,12 +1,12 @@
 -- The texts by which the server describes itself, with the members that Kubernetes gives them (discovery in the API
 -- concepts; version.Info, APIVersions, APIGroupList, APIGroup, APIResourceList and Namespace in the API reference).
-use Rattle.std.specs.Prelude.{ℕ, Bool, true, false, ◌&&◌, List, [], ◌∷◌, ◌++◌, codes, map, filter, bytes_eq}
+use Rattle.std.specs.Prelude.{ℕ, ◌&&◌, List, [], ◌∷◌, ◌++◌, codes, map, filter, bytes_eq}
 use Rattle.std.specs.List.{concat}
 use Rattle.kube_meta.specs.Resources.{all_resources, plural_of, kind_of, group_of, version_of}
 use Rattle.kube_meta.specs.declared.resources.Resource.{Resource}
 use Rattle.kube_meta.specs.declared.resources.Resource.TheVariants.{Pods, ConfigMaps, Deployments}
 use Rattle.discovery.specs.declared.documents.Document.{Document}
-use Rattle.discovery.specs.declared.documents.Document.TheVariants.{Version, CoreVersions, Groups, AppsGroup, CoreResources, AppsResources, Namespace, Probe}
+use Rattle.discovery.specs.declared.documents.Document.TheVariants.{Version, CoreVersions, Groups, AppsGroup, CoreResources, AppsResources, OpenApi, Namespace, Probe}
 
 -- ---- resources
 
@@ -61,9 +61,16 @@ apps_version = codes "{\"groupVersion\":\"apps/v1\",\"version\":\"v1\"}"
 abbrev pub apps_members : List ℕ
 apps_members = concat (codes "\"name\":\"apps\",\"versions\":[" ∷ apps_version ∷ codes "],\"preferredVersion\":" ∷ apps_version ∷ [])
 
+-- ---- OpenAPI
+
+-- a `Document` of OpenAPI 2.0 that describes nothing, in protobuf: its field 1, `swagger`, with the length 4 and the text
+-- `2.0` and a line feed, which isn't here, since one ends each reply
+abbrev pub empty_open_api : List ℕ
+empty_open_api = 10 ∷ 4 ∷ codes "2.0"
+
 -- ---- the whole
 
--- the text of a document: JSON, and of a probe a plain text
+-- the text of a document: JSON, of a probe a plain text, and the OpenAPI document in protobuf
 abbrev pub document_text : Document → List ℕ
 document_text Version =
     codes "{\"major\":\"1\",\"minor\":\"32\",\"gitVersion\":\"v1.32.0+watchcache\",\"gitCommit\":\"\",\"gitTreeState\":\"\",\"buildDate\":\"\",\"goVersion\":\"\",\"compiler\":\"\",\"platform\":\"\"}"
@@ -76,13 +83,9 @@ document_text CoreResources =
 document_text AppsResources =
     concat (codes "{\"kind\":\"APIResourceList\",\"apiVersion\":\"v1\",\"groupVersion\":\"apps/v1\",\"resources\":["
     ∷ joined_items (map resource_text (resources_in (codes "apps") (codes "v1"))) ∷ codes "]}" ∷ [])
+document_text OpenApi = empty_open_api
 document_text (Namespace name) =
     concat (codes "{\"kind\":\"Namespace\",\"apiVersion\":\"v1\",\"metadata\":{\"name\":\"" ∷ name
     ∷ codes "\",\"labels\":{\"kubernetes.io/metadata.name\":\"" ∷ name
     ∷ codes "\"}},\"spec\":{\"finalizers\":[\"kubernetes\"]},\"status\":{\"phase\":\"Active\"}}" ∷ [])
 document_text (Probe probe) = codes "ok"
-
--- the document answers a probe
-abbrev pub is_probe_of : Document → Bool
-is_probe_of (Probe probe) = true
-is_probe_of document = false

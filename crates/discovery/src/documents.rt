@@ -2,11 +2,11 @@
 
 ghost use Rattle.std.specs.Prelude.{◌≡◌};
 ghost use Rattle.std.specs.List.{flat_map};
-ghost use Rattle.discovery.specs.Documents.{document_text, is_probe_of};
+ghost use Rattle.discovery.specs.Documents.{document_text};
 
 use crate::texts::{
     APPS_GROUP, APPS_RESOURCES, CORE_RESOURCES, CORE_VERSIONS, GROUPS, NAMESPACE_BACK,
-    NAMESPACE_FRONT, NAMESPACE_MIDDLE, PROBED, VERSION,
+    NAMESPACE_FRONT, NAMESPACE_MIDDLE, OPEN_API, PROBED, VERSION,
 };
 use kube_meta::Text;
 
@@ -25,6 +25,9 @@ pub enum Document {
     CoreResources,
     /// The resources of the version of the group `apps`.
     AppsResources,
+    /// The OpenAPI document, which describes no resource. Clients ask for it before they send an object, to test that
+    /// object by it.
+    OpenApi,
     /// The namespace of this name. Each is there.
     Namespace(Text),
     /// That the server is up.
@@ -48,7 +51,8 @@ fn alone<'a>(text: &'a [u8]) -> [&'a [u8]; 5]
 }
 
 impl Document {
-    /// The text of the document, in pieces that stand one after the other: JSON, and of a probe a plain text.
+    /// The text of the document, in pieces that stand one after the other: JSON, of a probe a plain text, and the OpenAPI
+    /// document in protobuf, without the line feed with which that ends.
     pub fn pieces(&self) -> [&[u8]; 5]
         ensures { flat_map (λ piece. piece.now) result ≡ document_text self.now }
     {
@@ -59,6 +63,7 @@ impl Document {
             Document::AppsGroup => alone(APPS_GROUP),
             Document::CoreResources => alone(CORE_RESOURCES),
             Document::AppsResources => alone(APPS_RESOURCES),
+            Document::OpenApi => alone(OPEN_API),
             Document::Namespace(ns) => {
                 let name = ns.as_str().as_bytes();
                 [
@@ -71,12 +76,5 @@ impl Document {
             }
             Document::Probe(_) => alone(PROBED),
         }
-    }
-
-    /// Whether the document answers a probe, so that its text is plain.
-    pub fn is_probe(&self) -> bool
-        ensures { result ≡ is_probe_of self.now }
-    {
-        matches!(self, Document::Probe(_))
     }
 }

@@ -4,7 +4,7 @@ use Rattle.std.specs.List.{concat}
 use Rattle.std.specs.Fmt.{digits}
 use Rattle.http.specs.StatusCode.{reason_phrase}
 use Rattle.http_send.specs.declared.replies.ContentType.{ContentType}
-use Rattle.http_send.specs.declared.replies.ContentType.TheVariants.{Json, PlainText, MetricsText}
+use Rattle.http_send.specs.declared.replies.ContentType.TheVariants.{Json, PlainText, MetricsText, OpenApi}
 
 -- the end of a line
 abbrev pub crlf : List ℕ
@@ -23,6 +23,7 @@ abbrev pub content_type_line : ContentType → List ℕ
 content_type_line Json = codes "\r\nContent-Type: application/json"
 content_type_line PlainText = codes "\r\nContent-Type: text/plain; charset=utf-8"
 content_type_line MetricsText = codes "\r\nContent-Type: text/plain; version=0.0.4; charset=utf-8"
+content_type_line OpenApi = codes "\r\nContent-Type: application/com.github.proto-openapi.spec.v2.v1.0+protobuf"
 
 -- the head of a reply whose body is of this kind and has `n` bytes: the status line and the field lines, each ended by
 -- the line end that the next one begins with, and the empty line

@@ -20,6 +20,8 @@ pub enum ContentType {
     PlainText,
     /// The same, in version 0.0.4 of the text format of Prometheus.
     MetricsText,
+    /// An OpenAPI document, in protobuf.
+    OpenApi,
 }
 
 // The standard reason phrase of a status code, empty where it has none.
@@ -48,6 +50,9 @@ fn content_type_line(kind: ContentType) -> &'static [u8]
         ContentType::PlainText => b"\r\nContent-Type: text/plain; charset=utf-8",
         ContentType::MetricsText => {
             b"\r\nContent-Type: text/plain; version=0.0.4; charset=utf-8"
+        }
+        ContentType::OpenApi => {
+            b"\r\nContent-Type: application/com.github.proto-openapi.spec.v2.v1.0+protobuf"
         }
     }
 }
