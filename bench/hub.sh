@@ -1,5 +1,5 @@
 #!/usr/bin/env bash
-# Times what a cache takes in with 0, 50 and 1,000 lanes, and reads of its store, each beside its plain fellow, all in one
+# Times what a cache takes in with 0, 50 and 1,000 lanes, and reads of its store beside copies of a list, all in one
 # run, by the program that bench/run built. It prints the figures, and ends with status 1 where a change costs more than one
 # and a half times as much with 1,000 lanes as with 50, of which it touches the same one.
 set -euo pipefail

@@ -1,7 +1,8 @@
 //! The plain fellow of `watchcache serve`: a thread for each connection, one sorted map behind a lock, and a list of all
 //! lines that were told. It creates, replaces, gets and lists pods of one namespace, and lets them be watched. It
 //! parses no JSON: it looks for names and labels where the client of this folder writes them, and leaves out all checks,
-//! so it is what a server of this form costs at least.
+//! so it is what a server of this form costs at least. Its word is a port; with the word `session` it answers what stands on
+//! standard input.
 use std::collections::BTreeMap;
 use std::io::{self, BufWriter, Read, Write};
 use std::net::{TcpListener, TcpStream};
@@ -35,10 +36,13 @@ struct Request {
 }
 
 fn main() -> io::Result<()> {
-    let port = std::env::args().nth(1).expect("a port");
-    let listener = TcpListener::bind(format!("127.0.0.1:{port}"))?;
+    let word = std::env::args().nth(1).expect("a port");
     let log = Log { pods: BTreeMap::new(), lines: Vec::new() };
     let shared = Arc::new(Shared { log: Mutex::new(log), grew: Condvar::new() });
+    if word == "session" {
+        return answer(io::stdin().lock(), io::stdout().lock(), &shared);
+    }
+    let listener = TcpListener::bind(format!("127.0.0.1:{word}"))?;
     for stream in listener.incoming() {
         let (stream, shared) = (stream?, shared.clone());
         std::thread::spawn(move || serve(stream, &shared));
@@ -46,11 +50,14 @@ fn main() -> io::Result<()> {
     Ok(())
 }
 
-// Answers one request after the other.
 fn serve(stream: TcpStream, shared: &Shared) -> io::Result<()> {
     stream.set_nodelay(true)?;
-    let mut source = stream.try_clone()?;
-    let mut sink = BufWriter::with_capacity(BUFFER, stream);
+    answer(stream.try_clone()?, stream, shared)
+}
+
+// Answers one request after the other.
+fn answer(mut source: impl Read, sink: impl Write, shared: &Shared) -> io::Result<()> {
+    let mut sink = BufWriter::with_capacity(BUFFER, sink);
     let mut held = Vec::new();
     while let Some(request) = next_request(&mut source, &mut held)? {
         let name = name_in(&request.path);
@@ -65,7 +72,7 @@ fn serve(stream: TcpStream, shared: &Shared) -> io::Result<()> {
     Ok(())
 }
 
-fn next_request(source: &mut TcpStream, held: &mut Vec<u8>) -> io::Result<Option<Request>> {
+fn next_request(source: &mut impl Read, held: &mut Vec<u8>) -> io::Result<Option<Request>> {
     let end = loop {
         if let Some(at) = held.windows(4).position(|it| it == b"\r\n\r\n") {
             break at + 4;
@@ -93,7 +100,7 @@ fn next_request(source: &mut TcpStream, held: &mut Vec<u8>) -> io::Result<Option
     Ok(Some(Request { method, path: path.to_string(), query: query.to_string(), body }))
 }
 
-fn more(source: &mut TcpStream, held: &mut Vec<u8>) -> io::Result<bool> {
+fn more(source: &mut impl Read, held: &mut Vec<u8>) -> io::Result<bool> {
     let mut piece = [0; 16 * 1024];
     let count = source.read(&mut piece)?;
     held.extend_from_slice(&piece[..count]);
@@ -138,6 +145,9 @@ fn list(sink: &mut impl Write, shared: &Shared, query: &str) -> io::Result<()> {
     };
     if let Some((key, value)) = wanted {
         pods.retain(|pod| pod.labels.iter().any(|it| it.0 == key && it.1 == value));
+    }
+    if let Some(limit) = value(query, "limit").and_then(|it| it.parse().ok()) {
+        pods.truncate(limit);
     }
     let front: &[u8] = b"{\"apiVersion\":\"v1\",\"items\":[";
     let back = format!("],\"kind\":\"PodList\",\"metadata\":{{\"resourceVersion\":\"{revision}\"}}}}\n");
