@@ -319,7 +319,7 @@ def log_line(changes, at):
 
 
 def record_word(word):
-    """What a word of crates/part_cases/data/records/records.txt stands for."""
+    """What a word of tools/hostile/records/records.txt stands for."""
     name, _, rest = word.partition(":")
     if name == "H":
         members = {**MEMBERS, **dict(it.split("=", 1) for it in rest.split(";") if it)}
@@ -338,27 +338,21 @@ def record_word(word):
 
 
 def rows_of(name):
-    for line in open(f"{ROOT}/crates/part_cases/data/records/{name}", encoding="utf-8"):
+    for line in open(f"{ROOT}/tools/hostile/records/{name}", encoding="utf-8"):
         row = line.rstrip("\n").split("  #")[0]
         if " => " in row and not row.startswith("#"):
             yield row.rsplit(" => ", 1)
 
 
 def stored_records():
-    """The records of crates/part_cases, each with what is said of it."""
-    found = []
+    """The records of tools/hostile/records, each with what is said of it: a line, or None where it is a record."""
     for step, answer in rows_of("records.txt"):
-        words = step.split(" ")
-        if any(re.fullmatch(r"BYTES:\d{6,}", it) for it in words):
-            continue
-        data = b"".join(b"\xff" * int(it[6:]) if it.startswith("BYTES:") else record_word(it).encode() for it in words)
+        data = b"".join(b"\xff" * int(it[6:]) if it.startswith("BYTES:") else record_word(it).encode() for it in step.split(" "))
         name = answer.split(" ")[0]
-        found.append((data, None if name.isdigit() else f"record: {name}"))
+        yield data, None if name.isdigit() else f"record: {name}"
     for step, answer in rows_of("bodies.txt"):
         way, *numbers = answer.lower().split(" ")
-        said = f"lawful from {numbers[0]} to {numbers[1]}" if way == "lawful" else f"unlawful at line {numbers[0]}"
-        found.append((body_record(step), said))
-    return found
+        yield body_record(step), f"lawful from {numbers[0]} to {numbers[1]}" if way == "lawful" else f"unlawful at line {numbers[0]}"
 
 
 def shown(resource, key, label, at):
@@ -369,7 +363,7 @@ def shown(resource, key, label, at):
 
 
 def body_record(step):
-    """The record that a row of crates/part_cases/data/records/bodies.txt stands for."""
+    """The record that a row of tools/hostile/records/bodies.txt stands for."""
     numbers, log, namespace, query, body = step.split("|")
     first, floor, window = numbers.split()
     lines = [record_word("H:" + f'first={first};floor={floor};window={window};namespace="{namespace.strip()}"').replace(

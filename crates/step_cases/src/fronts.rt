@@ -10,7 +10,6 @@ use std::alloc::Global;
 use std::io;
 use std::marker::Brand;
 use std::rt::Runtime;
-use std::thread::{Threads, join};
 
 /// The greatest revision.
 const LAST: u64 = 1 << 62;
@@ -29,10 +28,10 @@ impl Entry for Note {
     ghost quiet = { λ n. record { number = n } };
 }
 
-/// The pen of a log, unless it was closed, and passes.
+/// The pen of a log, and passes.
 #[derive(Drop)]
 pub struct Fronts<N: LogName> {
-    pen: Option<Pen<Note, N>>,
+    pen: Pen<Note, N>,
     passes: Vec<Front<Note, N>>,
 }
 
@@ -42,7 +41,7 @@ impl<N: LogName> Fronts<N> {
         requires { made ≡ N.log }
     {
         Fronts {
-            pen: Some(start(made)),
+            pen: start(made),
             passes: Vec::new(alloc),
         }
     }
@@ -87,8 +86,6 @@ impl<N: LogName> Steps for Fronts<N> {
             "look" | "look-generation" | "look-floor" | "show" => read(self, verb, rest, told),
             "split" => return split_pass(self, place(rest), told),
             "meet" => meet(self, two_places(rest), told),
-            "share" => return share(self, two_places(rest), told),
-            "close" => close(self, told),
             _ => told.add(NO_STEP),
         }
         Ok(())
@@ -104,18 +101,12 @@ fn two_places(words: &str) -> (usize, usize) {
     (place(first), place(second))
 }
 
-/// What is told where the log was closed.
-const NO_PEN: &str = "the pen is gone";
-
 /// What is told where a pass isn't there.
 const NO_PASS: &str = "no such pass";
 
 /// The steps of the pen alone.
 fn write<N: LogName>(fronts: &mut Fronts<N>, verb: &str, at: u64, told: &mut Wording) {
-    let Some(pen) = &mut fronts.pen else {
-        told.add(NO_PEN);
-        return;
-    };
+    let pen = &mut fronts.pen;
     match verb {
         "commit" => commit_to(pen, at),
         "cut" if pen.generation() < LAST => {
@@ -129,13 +120,8 @@ fn write<N: LogName>(fronts: &mut Fronts<N>, verb: &str, at: u64, told: &mut Wor
 
 /// Adds a new pass.
 fn add_pass<N: LogName>(fronts: &mut Fronts<N>, told: &mut Wording) -> Result<(), Memory> {
-    match &mut fronts.pen {
-        Some(pen) => {
-            fronts.passes.push(pen.front()?)?;
-            tell_pen(pen, told);
-        }
-        None => told.add(NO_PEN),
-    }
+    fronts.passes.push(fronts.pen.front()?)?;
+    tell_pen(&fronts.pen, told);
     Ok(())
 }
 
@@ -194,24 +180,23 @@ fn tell_pass<N: LogName>(pass: &Front<Note, N>, told: &mut Wording) {
 
 /// Tells a pass all that the pen knows.
 fn tell<N: LogName>(fronts: &mut Fronts<N>, place: usize, told: &mut Wording) {
-    match (&mut fronts.pen, fronts.passes.get_mut(place)) {
-        (Some(pen), Some(pass)) => {
-            pen.meet(pass);
+    match fronts.passes.get_mut(place) {
+        Some(pass) => {
+            fronts.pen.meet(pass);
             tell_pass(pass, told);
         }
-        _ => told.add(NO_PASS),
+        None => told.add(NO_PASS),
     }
 }
 
 /// The pen learns a pass, which is gone then.
 fn learn<N: LogName>(fronts: &mut Fronts<N>, place: usize, told: &mut Wording) {
-    match &mut fronts.pen {
-        Some(pen) if place < fronts.passes.len() => {
-            let learnt = pen.learn(fronts.passes.remove(place)).is_ok();
-            told.add(if learnt { "learnt" } else { "not learnt" });
-        }
-        _ => told.add(NO_PASS),
+    if place >= fronts.passes.len() {
+        told.add(NO_PASS);
+        return;
     }
+    let learnt = fronts.pen.learn(fronts.passes.remove(place)).is_ok();
+    told.add(if learnt { "learnt" } else { "not learnt" });
 }
 
 /// A pass takes in one behind it, which is gone then.
@@ -227,105 +212,4 @@ fn meet<N: LogName>(fronts: &mut Fronts<N>, places: (usize, usize), told: &mut W
         let _ = pass.meet(other);
         tell_pass(pass, told);
     }
-}
-
-/// A pass and one behind it go on with what both know.
-fn share<N: LogName>(
-    fronts: &mut Fronts<N>,
-    places: (usize, usize),
-    told: &mut Wording,
-) -> Result<(), Memory> {
-    let (first, second) = places;
-    let passes = &mut fronts.passes;
-    if first >= second || second >= passes.len() {
-        told.add(NO_PASS);
-        return Ok(());
-    }
-    let mut other = passes.remove(second);
-    if let Some(pass) = passes.get_mut(first) {
-        pass.share(&mut other);
-        tell_pass(pass, told);
-    }
-    passes.insert(second, other)?;
-    Ok(())
-}
-
-/// Closes the log, where no pass is left.
-fn close<N: LogName>(fronts: &mut Fronts<N>, told: &mut Wording) {
-    match fronts.pen.take() {
-        Some(pen) => fronts.pen = close_by(pen, told),
-        None => told.add(NO_PEN),
-    }
-}
-
-/// Closes the log by its pen, which is given back where a pass is left.
-fn close_by<N: LogName>(pen: Pen<Note, N>, told: &mut Wording) -> Option<Pen<Note, N>> {
-    match pen.close() {
-        Ok(found) => {
-            told.debug(&found);
-            None
-        }
-        Err(pen) => {
-            told.add("a pass is left");
-            Some(pen)
-        }
-    }
-}
-
-/// One thread commits up to 51, and another one looks a hundred times; then their passes meet, and the pen learns.
-pub fn two_threads<R: Threads + Sync>(rt: &R, alloc: Global) -> Result<String, Memory> {
-    let mut told = Wording::new(alloc);
-    two_threads_at::<Brand, R>(rt, blank(alloc, 1)?, &mut told)?;
-    told.whole()
-}
-
-fn two_threads_at<N: LogName + Send + Sync, R: Threads + Sync>(
-    rt: &R,
-    made: Blank<Note>,
-    told: &mut Wording,
-) -> Result<(), Memory>
-    requires { made ≡ N.log }
-{
-    let mut pen: Pen<Note, N> = start(made);
-    let early = pen.front()?;
-    let ((pen, written), pass) = join(rt, move || committed(pen), move || looked(early));
-    tell_learnt(pen, met(pass, written?, told), told);
-    Ok(())
-}
-
-/// The pass that has met another one, told.
-fn met<N: LogName>(
-    mut pass: Front<Note, N>,
-    other: Front<Note, N>,
-    told: &mut Wording,
-) -> Front<Note, N> {
-    let _ = pass.meet(other);
-    tell_both(&pass, told);
-    pass
-}
-
-fn tell_learnt<N: LogName>(mut pen: Pen<Note, N>, pass: Front<Note, N>, told: &mut Wording) {
-    let learnt = pen.learn(pass).is_ok();
-    told.show(&format_args!(", learnt {learnt}, revision {}", pen.revision()));
-}
-
-fn tell_both<N: LogName>(pass: &Front<Note, N>, told: &mut Wording) {
-    let is_within = 1 <= pass.last() && pass.last() <= 51;
-    let place = if is_within { "within" } else { "outside" };
-    told.show(&format_args!("end {}, shown {}, last {place}", pass.end(), pass.shown()));
-}
-
-/// Commits fifty entries, and gives the pen back with a pass that has seen them.
-fn committed<N: LogName>(mut pen: Pen<Note, N>) -> (Pen<Note, N>, Result<Front<Note, N>, Memory>) {
-    commit_to(&mut pen, 51);
-    let written = pen.front();
-    (pen, written)
-}
-
-/// Looks a hundred times.
-fn looked<N: LogName>(mut pass: Front<Note, N>) -> Front<Note, N> {
-    for _ in 0..100 {
-        pass.look();
-    }
-    pass
 }

@@ -26,8 +26,7 @@ impl Steps for Lanes {
     fn answer(&mut self, alloc: Global, step: &str, told: &mut Wording) -> Result<(), Memory> {
         let (verb, rest) = split(step);
         match verb {
-            "add" => return add(alloc, self, None, rest, told),
-            "add-in" => return add_in(alloc, self, rest, told),
+            "add" => return add(alloc, self, rest, told),
             "drop" => {
                 self.index.drop_lane(number(rest));
                 told.add("ok");
@@ -39,28 +38,29 @@ impl Steps for Lanes {
     }
 }
 
-/// Adds a lane in a namespace.
-fn add_in(alloc: Global, lanes: &mut Lanes, text: &str, told: &mut Wording) -> Result<(), Memory> {
+/// Adds a lane in a namespace, or with `*` in all.
+fn add(alloc: Global, lanes: &mut Lanes, text: &str, told: &mut Wording) -> Result<(), Memory> {
     let (ns, lane) = split(text);
-    let ns = Text::new(alloc, ns)?;
-    add(alloc, lanes, Some(ns), lane, told)
+    let (id, fields) = split(lane);
+    match selection(alloc, ns, fields)? {
+        Some(selection) => {
+            told.add("ok");
+            lanes.index.add(number(id), &selection)
+        }
+        None => {
+            told.add("no selection");
+            Ok(())
+        }
+    }
 }
 
-/// Adds a lane in a namespace, or in all.
-fn add(
-    alloc: Global,
-    lanes: &mut Lanes,
-    ns: Option<Text>,
-    text: &str,
-    told: &mut Wording,
-) -> Result<(), Memory> {
-    let (id, fields) = split(text);
-    let Ok(selection) = Selection::read(alloc, Resource::Pods, ns, "", fields) else {
-        told.add("no selection");
-        return Ok(());
+/// The pods of a namespace, or of all, that a field selector asks for, if it is one.
+fn selection(alloc: Global, ns: &str, fields: &str) -> Result<Option<Selection>, Memory> {
+    let ns = match ns {
+        "*" => None,
+        _ => Some(Text::new(alloc, ns)?),
     };
-    told.add("ok");
-    lanes.index.add(number(id), &selection)
+    Ok(Selection::read(alloc, Resource::Pods, ns, "", fields).ok())
 }
 
 /// The lanes that are told of a change from one pod to another.

@@ -1,31 +1,24 @@
-//! Steps on one part: ends, replies, WebSockets, labels, logs, passes, rings, trees, lanes.
+//! Steps on one part: readers of texts, ends and replies, logs and their passes, rings, trees, lanes.
 //!
 //! `part_cases` reads the rows. They stand apart from it, since they need few crates, and so are proved sooner.
 #![tactic(auto)]
 
 mod answers;
 mod ends;
-mod faults;
-mod frames;
 mod fronts;
 mod lanes;
 mod logs;
-mod objects;
-mod replies;
+mod readers;
 mod rings;
-mod spaces;
 mod things;
 mod trees;
 
 use case_rows::{Lines, Steps, Tally, run_rows};
 use ends::Ends;
-pub use ends::send;
-use frames::Frames;
-pub use fronts::{run_passes, two_threads};
+pub use fronts::run_passes;
 use lanes::Lanes;
 use logs::Logs;
-use objects::Objects;
-use replies::Replies;
+use readers::Readers;
 use rings::Rings;
 use std::alloc::Global;
 use std::io;
@@ -40,10 +33,8 @@ pub fn run_steps<R: Runtime>(
     tally: &mut Tally,
 ) -> io::Result<()> {
     match lines.file {
-        "ends.txt" => run_on(rt, alloc, lines, Ends::new(alloc), tally),
-        "objects.txt" => run_on(rt, alloc, lines, Objects::new(alloc), tally),
-        "replies.txt" => run_on(rt, alloc, lines, Replies, tally),
-        "frames.txt" => run_on(rt, alloc, lines, Frames, tally),
+        "readers.txt" => run_on(rt, alloc, lines, Readers, tally),
+        "ends.txt" => run_on(rt, alloc, lines, Ends, tally),
         "rings.txt" => run_on(rt, alloc, lines, Rings::new(alloc)?, tally),
         "trees.txt" => run_on(rt, alloc, lines, Trees::new(alloc)?, tally),
         "logs.txt" => run_on(rt, alloc, lines, Logs::new(alloc), tally),

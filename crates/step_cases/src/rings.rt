@@ -1,17 +1,10 @@
 //! Rings of events.
 
-ghost use Rattle.std.specs.Prelude.{◌≡◌, true};
-ghost use Rattle.std.specs.Cmp.Lexicographic.{slice_cmp};
-ghost use Rattle.std.specs.Ordering.{nat_cmp};
-ghost use Rattle.std.specs.declared.cmp.Ordering.TheVariants.{Less};
-
-use crate::answers::{tell_next, tell_one};
-use crate::things::{revision, shown};
+use crate::answers::tell_next;
 use case_rows::{NO_STEP, Steps, Wording, key, number, split};
 use event_ring::{Event, Ring, Span};
-use kube_meta::{Key, Memory};
+use kube_meta::Memory;
 use std::alloc::Global;
-use std::cmp::Ordering;
 
 /// The most that a ring holds.
 const MOST: u64 = 102_400;
@@ -38,11 +31,9 @@ impl Steps for Rings {
             "ring" => return open(alloc, self, rest, told),
             "state" => tell_state(&self.ring, told),
             "push" => return push(alloc, self, rest, told),
-            "pair" => return push_two(alloc, self, number(rest), told),
             "fit" => return fit(self, number(rest), told),
             "clear" => clear(self, number(rest), told),
             "since" => since(self, number(rest), told),
-            "left" => return left(alloc, rest, told),
             _ => told.add(NO_STEP),
         }
         Ok(())
@@ -90,11 +81,6 @@ fn push(alloc: Global, rings: &mut Rings, text: &str, told: &mut Wording) -> Res
     Ok(())
 }
 
-fn push_two(alloc: Global, rings: &mut Rings, rev: u64, told: &mut Wording) -> Result<(), Memory> {
-    tell_dropped(push_pair(alloc, &mut rings.ring, rev)?, told);
-    Ok(())
-}
-
 fn tell_dropped(dropped: Option<u64>, told: &mut Wording) {
     match dropped {
         Some(count) => told.show(&format_args!("{count} dropped")),
@@ -110,29 +96,6 @@ fn push_one(alloc: Global, ring: &mut Ring, rev: u64, now: u64) -> Result<Option
     let mut events = Vec::new(alloc);
     events.push(Event::new(alloc, rev, key(alloc, "web")?, None, None)?)?;
     Ok(Some(ring.push_revision(events, now)))
-}
-
-/// Pushes the two events of one revision at the time 0, if that is above those before; else nothing.
-fn push_pair(alloc: Global, ring: &mut Ring, rev: u64) -> Result<Option<u64>, Memory> {
-    let first = Event::new(alloc, rev, key(alloc, "api")?, None, None)?;
-    let second = Event::new(alloc, rev, key(alloc, "web")?, None, None)?;
-    if rev <= ring.last() || !rises(&first.key, &second.key) {
-        return Ok(None);
-    }
-    let mut events = Vec::new(alloc);
-    events.push(first)?;
-    events.push(second)?;
-    Ok(Some(ring.push_revision(events, 0)))
-}
-
-/// Whether the second key is above the first.
-fn rises(first: &Key, second: &Key) -> bool
-    ensures { result ≡ true → slice_cmp nat_cmp first.now second.now ≡ Less }
-{
-    match first.cmp(second) {
-        Ordering::Less => true,
-        _ => false,
-    }
 }
 
 fn since(rings: &Rings, at: u64, told: &mut Wording) {
@@ -152,27 +115,4 @@ fn tell_span(span: &Span<'_>, told: &mut Wording) {
             tell_next(place, event.rev, told);
         }
     }
-}
-
-/// The revisions of the three objects of a change.
-fn left(alloc: Global, text: &str, told: &mut Wording) -> Result<(), Memory> {
-    let (old, new) = split(text);
-    tell_left(&changed(alloc, number(old), number(new))?, told);
-    Ok(())
-}
-
-fn tell_left(event: &Event, told: &mut Wording) {
-    told.add("before ");
-    tell_one(revision(event.before.as_ref()), told);
-    told.add(", now ");
-    tell_one(revision(event.now.as_ref()), told);
-    told.add(", left ");
-    tell_one(revision(event.left.as_ref()), told);
-}
-
-fn changed(alloc: Global, old: u64, new: u64) -> Result<Event, Memory> {
-    let key = key(alloc, "web")?;
-    let before = shown(alloc, key.clone()?, old)?;
-    let now = shown(alloc, key.clone()?, new)?;
-    Event::new(alloc, new, key, Some(before), Some(now))
 }

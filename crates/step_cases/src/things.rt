@@ -16,11 +16,3 @@ pub fn shown(alloc: Global, key: Key, rev: u64) -> Result<Arc<Shown>, Memory>
     let obj = Arc::new(alloc, object(alloc, key)?)?;
     Shown::new(alloc, Row { obj, rev })
 }
-
-/// The revision of an object, if there is one.
-pub fn revision(shown: Option<&Arc<Shown>>) -> Option<u64> {
-    match shown {
-        Some(shown) => Some(shown.row().rev),
-        None => None,
-    }
-}
