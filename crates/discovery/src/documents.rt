@@ -51,8 +51,8 @@ fn alone<'a>(text: &'a [u8]) -> [&'a [u8]; 5]
 }
 
 impl Document {
-    /// The text of the document, in pieces that stand one after the other: JSON, of a probe a plain text, and the OpenAPI
-    /// document in protobuf, without the line feed with which that ends.
+    /// The text of the document, in pieces that stand one after the other: JSON, of a probe a plain text, and the
+    /// OpenAPI document in protobuf, without the line feed with which that ends.
     pub fn pieces(&self) -> [&[u8]; 5]
         ensures { flat_map (λ piece. piece.now) result ≡ document_text self.now }
     {

@@ -26,8 +26,8 @@ pub(crate) const NAMESPACE_MIDDLE: &[u8] = br#"","labels":{"kubernetes.io/metada
 pub(crate) const NAMESPACE_BACK: &[u8] =
     br#""}},"spec":{"finalizers":["kubernetes"]},"status":{"phase":"Active"}}"#;
 
-// The field 1 of a `Document` of OpenAPI, `swagger`, in protobuf: a text of 4 bytes, of which the line feed that ends each
-// reply is the last.
+// The field 1 of a `Document` of OpenAPI, `swagger`, in protobuf: a text of 4 bytes, of which the line feed that ends
+// each reply is the last.
 pub(crate) const OPEN_API: &[u8] = b"\x0a\x042.0";
 
 pub(crate) const PROBED: &[u8] = b"ok";
