@@ -1,11 +1,15 @@
 -- The options of the commands: each takes one number, which lies in a range, and is usual where it isn't given. Which words
 -- give which value is clap's own rule for a command of these options.
-use Rattle.std.specs.Prelude.{◌≡◌, ◌≢◌, ◌⊎◌, ℕ, ◌^◌, List, [], ◌&&◌, Option, Some, None, Result, Ok, Err, nat_le, option_and_then, option_map, codes, if◌then◌else◌, ⊤}
+use Rattle.std.specs.Prelude.{◌≡◌, ◌≢◌, ◌⊎◌, ℕ, ◌^◌, List, [], ◌&&◌, Option, Some, None, is_some, Result, Ok, Err, nat_le, codes, if◌then◌else◌, ⊤}
 use Rattle.clap.specs.Words.{App, Row, Rule, Text, fault_of, first_of, matches_of, new_app, new_rule, with_rule}
 use Rattle.clap.specs.declared.error.kind.ErrorKind.{ErrorKind}
 use Rattle.clap.specs.declared.error.kind.ErrorKind.TheVariants.{OutOfMemory}
 use Rattle.command_line.specs.declared.asked.LoadOptions.{LoadOptions}
 use Rattle.command_line.specs.declared.asked.ServeOptions.{ServeOptions}
+use Rattle.command_line.specs.declared.asked.OptionName.{OptionName}
+use Rattle.command_line.specs.declared.asked.OptionName.TheVariants.{Window, WindowMax, FreshMs, Lane, Batch, History, BookmarkMs, TimeoutS, Port, Workers, Open, Connections, Peer, FirstRevision, From, Requests}
+use Rattle.command_line.specs.declared.asked.Fault.{Fault}
+use Rattle.command_line.specs.declared.asked.Fault.TheVariants.{Misused, OutOfRange, FirstWithPeer}
 use Rattle.command_line.specs.declared.asked.WordsNo.{WordsNo}
 use Rattle.command_line.specs.declared.asked.WordsNo.TheVariants.{Bad, Memory}
 use Rattle.kube_meta.specs.Revisions.{revision_of}
@@ -28,11 +32,13 @@ with_settings command =
 abbrev pub session : App
 session = with_settings (new_app (codes "session"))
 
--- the command `serve` as clap knows it: it is set as a session is, takes connections at a port, and may have a peer
+-- the command `serve` as clap knows it: it is set as a session is, takes connections at a port, and has a
+-- peer or a first revision, or neither
 abbrev pub serve : App
 serve =
-    with_rule (with_rule (with_rule (with_rule (with_rule (with_settings (new_app (codes "serve")))
-    (option (codes "port"))) (option (codes "workers"))) (option (codes "open"))) (option (codes "connections"))) (option (codes "peer"))
+    with_rule (with_rule (with_rule (with_rule (with_rule (with_rule (with_settings (new_app (codes "serve")))
+    (option (codes "port"))) (option (codes "workers"))) (option (codes "open"))) (option (codes "connections")))
+    (option (codes "peer"))) (option (codes "first-revision"))
 
 -- the command `load` as clap knows it: from what its requests are drawn, and how many
 abbrev pub load : App
@@ -42,88 +48,131 @@ load = with_rule (with_rule (new_app (codes "load")) (option (codes "from"))) (o
 abbrev pub check : App
 check = new_app (codes "check")
 
+-- the name of an option, as it is written behind `--`
+abbrev pub option_text : OptionName → Text
+option_text Window = codes "window"
+option_text WindowMax = codes "window-max"
+option_text FreshMs = codes "fresh-ms"
+option_text Lane = codes "lane"
+option_text Batch = codes "batch"
+option_text History = codes "history"
+option_text BookmarkMs = codes "bookmark-ms"
+option_text TimeoutS = codes "timeout-s"
+option_text Port = codes "port"
+option_text Workers = codes "workers"
+option_text Open = codes "open"
+option_text Connections = codes "connections"
+option_text Peer = codes "peer"
+option_text FirstRevision = codes "first-revision"
+option_text From = codes "from"
+option_text Requests = codes "requests"
+
+-- what comes of a value that was read, or its fault
+abbrev pub and_then : {A B : Type 0} → (A → Result B Fault) → Result A Fault → Result B Fault
+and_then next (Ok value) = next value
+and_then next (Err fault) = Err fault
+
 -- the number, if it lies in the range from `low` to `high`
-abbrev pub bounded : ℕ → ℕ → ℕ → Option ℕ
-bounded low high n = if nat_le low n && nat_le n high then Some n else None
+abbrev pub bounded : OptionName → ℕ → ℕ → ℕ → Result ℕ Fault
+bounded name low high n = if nat_le low n && nat_le n high then Ok n else Err (OutOfRange name low high)
 
 -- the number that a text was read as, if it was read and lies in the range
-abbrev pub within : ℕ → ℕ → Result ℕ RevNo → Option ℕ
-within low high (Ok n) = bounded low high n
-within low high (Err fault) = None
+abbrev pub within : OptionName → ℕ → ℕ → Result ℕ RevNo → Result ℕ Fault
+within name low high (Ok n) = bounded name low high n
+within name low high (Err fault) = Err (OutOfRange name low high)
 
 -- what is given for an option, in decimal digits
-abbrev pub option_number : ℕ → ℕ → ℕ → Option Text → Option ℕ
-option_number low high default None = Some default
-option_number low high default (Some text) = within low high (revision_of text)
+abbrev pub option_number : OptionName → ℕ → ℕ → ℕ → Option Text → Result ℕ Fault
+option_number name low high default None = Ok default
+option_number name low high default (Some text) = within name low high (revision_of text)
 
 -- what is given for an option that has no usual number, if anything is
-abbrev pub optional : ℕ → ℕ → Option Text → Option (Option ℕ)
-optional low high None = Some None
-optional low high (Some text) = option_map (λ n. Some n) (within low high (revision_of text))
+abbrev pub optional_number : OptionName → ℕ → ℕ → Option Text → Result (Option ℕ) Fault
+optional_number name low high None = Ok None
+optional_number name low high (Some text) = and_then (λ n. Ok (Some n)) (within name low high (revision_of text))
 
--- ---- what the options of a command give; nothing where a number isn't in its range
+-- the same of what clap found
+abbrev pub number : List Row → OptionName → ℕ → ℕ → ℕ → Result ℕ Fault
+number rows name low high default = option_number name low high default (first_of (option_text name) rows)
+
+abbrev pub optional : List Row → OptionName → ℕ → ℕ → Result (Option ℕ) Fault
+optional rows name low high = optional_number name low high (first_of (option_text name) rows)
+
+-- ---- what the options of a command give; or the first fault, in the order in which the options are looked at
 
 -- the settings with what is given of a watch's times: seconds that it lasts, and milliseconds between its bookmarks
-abbrev pub with_watches : List Row → Settings → Option Settings
+abbrev pub with_watches : List Row → Settings → Result Settings Fault
 with_watches rows s =
-    option_and_then (λ bookmark. option_map (λ timeout. record s { bookmark_ms = bookmark; timeout_s = timeout })
-    (option_number 1 1000000 usual.timeout_s (first_of (codes "timeout-s") rows)))
-    (option_number 1 86400000 usual.bookmark_ms (first_of (codes "bookmark-ms") rows))
+    and_then (λ bookmark. and_then (λ timeout. Ok (record s { bookmark_ms = bookmark; timeout_s = timeout }))
+    (number rows TimeoutS 1 1000000 usual.timeout_s))
+    (number rows BookmarkMs 1 86400000 usual.bookmark_ms)
 
 -- the settings with what is given of how much waits for a watcher and is told at once, and of a watch's times
-abbrev pub with_turns : List Row → Settings → Option Settings
+abbrev pub with_turns : List Row → Settings → Result Settings Fault
 with_turns rows s =
-    option_and_then (λ lane. option_and_then (λ batch. with_watches rows (record s { lane = lane; batch = batch }))
-    (option_number 1 10000 usual.batch (first_of (codes "batch") rows)))
-    (option_number 1 1024 usual.lane (first_of (codes "lane") rows))
+    and_then (λ lane. and_then (λ batch. with_watches rows (record s { lane = lane; batch = batch }))
+    (number rows Batch 1 10000 usual.batch))
+    (number rows Lane 1 1024 usual.lane)
 
 -- the settings with what is given of how long changes are kept, in milliseconds, of how many states are, and of watches
-abbrev pub with_ages : List Row → Settings → Option Settings
+abbrev pub with_ages : List Row → Settings → Result Settings Fault
 with_ages rows s =
-    option_and_then (λ fresh. option_and_then (λ history. with_turns rows (record s { fresh_ms = fresh; history = history }))
-    (option_number 1 1000000 usual.history (first_of (codes "history") rows)))
-    (option_number 1 86400000 usual.fresh_ms (first_of (codes "fresh-ms") rows))
+    and_then (λ fresh. and_then (λ history. with_turns rows (record s { fresh_ms = fresh; history = history }))
+    (number rows History 1 1000000 usual.history))
+    (number rows FreshMs 1 86400000 usual.fresh_ms)
 
 -- the settings that are given; the greatest window is at least the window, and is the window where it isn't given
-abbrev pub settings_of : List Row → Option Settings
+abbrev pub settings_of : List Row → Result Settings Fault
 settings_of rows =
-    option_and_then (λ window. option_and_then (λ most. with_ages rows (record usual { window = window; window_max = most }))
-    (option_number window 102400 window (first_of (codes "window-max") rows)))
-    (option_number 1 102400 usual.window (first_of (codes "window") rows))
+    and_then (λ window. and_then (λ most. with_ages rows (record usual { window = window; window_max = most }))
+    (number rows WindowMax window 102400 window))
+    (number rows Window 1 102400 usual.window)
 
--- a server's options with what is given of its peer
-abbrev pub with_peer : List Row → ServeOptions → Option ServeOptions
+-- a server's options with the revision of its empty log, 1 where none is given; none may be where there is a peer, whose list
+-- says where a mirror's log begins
+abbrev pub with_first : List Row → ServeOptions → Result ServeOptions Fault
+with_first rows options =
+    if is_some options.peer && is_some (first_of (option_text FirstRevision) rows) then Err FirstWithPeer
+    else and_then (λ first. Ok (record options { first = first })) (number rows FirstRevision 1 (2 ^ 62) 1)
+
+-- a server's options with what is given of its peer, and of where its log begins
+abbrev pub with_peer : List Row → ServeOptions → Result ServeOptions Fault
 with_peer rows options =
-    option_map (λ given. record options { peer = given }) (optional 1 65535 (first_of (codes "peer") rows))
+    and_then (λ given. with_first rows (record options { peer = given })) (optional rows Peer 1 65535)
 
--- how a server is set: the settings, and what is given of its port, its workers, the connections that it takes and its peer
-abbrev pub with_connections : List Row → Settings → Option ServeOptions
+-- how a server is set: the settings, and what is given of its port, its workers, the connections that it takes, its peer and
+-- its log
+abbrev pub with_connections : List Row → Settings → Result ServeOptions Fault
 with_connections rows settings =
-    option_and_then (λ port. option_and_then (λ workers. option_and_then (λ open_at_once. option_and_then (λ connections. with_peer rows (record { port = port; workers = workers; «open» = open_at_once; connections = connections; peer = None; settings = settings }))
-    (option_number 0 (2 ^ 62) 0 (first_of (codes "connections") rows)))
-    (option_number 1 65536 16384 (first_of (codes "open") rows)))
-    (option_number 1 64 4 (first_of (codes "workers") rows)))
-    (option_number 0 65535 8001 (first_of (codes "port") rows))
+    and_then (λ port. and_then (λ workers. and_then (λ open_at_once. and_then (λ connections. with_peer rows (record { port = port; workers = workers; «open» = open_at_once; connections = connections; peer = None; first = 1; settings = settings }))
+    (number rows Connections 0 (2 ^ 62) 0))
+    (number rows Open 1 65536 16384))
+    (number rows Workers 1 64 4))
+    (number rows Port 0 65535 8001)
 
 -- how a server is set by all options of `serve`
-abbrev pub serve_of : List Row → Option ServeOptions
-serve_of rows = option_and_then (λ settings. with_connections rows settings) (settings_of rows)
+abbrev pub serve_of : List Row → Result ServeOptions Fault
+serve_of rows = and_then (λ settings. with_connections rows settings) (settings_of rows)
 
 -- the load that the options of `load` ask for
-abbrev pub load_of : List Row → Option LoadOptions
+abbrev pub load_of : List Row → Result LoadOptions Fault
 load_of rows =
-    option_and_then (λ from. option_map (λ requests. record { from = from; requests = requests })
-    (option_number 0 100000 1000 (first_of (codes "requests") rows)))
-    (option_number 0 (2 ^ 62) 1 (first_of (codes "from") rows))
+    and_then (λ from. and_then (λ requests. Ok (record { from = from; requests = requests }))
+    (number rows Requests 0 100000 1000))
+    (number rows From 0 (2 ^ 62) 1)
 
 -- ---- the words of a command
 
--- clap finds no fault with the words, and their options give this; or it finds one, or a number isn't in its range
-abbrev pub ReadsOptions : {A : Type 0} → App → (List Row → Option A) → List Text → Result A WordsNo → Type 0
+-- clap found a fault with them
+abbrev pub IsMisused : App → List Text → Fault → Type 0
+IsMisused command words fault = (fault ≡ Misused) × (fault_of command words ≢ [])
+
+-- clap finds no fault with the words, and their options give this, or are at fault; or clap finds one
+abbrev pub ReadsOptions : {A : Type 0} → App → (List Row → Result A Fault) → List Text → Result A WordsNo → Type 0
 ReadsOptions command options_of words (Ok options) =
-    (fault_of command words ≡ []) × (options_of (matches_of command words) ≡ Some options)
-ReadsOptions command options_of words (Err Bad) =
-    (fault_of command words ≢ []) ⊎ (options_of (matches_of command words) ≡ None)
+    (fault_of command words ≡ []) × (options_of (matches_of command words) ≡ Ok options)
+ReadsOptions command options_of words (Err (Bad fault)) =
+    IsMisused command words fault ⊎ ((fault_of command words ≡ []) × (options_of (matches_of command words) ≡ Err fault))
 ReadsOptions command options_of words (Err Memory) = ⊤
 
 -- the words of the command `session` give these settings, or are refused
@@ -141,17 +190,17 @@ ReadsLoad words answer = ReadsOptions load load_of words answer
 -- a check has no options, so clap alone refuses its words
 abbrev pub ReadsCheck : List Text → Result Unit WordsNo → Type 0
 ReadsCheck words (Ok nothing) = fault_of check words ≡ []
-ReadsCheck words (Err Bad) = fault_of check words ≢ []
+ReadsCheck words (Err (Bad fault)) = IsMisused check words fault
 ReadsCheck words (Err Memory) = ⊤
 
 -- ---- why words are refused
 
--- clap found a fault with them
+-- clap found a fault with them, or there was no memory
 abbrev pub HasFault : App → List Text → WordsNo → Type 0
-HasFault command words Bad = fault_of command words ≢ []
+HasFault command words (Bad fault) = IsMisused command words fault
 HasFault command words Memory = ⊤
 
 -- why, by the kind of clap's error
 abbrev pub refusal : ErrorKind → WordsNo
 refusal OutOfMemory = Memory
-refusal other = Bad
+refusal other = Bad Misused

@@ -1,9 +1,11 @@
 -- What the words of a command line ask for.
-use Rattle.std.specs.Prelude.{◌≡◌, ℕ, ◌≤◌, ◌^◌, List, [], ◌∷◌, Bool, true, false, ◌&&◌, not, Result, Ok, Err, IfSome, codes, ⊤}
+use Rattle.std.specs.Prelude.{◌≡◌, ℕ, ◌≤◌, ◌^◌, List, [], ◌∷◌, Bool, true, false, ◌&&◌, ◌||◌, not, Result, Ok, Err, IfSome, codes, ⊤}
 use Rattle.std.specs.List.{list_any}
 use Rattle.std.specs.Str.{bytes_eq}
 use Rattle.command_line.specs.declared.asked.Asked.{Asked}
 use Rattle.command_line.specs.declared.asked.Asked.TheVariants.{Help, Version, Session, Serve, Load, Check}
+use Rattle.command_line.specs.declared.asked.Fault.{Fault}
+use Rattle.command_line.specs.declared.asked.Fault.TheVariants.{NoCommand}
 use Rattle.command_line.specs.declared.asked.ServeOptions.{ServeOptions}
 use Rattle.command_line.specs.declared.asked.WordsNo.{WordsNo}
 use Rattle.command_line.specs.declared.asked.WordsNo.TheVariants.{Bad, Memory}
@@ -19,17 +21,31 @@ abbrev pub begins_with : List ℕ → List (List ℕ) → Bool
 begins_with word [] = false
 begins_with word (first ∷ others) = bytes_eq first word
 
--- help is asked for, by `--help` at any place
+-- help is asked for, by `--help` or `-h` at any place
 abbrev pub asks_help : List (List ℕ) → Bool
-asks_help words = has_word (codes "--help") words
+asks_help words = has_word (codes "--help") words || has_word (codes "-h") words
 
 -- the version is asked for, by `--version` at any place, and help isn't
 abbrev pub asks_version : List (List ℕ) → Bool
-asks_version words = not (has_word (codes "--help") words) && has_word (codes "--version") words
+asks_version words = not (asks_help words) && has_word (codes "--version") words
 
 -- neither help nor the version is asked for
 abbrev pub asks_other : List (List ℕ) → Bool
-asks_other words = not (has_word (codes "--help") words) && not (has_word (codes "--version") words)
+asks_other words = not (asks_help words) && not (has_word (codes "--version") words)
+
+-- the first where the test holds, and else the second
+abbrev pub Chosen : Bool → Type 0 → Type 0 → Type 0
+Chosen true here there = here
+Chosen false here there = there
+
+-- what is wrong with words that ask for neither: by the rules of the command that the first word names, or it names none
+abbrev pub IsAtFault : List (List ℕ) → Fault → Type 0
+IsAtFault words fault =
+    Chosen (begins_with (codes "session") words) (ReadsSettings words (Err (Bad fault)))
+    (Chosen (begins_with (codes "serve") words) (ReadsServe words (Err (Bad fault)))
+    (Chosen (begins_with (codes "load") words) (ReadsLoad words (Err (Bad fault)))
+    (Chosen (begins_with (codes "check") words) (ReadsCheck words (Err (Bad fault)))
+    (fault ≡ NoCommand))))
 
 -- what the words ask for, or why they ask for nothing; a command is its word, and then options as clap takes them, with
 -- numbers in their ranges
@@ -44,12 +60,7 @@ ReadsWords words (Ok (Load options)) =
     (asks_other words ≡ true) × (begins_with (codes "load") words ≡ true) × ReadsLoad words (Ok options)
 ReadsWords words (Ok Check) =
     (asks_other words ≡ true) × (begins_with (codes "check") words ≡ true) × ReadsCheck words (Ok tt)
-ReadsWords words (Err Bad) =
-    (asks_other words ≡ true)
-    × (begins_with (codes "session") words ≡ true → ReadsSettings words (Err Bad))
-    × (begins_with (codes "serve") words ≡ true → ReadsServe words (Err Bad))
-    × (begins_with (codes "load") words ≡ true → ReadsLoad words (Err Bad))
-    × (begins_with (codes "check") words ≡ true → ReadsCheck words (Err Bad))
+ReadsWords words (Err (Bad fault)) = (asks_other words ≡ true) × IsAtFault words fault
 ReadsWords words (Err Memory) = ⊤
 
 -- a server is set within its ranges
@@ -58,6 +69,7 @@ pub record AreServed (options : ServeOptions) : Type 0 where
   pub open_at_once : (1 ≤ options.open) × (options.open ≤ 65536)
   pub connections : options.connections ≤ 2 ^ 62
   pub peer : IfSome options.peer (λ port. (1 ≤ port) × (port ≤ 65535))
+  pub first : (1 ≤ options.first) × (options.first ≤ 2 ^ 62)
   pub settings : AreInRange options.settings
 
 -- what is asked for is within its ranges

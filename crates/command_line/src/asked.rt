@@ -1,5 +1,8 @@
 //! What the words of a command line ask for.
 
+ghost use Rattle.std.specs.Prelude.{◌≡◌};
+ghost use Rattle.command_line.specs.Options as spec;
+
 use kube_meta::Memory;
 use up_api::Settings;
 
@@ -34,6 +37,9 @@ pub struct ServeOptions {
     pub connections: u64,
     /// The port of the server whose pods it mirrors, if it does: 1 to 65,535.
     pub peer: Option<u16>,
+    /// The revision of its log while that is empty: 1 to 2^62. A mirror's log begins where its peer's list stands, and
+    /// this is 1 then.
+    pub first: u64,
     /// How each session is set.
     pub settings: Settings,
 }
@@ -47,11 +53,91 @@ pub struct LoadOptions {
     pub requests: u64,
 }
 
+/// The options that take a number.
+#[derive(Clone, Copy, Debug, PartialEq, Eq)]
+pub enum OptionName {
+    /// `--window`
+    Window,
+    /// `--window-max`
+    WindowMax,
+    /// `--fresh-ms`
+    FreshMs,
+    /// `--lane`
+    Lane,
+    /// `--batch`
+    Batch,
+    /// `--history`
+    History,
+    /// `--bookmark-ms`
+    BookmarkMs,
+    /// `--timeout-s`
+    TimeoutS,
+    /// `--port`
+    Port,
+    /// `--workers`
+    Workers,
+    /// `--open`
+    Open,
+    /// `--connections`
+    Connections,
+    /// `--peer`
+    Peer,
+    /// `--first-revision`
+    FirstRevision,
+    /// `--from`
+    From,
+    /// `--requests`
+    Requests,
+}
+
+impl OptionName {
+    /// The name, as it is written behind `--`.
+    pub fn text(self) -> &'static str
+        ensures { result.now ≡ spec.option_text self }
+    {
+        match self {
+            OptionName::Window => "window",
+            OptionName::WindowMax => "window-max",
+            OptionName::FreshMs => "fresh-ms",
+            OptionName::Lane => "lane",
+            OptionName::Batch => "batch",
+            OptionName::History => "history",
+            OptionName::BookmarkMs => "bookmark-ms",
+            OptionName::TimeoutS => "timeout-s",
+            OptionName::Port => "port",
+            OptionName::Workers => "workers",
+            OptionName::Open => "open",
+            OptionName::Connections => "connections",
+            OptionName::Peer => "peer",
+            OptionName::FirstRevision => "first-revision",
+            OptionName::From => "from",
+            OptionName::Requests => "requests",
+        }
+    }
+}
+
+/// What is wrong with a command line.
+#[derive(Clone, Copy, Debug, PartialEq, Eq)]
+pub enum Fault {
+    /// The first word, if there is one, names no command.
+    NoCommand,
+    /// The words behind the command aren't its options, each at most once and with a value.
+    Misused,
+    /// What is given for this option is no number from `low` to `high`.
+    OutOfRange {
+        name: OptionName,
+        low: u64,
+        high: u64,
+    },
+    /// A first revision is given beside a peer, whose list says where a mirror's log begins.
+    FirstWithPeer,
+}
+
 /// Why the words of a command line ask for nothing.
 #[derive(Clone, Copy, Debug, PartialEq, Eq)]
 pub enum WordsNo {
     /// They are a bad command line.
-    Bad,
+    Bad(Fault),
     /// There was no memory to read them.
     Memory,
 }

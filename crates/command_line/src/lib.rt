@@ -5,7 +5,9 @@ mod asked;
 mod commands;
 mod options;
 mod settings;
+mod texts;
 mod words;
 
-pub use asked::{Asked, LoadOptions, ServeOptions, WordsNo};
+pub use asked::{Asked, Fault, LoadOptions, OptionName, ServeOptions, WordsNo};
+pub use texts::complaint;
 pub use words::read_words;

@@ -1,11 +1,11 @@
 //! The words of a command and the numbers of its options, by clap.
 
-ghost use Rattle.std.specs.Prelude.{◌≡◌, ◌≤◌, [], IfErr, IfOk, IfSome, Some, map, option_map, string_bytes, true};
+ghost use Rattle.std.specs.Prelude.{◌≡◌, ◌≤◌, [], IfErr, IfOk, IfSome, Ok, Some, is_some, map, string_bytes, true};
 ghost use Rattle.clap.specs.Words.{app_of, fault_of, first_of, found_of, is_simple, is_simple_and_free, kind_of, matches_of, rows_of, with_rule};
 ghost use Rattle.kube_meta.specs.Revisions.{revision_of};
 ghost use Rattle.command_line.specs.Options as spec;
 
-use crate::WordsNo;
+use crate::{Fault, OptionName, WordsNo};
 use clap::error::ErrorKind;
 use clap::{Arg, ArgMatches, Command};
 use kube_meta::{Memory, Rev};
@@ -45,66 +45,80 @@ fn refusal(kind: ErrorKind) -> WordsNo
 {
     match kind {
         ErrorKind::OutOfMemory => WordsNo::Memory,
-        _ => WordsNo::Bad,
+        _ => WordsNo::Bad(Fault::Misused),
     }
 }
 
 /// The number of an option, where it is in its range; the usual one where it isn't given.
 pub(crate) fn number(
     matches: &ArgMatches<'_>,
-    name: &str,
+    name: OptionName,
     low: u64,
     high: u64,
     usual: u64,
-) -> Option<u64>
+) -> Result<u64, Fault>
     requires usual { (low ≤ usual) × (usual ≤ high) }
-    ensures value { result ≡ spec.option_number low high usual (first_of name.now (rows_of (found_of matches.now))) }
-    ensures range { IfSome result (λ n. (low ≤ n) × (n ≤ high)) }
+    ensures value { result ≡ spec.number (rows_of (found_of matches.now)) name low high usual }
+    ensures range { IfOk result (λ n. (low ≤ n) × (n ≤ high)) }
 {
-    match matches.get_str(name) {
-        None => Some(usual),
-        Some(text) => within(text, low, high),
+    match matches.get_str(name.text()) {
+        None => Ok(usual),
+        Some(text) => within(text, name, low, high),
     }
 }
 
-/// The number of an option that needn't be given. Nothing where it isn't in its range.
+/// The number of an option that needn't be given.
 pub(crate) fn optional(
     matches: &ArgMatches<'_>,
-    name: &str,
+    name: OptionName,
     low: u64,
     high: u64,
-) -> Option<Option<u64>>
-    ensures value { result ≡ spec.optional low high (first_of name.now (rows_of (found_of matches.now))) }
-    ensures range { IfSome result (λ given. IfSome given (λ n. (low ≤ n) × (n ≤ high))) }
+) -> Result<Option<u64>, Fault>
+    ensures value { result ≡ spec.optional (rows_of (found_of matches.now)) name low high }
+    ensures range { IfOk result (λ given. IfSome given (λ n. (low ≤ n) × (n ≤ high))) }
 {
-    match matches.get_str(name) {
-        None => Some(None),
-        Some(text) => given(within(text, low, high)),
+    match matches.get_str(name.text()) {
+        None => Ok(None),
+        Some(text) => given(within(text, name, low, high)),
     }
 }
 
-fn given(number: Option<u64>) -> Option<Option<u64>>
-    ensures { result ≡ option_map (λ n. Some n) number }
+fn given(number: Result<u64, Fault>) -> Result<Option<u64>, Fault>
+    ensures { result ≡ spec.and_then (λ n. Ok (Some n)) number }
 {
     match number {
-        Some(n) => Some(Some(n)),
-        None => None,
+        Ok(n) => Ok(Some(n)),
+        Err(fault) => Err(fault),
     }
 }
 
-fn within(text: &str, low: u64, high: u64) -> Option<u64>
-    ensures value { result ≡ spec.within low high (revision_of text.now) }
-    ensures range { IfSome result (λ n. (low ≤ n) × (n ≤ high)) }
+/// Whether an option is given.
+pub(crate) fn is_given(matches: &ArgMatches<'_>, name: OptionName) -> bool
+    ensures { result ≡ is_some (first_of (spec.option_text name) (rows_of (found_of matches.now))) }
+{
+    match matches.get_str(name.text()) {
+        None => false,
+        Some(_) => true,
+    }
+}
+
+fn within(text: &str, name: OptionName, low: u64, high: u64) -> Result<u64, Fault>
+    ensures value { result ≡ spec.within name low high (revision_of text.now) }
+    ensures range { IfOk result (λ n. (low ≤ n) × (n ≤ high)) }
 {
     match Rev::read(text.as_bytes()) {
-        Ok(n) => bounded(n, low, high),
-        Err(_) => None,
+        Ok(n) => bounded(n, name, low, high),
+        Err(_) => Err(Fault::OutOfRange { name, low, high }),
     }
 }
 
-fn bounded(n: u64, low: u64, high: u64) -> Option<u64>
-    ensures value { result ≡ spec.bounded low high n }
-    ensures range { IfSome result (λ n. (low ≤ n) × (n ≤ high)) }
+fn bounded(n: u64, name: OptionName, low: u64, high: u64) -> Result<u64, Fault>
+    ensures value { result ≡ spec.bounded name low high n }
+    ensures range { IfOk result (λ n. (low ≤ n) × (n ≤ high)) }
 {
-    if low <= n && n <= high { Some(n) } else { None }
+    if low <= n && n <= high {
+        Ok(n)
+    } else {
+        Err(Fault::OutOfRange { name, low, high })
+    }
 }

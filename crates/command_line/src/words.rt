@@ -5,7 +5,7 @@ ghost use Rattle.std.specs.List.{list_any};
 ghost use Rattle.command_line.specs.Words as spec;
 
 use crate::commands::{read_check, read_load, read_serve, read_settings};
-use crate::{Asked, WordsNo};
+use crate::{Asked, Fault, WordsNo};
 use std::alloc::Global;
 
 /// What the words of a command line ask for, behind the program's name: help, the version, one session, a server, a
@@ -14,7 +14,7 @@ pub fn read_words(alloc: Global, words: &[String]) -> Result<Asked, WordsNo>
     ensures reads { spec.ReadsWords (map string_bytes words.now) result }
     ensures range { IfOk result spec.IsInRange }
 {
-    if has_word(words, "--help") {
+    if has_word(words, "--help") || has_word(words, "-h") {
         return Ok(Asked::Help);
     }
     if has_word(words, "--version") {
@@ -44,7 +44,7 @@ pub fn read_words(alloc: Global, words: &[String]) -> Result<Asked, WordsNo>
             Err(fault) => Err(fault),
         };
     }
-    Err(WordsNo::Bad)
+    Err(WordsNo::Bad(Fault::NoCommand))
 }
 
 // Whether one of them is this word.
@@ -60,8 +60,8 @@ fn has_text(words: &[String], word: &str) -> bool
     words.iter().any(|w| w.as_str() == word)
 }
 
-// Whether the first of them is this word.
-fn begins_with(words: &[String], word: &str) -> bool
+/// Whether the first of them is this word.
+pub(crate) fn begins_with(words: &[String], word: &str) -> bool
     ensures { result ≡ spec.begins_with word.now (map string_bytes words.now) }
 {
     match words {
