@@ -95,6 +95,7 @@ optional_number name low high (Some text) = and_then (λ n. Ok (Some n)) (within
 abbrev pub number : List Row → OptionName → ℕ → ℕ → ℕ → Result ℕ Fault
 number rows name low high default = option_number name low high default (first_of (option_text name) rows)
 
+-- and of an option that has no usual number
 abbrev pub optional : List Row → OptionName → ℕ → ℕ → Result (Option ℕ) Fault
 optional rows name low high = optional_number name low high (first_of (option_text name) rows)
 
