@@ -29,14 +29,6 @@ impl Answer {
         }
     }
 
-    /// The first so many bytes of it, with no end.
-    pub fn beginning(&self, length: usize) -> Answer {
-        let mut answer = Answer::none(self.alloc);
-        let bytes = self.bytes.as_slice().get(..length).unwrap_or(b"");
-        answer.bytes.put(bytes);
-        answer
-    }
-
     /// Whether there was memory for all of it.
     pub fn is_whole(&self) -> bool {
         self.bytes.is_whole() && self.end.is_whole() && self.messages.is_whole()

@@ -2,7 +2,6 @@
 
 use crate::answer::Answer;
 use crate::faults::Breaks;
-use crate::kind::Kind;
 use crate::load::Load;
 use crate::options::Options;
 use crate::request::Requests;
@@ -18,15 +17,9 @@ pub struct Case {
     pub load: Option<Load>,
     /// What is to break off at each place in turn.
     pub breaks: Vec<Breaks>,
-    answer: Answer,
+    pub answer: Answer,
     // Where each request and its answer begin.
     begins: Vec<Begin>,
-    // Where the answer to the last request begins.
-    last_at: usize,
-    // What is wanted of the kinds that answer otherwise.
-    others: Vec<Other>,
-    // The kinds that it isn't run with.
-    left_out: Vec<Kind>,
 }
 
 /// How much was sent and came back before a request.
@@ -34,13 +27,6 @@ pub struct Case {
 struct Begin {
     sent: usize,
     answered: usize,
-}
-
-/// What is wanted of one kind.
-#[derive(Drop)]
-struct Other {
-    kind: Kind,
-    answer: Answer,
 }
 
 impl Case {
@@ -53,23 +39,7 @@ impl Case {
             breaks: Vec::new(alloc),
             answer: Answer::none(alloc),
             begins: Vec::new(alloc),
-            last_at: 0,
-            others: Vec::new(alloc),
-            left_out: Vec::new(alloc),
         }
-    }
-
-    /// What is wanted of a kind; nothing, where it isn't run with it.
-    pub fn answer_of(&self, kind: Kind) -> Option<&Answer> {
-        if self.left_out.as_slice().contains(&kind) {
-            return None;
-        }
-        for other in &self.others {
-            if other.kind == kind {
-                return Some(&other.answer);
-            }
-        }
-        Some(&self.answer)
     }
 
     /// How much is wanted back where so many bytes are sent, and whether no request is cut in two there.
@@ -97,8 +67,6 @@ impl Case {
             "settings" => Ok(self.options.take(text)),
             "load" => Ok(self.make_load(text)),
             "breaks" => self.break_off(text),
-            "without" => self.leave_out(text),
-            "otherwise" => self.begin_other(text),
             _ => self.take_text(word, text),
         }
     }
@@ -118,30 +86,8 @@ impl Case {
         Ok(true)
     }
 
-    // A kind that it isn't run with, and why.
-    fn leave_out(&mut self, text: &str) -> Result<bool, AllocError> {
-        let Some(kind) = with_reason(text) else {
-            return Ok(false);
-        };
-        self.left_out.push(kind)?;
-        Ok(true)
-    }
-
-    // A kind that answers the last request otherwise, and why.
-    fn begin_other(&mut self, text: &str) -> Result<bool, AllocError> {
-        let Some(kind) = with_reason(text) else {
-            return Ok(false);
-        };
-        let answer = self.answer.beginning(self.last_at);
-        self.others.push(Other { kind, answer })?;
-        Ok(true)
-    }
-
-    // Takes in a line of what is sent or comes back. Nothing more is sent once a kind answers otherwise.
+    // Takes in a line of what is sent or comes back.
     fn take_text(&mut self, word: &str, text: &str) -> Result<bool, AllocError> {
-        if let Some(other) = self.others.last_mut() {
-            return Ok(other.answer.take_line(word, text));
-        }
         let begin = Begin {
             sent: self.requests.bytes.len(),
             answered: self.answer.bytes.len(),
@@ -149,19 +95,9 @@ impl Case {
         if !self.requests.take_line(word, text) {
             return Ok(self.answer.take_line(word, text));
         }
-        self.last_at = begin.answered;
         if word == "request" {
             self.begins.push(begin)?;
         }
         Ok(true)
     }
-}
-
-// The kind that is named before a colon, behind which the reason stands.
-fn with_reason(text: &str) -> Option<Kind> {
-    let (word, reason) = text.split_once(": ")?;
-    if reason.is_empty() {
-        return None;
-    }
-    Kind::named(word)
 }

@@ -3,8 +3,6 @@
 /// A kind of client.
 #[derive(Clone, Copy, PartialEq, Eq)]
 pub enum Kind {
-    /// The one that computes all anew from its log.
-    Plain,
     /// The one that answers from caches of its own.
     Local,
     /// One of many that answer from the caches of one log.
@@ -13,12 +11,11 @@ pub enum Kind {
 
 impl Kind {
     /// All of them.
-    pub const ALL: [Kind; 3] = [Kind::Plain, Kind::Local, Kind::Shared];
+    pub const ALL: [Kind; 2] = [Kind::Local, Kind::Shared];
 
     /// The word by which cases name it.
     pub fn word(self) -> &'static str {
         match self {
-            Kind::Plain => "plain",
             Kind::Local => "local",
             Kind::Shared => "shared",
         }

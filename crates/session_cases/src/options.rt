@@ -73,16 +73,6 @@ impl Options {
         true
     }
 
-    /// Those of a server that keeps few changes, whose watches have a bookmark at each turn.
-    pub fn narrow(window: u64) -> Options {
-        Options {
-            window,
-            bookmark_ms: 1_000,
-            batch: 2,
-            ..Options::usual()
-        }
-    }
-
     /// The clock.
     pub fn clock(&self) -> CaseClock {
         CaseClock::new(self.stop)

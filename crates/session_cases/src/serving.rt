@@ -1,6 +1,6 @@
 //! One session, served from memory to memory.
 
-ghost use Rattle.std.specs.Prelude.{◌≡◌, ◌≤◌, ◌^◌, [], false, None};
+ghost use Rattle.std.specs.Prelude.{◌≡◌, [], false, None};
 ghost use Rattle.up_api.specs.Settings.{AreInRange};
 
 use crate::clock::CaseClock;
@@ -11,7 +11,6 @@ use client_api::Client;
 use edge_io::MemSource;
 use kube_meta::Memory;
 use local_client::LocalClient;
-use plain_client::PlainClient;
 use rev_front::{Blank, blank};
 use rev_log::Revision;
 use sess_serve::{SessionEnd, serve_session};
@@ -115,22 +114,11 @@ fn serve_through<R: Wait + Copy + Drop>(
     let settings = options.settings();
     let first = options.first_revision();
     match kind {
-        Kind::Plain => Ok(serve_plain(alloc, first, &settings, ends)),
         Kind::Local => serve_local::<Brand>(alloc, blank(alloc, first)?, &settings, ends),
         Kind::Shared => {
             serve_shared::<Brand, R>(rt, alloc, blank(alloc, first)?, &settings, ends)
         }
     }
-}
-
-// Serves it with a plain client.
-fn serve_plain(alloc: Global, first: u64, settings: &Settings, ends: &mut Ends) -> SessionEnd
-    requires first { first ≤ 2 ^ 62 }
-    requires settings { AreInRange settings.now }
-{
-    let (history, window) = (settings.history, settings.window as u64);
-    let client = PlainClient::new(alloc, first, history, window);
-    serve_by(alloc, client, settings, ends)
 }
 
 // Serves it with a local client.

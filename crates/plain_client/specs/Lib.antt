@@ -1,4 +1,0 @@
-pub mod Plain
-pub mod Reads
-pub mod Lines
-pub mod Writes
