@@ -1,9 +1,7 @@
 -- Bodies, and the requests that they end.
-use Rattle.std.proofs.Common.{◌≡◌, refl, ℕ, ◌-◌, ◌<◌, ◌≤◌, Bool, true, false, List, [], ◌∷◌, ◌++◌, length, take, drop, sym, ap, subst, ◌∙◌, arith, append_assoc, append-nil, min, ◌⊎◌, eq-zero-or-pos, length-append, length-take, take-append-drop, inl, inr, cond, codes, ◌==◌, nat_le, take_at, drop_at}
+use Rattle.std.proofs.Common.{◌≡◌, refl, ℕ, ◌-◌, ◌<◌, ◌≤◌, Bool, true, false, List, [], ◌∷◌, ◌++◌, length, take, drop, sym, ap, subst, ◌∙◌, arith, append_assoc, append-nil, min, ◌⊎◌, eq-zero-or-pos, length-append, length-take, take-append-drop, inl, inr, cond, codes, ◌==◌, nat_le}
 use Rattle.std.specs.Prelude.{Option, None, Some, Result, Ok, Err}
 use Rattle.std.proofs.lemmas.List.{drop_all, drop-append-le, nil_from_length}
-use borrow.Rule.Slice.PartMut.{post_of}
-use Rattle.edge_io.specs.Counts.{Rose, last_count}
 use Rattle.httparse.specs.Grammar.{RequestHead, ReadsRequest}
 use Rattle.httparse.proofs.GrammarLemmas.{ReadsRequest-append}
 use Rattle.httparse.specs.declared.spans.HeaderSpan.{HeaderSpan}
@@ -17,29 +15,29 @@ use Rattle.http_read.specs.declared.refusal.ReqNo.{ReqNo}
 use Rattle.http_read.specs.declared.refusal.ReqNo.TheVariants.{Malformed, HeadTooLong, TooManyHeaders, BodyTooLong, NeedsLength, CutShort, ReadFault, Memory}
 
 -- what is filled from the bytes that were kept, and then from those that were taken
-module _ (kept taken rest : List ℕ) (n : ℕ) (either : (length kept ≤ n) ⊎ (rest ≡ [])) (within : n ≤ length kept) where
-  joined : taken ≡ rest ++ [] → kept ++ taken ≡ (take n kept ++ rest) ++ drop n kept
-  joined e = elim either [
-    | inl all ↦
-        ap (λ l. kept ++ l) (e ∙ append-nil rest)
-        ∙ sym (ap (λ l. (take n kept ++ rest) ++ l) (drop_all n kept all) ∙ append-nil _ ∙ ap (λ l. l ++ rest) (whole all))
-    | inr none ↦
-        ap (λ l. kept ++ l) (e ∙ append-nil rest ∙ none) ∙ append-nil kept ∙ sym (take-append-drop n kept)
-        ∙ ap (λ l. l ++ drop n kept) (sym (append-nil (take n kept)) ∙ ap (λ l. take n kept ++ l) (sym none))
+module _ (kept taken body : List ℕ) (n whole : ℕ) (either : (length kept ≤ n) ⊎ (n ≡ whole)) (within : n ≤ length kept) where
+  joined : take n kept ++ taken ≡ body ++ [] → length body ≡ whole → kept ++ taken ≡ body ++ drop n kept
+  joined e long = elim either [
+    | inl all ↦ ap (λ l. l ++ taken) (sym (front all)) ∙ e ∙ ap (λ l. body ++ l) (sym (drop_all n kept all))
+    | inr full ↦
+        let none : taken ≡ [] =
+        nil_from_length taken (omega (arith, full, long, within, ap length e, length-append (take n kept) taken, length-append body [], length-take n kept)) in
+        let same : take n kept ≡ body = sym (append-nil (take n kept)) ∙ ap (λ l. take n kept ++ l) (sym none) ∙ e ∙ append-nil body in
+        ap (λ l. kept ++ l) none ∙ append-nil kept ∙ sym (take-append-drop n kept) ∙ ap (λ l. l ++ drop n kept) same
   ]
     where
-      whole : length kept ≤ n → take n kept ≡ kept
-      whole all = sym (append-nil (take n kept)) ∙ ap (λ l. take n kept ++ l) (sym (drop_all n kept all)) ∙ take-append-drop n kept
+      front : length kept ≤ n → take n kept ≡ kept
+      front all = sym (append-nil (take n kept)) ∙ ap (λ l. take n kept ++ l) (sym (drop_all n kept all)) ∙ take-append-drop n kept
 
-  fewer : length taken < length rest → length (kept ++ taken) < length (take n kept ++ rest)
+  fewer : length (take n kept ++ taken) < whole → length (kept ++ taken) < whole
   fewer h = elim either [
-    | inl all ↦ omega (arith, h, all, within, length-append kept taken, length-append (take n kept) rest, length-take n kept)
-    | inr none ↦ absurd (omega (arith, h, ap length none))
+    | inl all ↦ omega (arith, h, all, within, length-append kept taken, length-append (take n kept) taken, length-take n kept)
+    | inr full ↦ absurd (omega (arith, h, full, within, length-append (take n kept) taken, length-take n kept))
   ]
 
-  pub fills : (left : Option (List ℕ)) (f f' : ℕ) (r : Result (Unit {0}) ReqNo) → FillsBody taken rest [] left f f' r
-      → FillsBody (kept ++ taken) (take n kept ++ rest) (drop n kept) left f f' r
-  fills left f f' (Ok u) h = joined h
+  pub fills : (left : Option (List ℕ)) (f f' : ℕ) (r : Result (Unit {0}) ReqNo) → FillsBody whole (take n kept ++ taken) body [] left f f' r
+      → FillsBody whole (kept ++ taken) body (drop n kept) left f f' r
+  fills left f f' (Ok u) h = (joined h.0 h.1, h.1)
   fills left f f' (Err CutShort) h = (fewer h.0, h.1)
   fills left f f' (Err ReadFault) h = (h.0, fewer h.1)
   fills left f f' (Err Malformed) h = h
@@ -124,16 +122,16 @@ refuses-body bytes h after why kept left f f' has e = by_why why e (subst Refuse
     by_why Memory e ok = absurd ok
 
 -- a body that isn't filled
-pub breaks-off : (bytes : List ℕ) (h : RequestHead) (after body kept : List ℕ) (left : Option (List ℕ)) (f f' : ℕ) (why : ReqNo)
-    → HasHead bytes h after → head_answer h ≡ Ok (length body) → FillsBody after body kept left f f' (Err why) → ReadsNext bytes (Err why) kept left f f'
-breaks-off bytes h after body kept left f f' Malformed has e p = absurd p
-breaks-off bytes h after body kept left f f' HeadTooLong has e p = absurd p
-breaks-off bytes h after body kept left f f' TooManyHeaders has e p = absurd p
-breaks-off bytes h after body kept left f f' BodyTooLong has e p = absurd p
-breaks-off bytes h after body kept left f f' NeedsLength has e p = absurd p
-breaks-off bytes h after body kept left f f' CutShort has e p = (inr (h, after, length body, has, e, p.0), p.1)
-breaks-off bytes h after body kept left f f' ReadFault has e p = (p.0, inr (inr (h, after, length body, has, e, p.1)))
-breaks-off bytes h after body kept left f f' Memory has e p = absurd p
+pub breaks-off : (bytes : List ℕ) (h : RequestHead) (n : ℕ) (after body kept : List ℕ) (left : Option (List ℕ)) (f f' : ℕ) (why : ReqNo)
+    → HasHead bytes h after → head_answer h ≡ Ok n → FillsBody n after body kept left f f' (Err why) → ReadsNext bytes (Err why) kept left f f'
+breaks-off bytes h n after body kept left f f' Malformed has e p = absurd p
+breaks-off bytes h n after body kept left f f' HeadTooLong has e p = absurd p
+breaks-off bytes h n after body kept left f f' TooManyHeaders has e p = absurd p
+breaks-off bytes h n after body kept left f f' BodyTooLong has e p = absurd p
+breaks-off bytes h n after body kept left f f' NeedsLength has e p = absurd p
+breaks-off bytes h n after body kept left f f' CutShort has e p = (inr (h, after, n, has, e, p.0), p.1)
+breaks-off bytes h n after body kept left f f' ReadFault has e p = (p.0, inr (inr (h, after, n, has, e, p.1)))
+breaks-off bytes h n after body kept left f f' Memory has e p = absurd p
 
 -- a head that isn't read
 pub no-head : (bytes : List ℕ) (spans : List HeaderSpan) (left : Option (List ℕ)) (f f' : ℕ) (why : ReqNo)
@@ -158,12 +156,6 @@ reads-one bytes h after body kept req has e answer r = record {
   req_is = ap (λ (q : Req). record q { body = body }) r;
 }
 
--- either all that was kept is in the body, or nothing of it is left to fill
-pub all_or_none : (kept rest : List ℕ) (n whole : ℕ) → n ≡ min (length kept) whole → length rest ≡ whole - n → (length kept ≤ n) ⊎ (rest ≡ [])
-all_or_none kept rest n whole e l = elim (eq-zero-or-pos (length kept - whole)) [ inl z ↦ inl (omega arith) | inr g ↦ inr (nil_from_length rest (omega arith)) ]
-
--- a body whose front was copied and whose rest was read
-pub body-filled : (copy tail rest : List ℕ) (n k : ℕ) → length copy ≡ n → length tail ≤ k → take n (copy ++ tail) ++ (rest ++ post_of n k (copy ++ tail)) ≡ copy ++ rest
-body-filled copy tail rest n k c t =
-    ap (λ l. l ++ (rest ++ post_of n k (copy ++ tail))) (take_at copy tail n c)
-    ∙ ap (λ l. copy ++ (rest ++ drop k l)) (drop_at copy tail n c) ∙ ap (λ l. copy ++ (rest ++ l)) (drop_all k tail t) ∙ ap (λ l. copy ++ l) (append-nil rest)
+-- either all that was kept is in the body, or the body is whole with it
+pub all_or_whole : (kept : List ℕ) (n whole : ℕ) → n ≡ min (length kept) whole → (length kept ≤ n) ⊎ (n ≡ whole)
+all_or_whole kept n whole e = elim (eq-zero-or-pos (length kept - whole)) [ inl z ↦ inl (omega arith) | inr g ↦ inr (omega arith) ]

@@ -34,18 +34,19 @@ unfinished-before bytes kept first e h (inr before) = before
 pub none-taken : (old new taken : List ℕ) → new ≡ old ++ taken → new ≡ old → taken ≡ []
 none-taken old new taken e same = nil_from_length taken (omega (arith, ap length (sym same ∙ e), length-append old taken))
 
--- a body of no bytes takes none
-pub fills-nothing : (taken body : List ℕ) (left : Option (List ℕ)) (f f' : ℕ) (r : Result (Unit {0}) ReqNo) → length body ≡ 0
-    → FillsBody taken body [] left f f' r → taken ≡ []
-fills-nothing taken body left f f' (Ok u) none h = nil_from_length taken (omega (arith, ap length h, length-append body [], none))
-fills-nothing taken body left f f' (Err CutShort) none h = absurd (omega (arith, h.0, none))
-fills-nothing taken body left f f' (Err ReadFault) none h = absurd (omega (arith, h.1, none))
-fills-nothing taken body left f f' (Err Malformed) none h = absurd h
-fills-nothing taken body left f f' (Err HeadTooLong) none h = absurd h
-fills-nothing taken body left f f' (Err TooManyHeaders) none h = absurd h
-fills-nothing taken body left f f' (Err BodyTooLong) none h = absurd h
-fills-nothing taken body left f f' (Err NeedsLength) none h = absurd h
-fills-nothing taken body left f f' (Err Memory) none h = absurd h
+-- a body that is whole takes no more bytes
+pub fills-nothing : (front taken body : List ℕ) (n : ℕ) (left : Option (List ℕ)) (f f' : ℕ) (r : Result (Unit {0}) ReqNo) → length front ≡ n
+    → FillsBody n (front ++ taken) body [] left f f' r → taken ≡ []
+fills-nothing front taken body n left f f' (Ok u) whole h =
+    nil_from_length taken (omega (arith, ap length h.0, h.1, length-append front taken, length-append body [], whole))
+fills-nothing front taken body n left f f' (Err CutShort) whole h = absurd (omega (arith, h.0, length-append front taken, whole))
+fills-nothing front taken body n left f f' (Err ReadFault) whole h = absurd (omega (arith, h.1, length-append front taken, whole))
+fills-nothing front taken body n left f f' (Err Malformed) whole h = absurd h
+fills-nothing front taken body n left f f' (Err HeadTooLong) whole h = absurd h
+fills-nothing front taken body n left f f' (Err TooManyHeaders) whole h = absurd h
+fills-nothing front taken body n left f f' (Err BodyTooLong) whole h = absurd h
+fills-nothing front taken body n left f f' (Err NeedsLength) whole h = absurd h
+fills-nothing front taken body n left f f' (Err Memory) whole h = absurd h
 
 -- where a head stands and nothing is unfinished, its body stands too
 pub body-stands : (bytes : List ℕ) (h : RequestHead) (after : List ℕ) (n : ℕ) → HasHead bytes h after → head_answer h ≡ Ok n

@@ -1,9 +1,9 @@
 -- What a request's head says (RFC 9110, sections 5 to 7; RFC 9112, sections 2, 3, 6 and 9.6; RFC 6455, section 4.1), in
 -- the profile that this server reads. The grammar of heads is that of `httparse`.
-use Rattle.std.specs.Prelude.{ℕ, Bool, ◌&&◌, ◌||◌, ◌==◌, nat_lt, nat_le, List, [], ◌∷◌, map, filter, find, length, Option, None, Some, Result, Ok, Err, unwrap_or, is_some, if◌then◌else◌, codes}
+use Rattle.std.specs.Prelude.{ℕ, Bool, false, ◌&&◌, ◌||◌, ◌==◌, nat_lt, nat_le, List, [], ◌∷◌, map, filter, find, length, Option, None, Some, Result, Ok, Err, unwrap_or, is_some, if◌then◌else◌, codes}
 use Rattle.std.specs.Char.{is_ascii_digit}
-use Rattle.std.specs.List.{list_any, list_all}
-use Rattle.std.specs.Option.{option_map}
+use Rattle.std.specs.List.{before_first, list_any, list_all}
+use Rattle.std.specs.Option.{option_map, option_map_or}
 use Rattle.std.specs.Str.{bytes_eq, str_eq_ignore_ascii_case}
 use Rattle.std.specs.Str.Lossy.{utf8_lossy}
 use Rattle.std.specs.Str.Parse.{digits_value}
@@ -58,6 +58,32 @@ has_element element value = list_any (λ piece. str_eq_ignore_ascii_case (trim_o
 abbrev pub connection_has : List ℕ → List FieldText → Bool
 connection_has element fields =
     list_any (λ field. is_named (codes "connection") field && has_element element field.1) fields
+
+-- the connection ends with the reply: a Connection field says so, or the reply is to a HEAD, whose clients take no body,
+-- so that they couldn't tell where the next reply begins
+abbrev pub asks_close : List ℕ → List FieldText → Bool
+asks_close method fields = connection_has (codes "close") fields || bytes_eq method (codes "HEAD")
+
+-- the media type that a Content-Type gives, without its parameters (RFC 9110, section 8.3.1)
+abbrev pub media_type : List ℕ → List ℕ
+media_type value = trim_ows (before_first (λ b. b == 59) value)
+
+-- the media types of protobuf, YAML and CBOR, in which clients of Kubernetes may send objects, and which aren't read
+abbrev pub is_unread_type : List ℕ → Bool
+is_unread_type name =
+    str_eq_ignore_ascii_case name (codes "application/vnd.kubernetes.protobuf")
+    || str_eq_ignore_ascii_case name (codes "application/protobuf")
+    || str_eq_ignore_ascii_case name (codes "application/x-protobuf")
+    || str_eq_ignore_ascii_case name (codes "application/yaml")
+    || str_eq_ignore_ascii_case name (codes "application/x-yaml")
+    || str_eq_ignore_ascii_case name (codes "text/yaml")
+    || str_eq_ignore_ascii_case name (codes "text/x-yaml")
+    || str_eq_ignore_ascii_case name (codes "application/cbor")
+
+-- the first Content-Type names a media type that isn't read; where there is none, or another, the body is taken as JSON
+abbrev pub is_unreadable : List FieldText → Bool
+is_unreadable fields =
+    option_map_or (λ value. is_unread_type (media_type value)) (value_of (codes "content-type") fields) false
 
 -- a length is written with 1 to 15 digits
 abbrev pub is_length : List ℕ → Bool

@@ -3,7 +3,7 @@ use Rattle.std.specs.Prelude.{◌≡◌, ℕ, ◌<◌, ◌≤◌, ◌⊎◌, Lis
 use Rattle.httparse.specs.Grammar.{RequestHead, print_request, ReadsRequest, HasNoRequest, NeverHasRequest, MayBecomeRequest}
 use Rattle.httparse.specs.Spans.{RequestOverflows, RequestExceeds}
 use Rattle.http_read.specs.Queries.{path_of, query_of, query_pairs}
-use Rattle.http_read.specs.Heads.{FieldText, most_head, most_fields, fields_of, body_length, connection_has, value_of, text_of, upgrade_of}
+use Rattle.http_read.specs.Heads.{FieldText, most_head, most_fields, fields_of, body_length, asks_close, is_unreadable, value_of, text_of, upgrade_of}
 use Rattle.http_read.specs.Sites.{is_foreign}
 use Rattle.http_read.specs.declared.request.Req.{Req}
 use Rattle.http_read.specs.declared.refusal.ReqNo.{ReqNo}
@@ -16,8 +16,9 @@ request_with method target fields body = record {
   path = path_of target;
   params = query_pairs (query_of target);
   body = body;
-  close = connection_has (codes "close") fields;
+  close = asks_close method fields;
   foreign = is_foreign fields;
+  unreadable = is_unreadable fields;
   accept = text_of (value_of (codes "accept") fields);
   upgrade = upgrade_of method fields;
 }

@@ -4,7 +4,7 @@ use Rattle.httparse.specs.Grammar.{RequestHead, HasNoRequest, MayBecomeRequest}
 use Rattle.httparse.specs.Spans.{IsRequestAt, IsRequestWithin, header_bytes, span_bytes}
 use Rattle.httparse.specs.declared.spans.HeaderSpan.{HeaderSpan}
 use Rattle.httparse.specs.declared.spans.RequestSpans.{RequestSpans}
-use Rattle.edge_io.specs.Told.{IsExhausted}
+use Rattle.edge_io.specs.Told.{IsExhausted, prepended}
 use Rattle.edge_io.specs.Counts.{Rose}
 use Rattle.http_read.specs.Heads.{FieldText, most_head, most_fields}
 use Rattle.http_read.specs.Requests.{front, RefusesHead, EndsInHead, request_with}
@@ -56,14 +56,23 @@ ReadsHead bytes spans left old_faults new_faults (Err BodyTooLong) = ⊥
 ReadsHead bytes spans left old_faults new_faults (Err NeedsLength) = ⊥
 ReadsHead bytes spans left old_faults new_faults (Err Memory) = ⊤
 
--- what the reading of a body answers: `kept` and `taken` came, and the body is filled from them; or they are too few
-abbrev pub FillsBody : List ℕ → List ℕ → List ℕ → Option (List ℕ) → ℕ → ℕ → Result (Unit {0}) ReqNo → Type 0
-FillsBody came body kept left old_faults new_faults (Ok u) = came ≡ body ++ kept
-FillsBody came body kept left old_faults new_faults (Err CutShort) = (length came < length body) × IsExhausted left
-FillsBody came body kept left old_faults new_faults (Err ReadFault) = Rose old_faults new_faults × (length came < length body)
-FillsBody came body kept left old_faults new_faults (Err Malformed) = ⊥
-FillsBody came body kept left old_faults new_faults (Err HeadTooLong) = ⊥
-FillsBody came body kept left old_faults new_faults (Err TooManyHeaders) = ⊥
-FillsBody came body kept left old_faults new_faults (Err BodyTooLong) = ⊥
-FillsBody came body kept left old_faults new_faults (Err NeedsLength) = ⊥
-FillsBody came body kept left old_faults new_faults (Err Memory) = ⊥
+-- what the reading of a body of n bytes answers, where these bytes came for it: they are the body and what is kept; or they
+-- are too few
+abbrev pub FillsBody : ℕ → List ℕ → List ℕ → List ℕ → Option (List ℕ) → ℕ → ℕ → Result (Unit {0}) ReqNo → Type 0
+FillsBody n came body kept left old_faults new_faults (Ok u) = (came ≡ body ++ kept) × (length body ≡ n)
+FillsBody n came body kept left old_faults new_faults (Err CutShort) = (length came < n) × IsExhausted left
+FillsBody n came body kept left old_faults new_faults (Err ReadFault) = Rose old_faults new_faults × (length came < n)
+FillsBody n came body kept left old_faults new_faults (Err Malformed) = ⊥
+FillsBody n came body kept left old_faults new_faults (Err HeadTooLong) = ⊥
+FillsBody n came body kept left old_faults new_faults (Err TooManyHeaders) = ⊥
+FillsBody n came body kept left old_faults new_faults (Err BodyTooLong) = ⊥
+FillsBody n came body kept left old_faults new_faults (Err NeedsLength) = ⊥
+FillsBody n came body kept left old_faults new_faults (Err Memory) = ⊥
+
+-- what one read behind the front of a body answers: so many bytes came, and stand behind it
+pub record ReadsMore (old_body new_body : List ℕ) (old_left new_left : Option (List ℕ)) (n : ℕ) : Type 0 where
+  pub taken : List ℕ
+  pub count : length taken ≡ n
+  pub body : new_body ≡ old_body ++ taken
+  pub left : old_left ≡ prepended taken new_left
+  pub over : n ≡ 0 → IsExhausted new_left

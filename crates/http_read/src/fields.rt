@@ -1,15 +1,15 @@
 //! The fields of a head.
 
-ghost use Rattle.std.specs.Prelude.{◌≡◌, ◌≤◌, ℕ, Bool, true, codes, length, map, All, Option, unwrap_or, []};
+ghost use Rattle.std.specs.Prelude.{◌≡◌, ◌≤◌, ◌||◌, ℕ, Bool, true, codes, length, map, All, Option, unwrap_or, []};
 ghost use Rattle.std.specs.Option.{option_map};
-ghost use Rattle.std.specs.Str.{str_eq_ignore_ascii_case};
+ghost use Rattle.std.specs.Str.{bytes_eq, str_eq_ignore_ascii_case};
 ghost use Rattle.httparse.specs.Spans.{IsHeaderWithin, header_bytes};
 ghost use Rattle.std.specs.Char.{is_ascii_digit};
 ghost use Rattle.std.specs.List.{list_all};
 ghost use Rattle.std.specs.Str.Parse.{digits_value as value_in};
 ghost use Rattle.http_read.specs.Heads as head;
 
-use crate::pieces::{cut, trimmed};
+use crate::pieces::{cut, parted_short, trimmed};
 use crate::refusal::ReqNo;
 use httparse::spans::HeaderSpan;
 
@@ -91,6 +91,46 @@ pub(crate) fn connection_asks(bytes: &[u8], fields: &[HeaderSpan]) -> Asked
         }
     }
     Asked { upgrade, close }
+}
+
+/// Whether the connection ends with the reply, where `close` says whether a Connection field has `close`.
+pub(crate) fn asks_close(method: &[u8], close: bool) -> bool
+    ensures { result ≡ (close || bytes_eq method.now (codes "HEAD")) }
+{
+    close || method == b"HEAD".as_slice()
+}
+
+// Whether this is a media type in which clients of Kubernetes send objects, and which isn't read.
+fn is_unread_type(name: &[u8]) -> bool
+    ensures { result ≡ head.is_unread_type name.now }
+{
+    is_same(name, b"application/vnd.kubernetes.protobuf")
+        || is_same(name, b"application/protobuf")
+        || is_same(name, b"application/x-protobuf")
+        || is_same(name, b"application/yaml")
+        || is_same(name, b"application/x-yaml")
+        || is_same(name, b"text/yaml")
+        || is_same(name, b"text/x-yaml")
+        || is_same(name, b"application/cbor")
+}
+
+// Whether a Content-Type names such a type.
+fn names_unread_type(value: &[u8]) -> bool
+    ensures { result ≡ head.is_unread_type (head.media_type value.now) }
+{
+    let (name, _) = parted_short(value, b';');
+    is_unread_type(trimmed(name))
+}
+
+/// Whether the first Content-Type names a media type that isn't read.
+pub(crate) fn is_unreadable(bytes: &[u8], fields: &[HeaderSpan]) -> bool
+    requires { All (IsHeaderWithin (length bytes.now)) fields.now }
+    ensures { result ≡ head.is_unreadable (map (header_bytes bytes.now) fields.now) }
+{
+    match value_of(bytes, fields, b"content-type") {
+        Some(value) => names_unread_type(value),
+        None => false,
+    }
 }
 
 // Whether each byte is a digit.

@@ -12,7 +12,7 @@ ghost use Rattle.http_read.specs.Answers.{UnlessFault};
 ghost use Rattle.http_read.specs.Steps.{FindsHead, LooksAtHead, ReadsHead, fields_at, request_at};
 
 use crate::body::Body;
-use crate::fields::{asks_websocket, connection_asks, value_of};
+use crate::fields::{asks_close, asks_websocket, connection_asks, is_unreadable, value_of};
 use crate::params::Params;
 use crate::pieces::cut;
 use crate::plain::{is_plain, text};
@@ -182,8 +182,9 @@ pub(crate) fn make_request(
         path,
         params,
         body: Body::from_vec(Vec::new(alloc)),
-        close: asked.close,
+        close: asks_close(method, asked.close),
         foreign: is_foreign(bytes, fields),
+        unreadable: is_unreadable(bytes, fields),
         accept,
         upgrade,
     })

@@ -1,9 +1,10 @@
 //! The reader of requests.
 
-ghost use Rattle.std.specs.Prelude.{◌≡◌, ◌≤◌, ◌++◌, ℕ, List, [], None, IfOk, IfSome, IsNone, length};
+ghost use Rattle.std.specs.Prelude.{◌≡◌, ◌<◌, ◌≤◌, ◌++◌, ℕ, List, [], None, IfOk, IfSome, IsNone, OnErr, OnOk, length, vec_capacity};
+ghost use Rattle.edge_io.specs.Counts.{Rose};
 ghost use Rattle.edge_io.specs.Told.{prepended};
 ghost use Rattle.http_read.specs.Answers.{AnswersNext, Repeats, ReadsNext, UnlessFault, kept_refusal};
-ghost use Rattle.http_read.specs.Steps.{FillsBody, FindsHead};
+ghost use Rattle.http_read.specs.Steps.{FillsBody, FindsHead, ReadsMore};
 ghost use Rattle.httparse.specs.Grammar.{RequestHead};
 ghost use Rattle.httparse.specs.Spans.{IsRequestAt};
 ghost use Rattle.http_read.specs.Requests.{front, head_answer, request_of, IsUnfinished};
@@ -14,51 +15,77 @@ use crate::head::{MOST_FIELDS, front_of, make_request, read_head};
 use crate::refusal::ReqNo;
 use crate::request::Req;
 use crate::unread::Unread;
-use edge_io::Source;
+use edge_io::{Failed, Source};
 use httparse::spans::{EMPTY_HEADER_SPAN, HeaderSpan, RequestSpans};
 use kube_meta::Memory;
 use std::alloc::Global;
 use std::marker::Model;
 
-// Fills `body` from a source.
-fn read_rest<S: Source>(source: &mut S, body: &mut [u8]) -> Result<(), ReqNo>
+/// How many bytes of a body are read at a time, at most, behind those that came with its head.
+const STEP: usize = 8192;
+
+// Reads once behind the front of a body of `whole` bytes, and answers how many bytes came. The body's memory is reserved,
+// so that none is asked for, and none is used before bytes come for it.
+fn read_more<S: Source>(source: &mut S, body: &mut Vec<u8>, whole: usize) -> Result<usize, Failed>
+    requires open { length body.old.items < whole }
+    requires reserved { whole ≤ vec_capacity body.old }
+    ensures more { IfOk result (ReadsMore body.old.items body.new.items (S.left source.old) (S.left source.new)) }
+    ensures within { OnOk result (length body.new.items ≤ whole) }
+    ensures reserved { OnOk result (whole ≤ vec_capacity body.new) }
+    ensures kept { OnErr result ((body.new ≡ body.old) × (S.left source.new ≡ S.left source.old)) }
+    ensures quiet { OnOk result (S.faults source.new ≡ S.faults source.old) }
+    ensures counted { OnErr result (Rose (S.faults source.old) (S.faults source.new)) }
+{
+    let mut step = [0u8; STEP];
+    let most = STEP.min(whole - body.len());
+    let n = source.read(&mut step[..most])?;
+    match body.extend_from_slice(&step[..n]) {
+        Ok(()) => Ok(n),
+        Err(_) => unreachable!(),
+    }
+}
+
+// Reads the rest of a body of `whole` bytes, of which the front came.
+fn read_rest<S: Source>(source: &mut S, body: &mut Vec<u8>, whole: usize) -> Result<(), ReqNo>
+    requires within { length body.old.items ≤ whole }
+    requires reserved { whole ≤ vec_capacity body.old }
     ensures reads { (taken : List ℕ) × (S.left source.old ≡ prepended taken (S.left source.new))
-        × FillsBody taken body.new [] (S.left source.new) (S.faults source.old) (S.faults source.new) result }
-    ensures idle { length body.old ≡ 0 → source.new ≡ source.old }
+        × FillsBody whole (body.old.items ++ taken) body.new.items [] (S.left source.new) (S.faults source.old) (S.faults source.new) result }
+    ensures idle { length body.old.items ≡ whole → source.new ≡ source.old }
     ensures quiet { UnlessFault result (S.faults source.new ≡ S.faults source.old) }
 {
-    let mut at = 0;
-    while at < body.len() {
-        match source.read(&mut body[at..]) {
+    while body.len() < whole {
+        match read_more(source, body, whole) {
             Ok(0) => return Err(ReqNo::CutShort),
-            Ok(n) => at += n,
+            Ok(_) => {}
             Err(_) => return Err(ReqNo::ReadFault),
         }
     }
     Ok(())
 }
 
-// Fills `body` from the bytes that are kept, and then from a source.
-fn read_body<S: Source>(kept: &mut Unread, source: &mut S, body: &mut [u8]) -> Result<(), ReqNo>
+// Reads a body of `whole` bytes, from the bytes that are kept and then from a source, into memory that is reserved.
+fn read_body<S: Source>(
+    kept: &mut Unread,
+    source: &mut S,
+    body: &mut Vec<u8>,
+    whole: usize,
+) -> Result<(), ReqNo>
+    requires empty { body.old.items ≡ [] }
+    requires reserved { whole ≤ vec_capacity body.old }
     ensures reads { (taken : List ℕ) × (S.left source.old ≡ prepended taken (S.left source.new))
-        × FillsBody (kept.old ++ taken) body.new kept.new (S.left source.new) (S.faults source.old) (S.faults source.new) result
-        × (length body.old ≤ length kept.old → taken ≡ []) }
-    ensures idle { length body.old ≤ length kept.old → source.new ≡ source.old }
+        × FillsBody whole (kept.old ++ taken) body.new.items kept.new (S.left source.new) (S.faults source.old) (S.faults source.new) result
+        × (whole ≤ length kept.old → taken ≡ []) }
+    ensures idle { whole ≤ length kept.old → source.new ≡ source.old }
     ensures quiet { UnlessFault result (S.faults source.new ≡ S.faults source.old) }
 {
-    let n = kept.bytes().len().min(body.len());
-    body[..n].copy_from_slice(&kept.bytes()[..n]);
+    let n = kept.bytes().len().min(whole);
+    match body.extend_from_slice(&kept.bytes()[..n]) {
+        Ok(()) => {}
+        Err(_) => unreachable!(),
+    }
     kept.consume(n);
-    read_rest(source, &mut body[n..])
-}
-
-// That many zeros.
-fn zeros(alloc: Global, n: usize) -> Result<Vec<u8>, Memory>
-    ensures { IfOk result (λ zeros. length zeros.items ≡ n) }
-{
-    let mut zeros = Vec::new(alloc);
-    zeros.resize(n, 0)?;
-    Ok(zeros)
+    read_rest(source, body, whole)
 }
 
 /// Reads requests from a source, one after the other. Contracts see the bytes that it took beyond its last request,
@@ -80,7 +107,7 @@ impl Model for Reader {
 }
 
 // Reads the body of a request whose head was found in the bytes that are kept. Memory is asked for before a byte is
-// let go.
+// let go; that of the body is reserved, and used as its bytes come.
 fn read_found<S: Source>(
     kept: &mut Unread,
     source: &mut S,
@@ -103,12 +130,12 @@ fn read_found<S: Source>(
         Ok(req) => req,
         Err(_) => return Err(ReqNo::Memory),
     };
-    let mut body = match zeros(alloc, length) {
+    let mut body = match Vec::with_capacity(alloc, length) {
         Ok(body) => body,
         Err(_) => return Err(ReqNo::Memory),
     };
     kept.consume(found.len);
-    match read_body(kept, source, body.as_mut_slice()) {
+    match read_body(kept, source, &mut body, length) {
         Ok(()) => {
             req.body = Body::from_vec(body);
             Ok(Some(req))

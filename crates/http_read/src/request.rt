@@ -25,11 +25,15 @@ pub struct Req {
     pub params: Params,
     /// The body, empty where the head gives no length.
     pub body: Body,
-    /// Whether the client wants the connection to end with the reply: Connection has `close`.
+    /// Whether the connection ends with the reply: Connection has `close`, or the method is HEAD, whose clients take no
+    /// body.
     pub close: bool,
-    /// Whether a browser made it, and not for the server's own site: Origin or Sec-Fetch-Site is there, and either of
-    /// them tells another site, or Host isn't a loopback name or address.
+    /// Whether it was made for another site: Host has a dot and is no address of the loopback; or a browser made it,
+    /// since Origin or Sec-Fetch-Site is there, and either of them tells another site, or Host isn't a loopback name or
+    /// address.
     pub foreign: bool,
+    /// Whether Content-Type names protobuf, YAML or CBOR, so that a body can't be read.
+    pub unreadable: bool,
     /// The first Accept field.
     pub accept: Option<Text>,
     /// The upgrade to a WebSocket that is asked for.

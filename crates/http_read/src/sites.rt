@@ -1,4 +1,4 @@
-//! For which site a browser made a request.
+//! For which site a request was made.
 
 ghost use Rattle.std.specs.Prelude.{◌≡◌, ◌||◌, ◌==◌, not, length, map, All};
 ghost use Rattle.std.specs.Char.{is_ascii_digit};
@@ -30,6 +30,40 @@ fn is_loopback(host: &[u8]) -> bool
 {
     let (name, _) = parted_short(host, b':');
     host.starts_with(b"[::1]") || is_same(name, b"localhost") || is_loopback_address(name)
+}
+
+// Whether a host has a dot.
+fn has_dot(host: &[u8]) -> bool
+    ensures { result ≡ list_any (λ b. b == 46) host.now }
+{
+    host.iter().any(|b| *b == b'.')
+}
+
+// Whether a host has a dot and is no name or address of the loopback.
+fn is_elsewhere(host: &[u8]) -> bool
+    ensures { result ≡ site.is_elsewhere host.now }
+{
+    has_dot(host) && !is_loopback(host)
+}
+
+// Whether a field says that the server was asked by such a host.
+fn asks_elsewhere(bytes: &[u8], field: &HeaderSpan) -> bool
+    requires { IsHeaderWithin (length bytes.now) field.now }
+    ensures { result ≡ site.asks_elsewhere (header_bytes bytes.now field.now) }
+{
+    is_named(bytes, field, b"host") && is_elsewhere(field.value.of(bytes))
+}
+
+// Whether some field says so.
+fn some_asks_elsewhere(bytes: &[u8], fields: &[HeaderSpan]) -> bool
+    requires { All (IsHeaderWithin (length bytes.now)) fields.now }
+    ensures { result ≡ list_any site.asks_elsewhere (map (header_bytes bytes.now) fields.now) }
+{
+    let mut elsewhere = false;
+    for field in fields {
+        elsewhere |= asks_elsewhere(bytes, field);
+    }
+    elsewhere
 }
 
 // Whether this is the origin of the pages of a host.
@@ -80,11 +114,20 @@ fn is_own(bytes: &[u8], fields: &[HeaderSpan]) -> bool
     }
 }
 
-/// Whether a browser made the request, and not for the server's own site.
+// Whether a browser made the request, and not for the server's own site.
+fn is_for_other(bytes: &[u8], fields: &[HeaderSpan]) -> bool
+    requires { All (IsHeaderWithin (length bytes.now)) fields.now }
+    ensures { result ≡ site.is_for_other (map (header_bytes bytes.now) fields.now) }
+{
+    (has_field(bytes, fields, b"origin") || has_field(bytes, fields, b"sec-fetch-site"))
+        && !is_own(bytes, fields)
+}
+
+/// Whether the request was made for another site: that has the name by which the server was asked, or a browser tells
+/// so.
 pub(crate) fn is_foreign(bytes: &[u8], fields: &[HeaderSpan]) -> bool
     requires { All (IsHeaderWithin (length bytes.now)) fields.now }
     ensures { result ≡ site.is_foreign (map (header_bytes bytes.now) fields.now) }
 {
-    (has_field(bytes, fields, b"origin") || has_field(bytes, fields, b"sec-fetch-site"))
-        && !is_own(bytes, fields)
+    some_asks_elsewhere(bytes, fields) || is_for_other(bytes, fields)
 }

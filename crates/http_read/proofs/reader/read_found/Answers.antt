@@ -1,6 +1,5 @@
 use Rattle.std.proofs.Common.{ap, sym, subst, refl, ◌≡◌, ◌∙◌, ◌++◌, [], drop, length, append-nil, arith}
 use Rattle.std.specs.Prelude.{Ok, Err}
-use Rattle.std.proofs.lemmas.List.{with_items_is}
 use Rattle.edge_io.proofs.ToldLemmas.{prepended-nil}
 use Rattle.httparse.specs.Spans.{IsRequestAt}
 use Rattle.http_read.specs.Requests.{front}
@@ -32,20 +31,18 @@ returns-in-Ok-read_body-clause-reads g c =
     let at = subst (λ b. IsRequestAt (front b) c.args.spans.now c.args.found f.head) (sym c.bytes.ensures) f.at in
     let at-2 = subst (λ b. IsRequestAt (front b) c.args.spans.now c.args.found f.head) (sym c.bytes-2.ensures) f.at in
     let came = c.in-Ok-read_body.ensures.reads in
-    let body : c.from_vec.result ≡ c.read_body.new.body =
-    c.from_vec.ensures ∙ with_items_is c.in-Ok-zeros.body c.read_body.new.body (c.read_body.auto.body ∙ c.as_mut_slice.ensures.len) in
-    let long : c.in-Ok.length ≡ length c.from_vec.result =
-    omega (arith, c.in-Ok-zeros.ensures, c.read_body.auto.body, c.as_mut_slice.ensures.len, ap length body, c.in-Ok-zeros.body.ok.0) in (
+    let body : c.from_vec.result ≡ c.read_body.new.body.items = c.from_vec.ensures in
+    let long : c.in-Ok.length ≡ length c.from_vec.result = sym came.2.1 ∙ ap length (sym body) in (
       came.0,
       came.1,
       reads-one (kept ++ came.0) f.head (drop c.args.found.len kept ++ came.0) c.from_vec.result c.read_body.new.kept c.in-Ok-request_in.req
           (has-head kept came.0 c.args.spans.now c.args.found f)
-          (ap (λ l. l ++ came.0) (sym c.consume.ensures) ∙ came.2 ∙ ap (λ l. l ++ c.read_body.new.kept) (sym body))
+          (ap (λ l. l ++ came.0) (sym c.consume.ensures) ∙ came.2.0 ∙ ap (λ l. l ++ c.read_body.new.kept) (sym body))
           (sym (c.in-Ok.ensures f.head at) ∙ ap Ok long)
           (c.in-Ok-request_in.ensures f.head at-2),
       λ finished.
           let stands = body-stands kept f.head (drop c.args.found.len kept) c.in-Ok.length (head-here kept c.args.spans.now c.args.found f) (sym (c.in-Ok.ensures f.head at)) finished in
-          came.3 (omega (arith, stands, ap length c.consume.ensures, ap length c.as_mut_slice.ensures.value, c.in-Ok-zeros.ensures)),
+          came.3 (omega (arith, stands, ap length c.consume.ensures)),
     )
 
 pub returns-in-Err-read_body-clause-reads : goal.returns-in-Err-read_body-clause-reads
@@ -57,17 +54,16 @@ returns-in-Err-read_body-clause-reads g c =
     let left = g.S.Source.left c.read_body.new.source in
     let old_faults = g.S.Source.faults c.args.source.now in
     let new_faults = g.S.Source.faults c.read_body.new.source in
-    let long : c.in-Ok.length ≡ length c.read_body.new.body =
-    omega (arith, c.in-Ok-zeros.ensures, c.read_body.auto.body, c.as_mut_slice.ensures.len, c.in-Ok-zeros.body.ok.0) in (
+    let body = c.read_body.new.body.items in (
       came.0,
       came.1,
-      breaks-off (kept ++ came.0) f.head (drop c.args.found.len kept ++ came.0) c.read_body.new.body c.read_body.new.kept left old_faults new_faults c.in-Err-read_body.why
+      breaks-off (kept ++ came.0) f.head c.in-Ok.length (drop c.args.found.len kept ++ came.0) body c.read_body.new.kept left old_faults new_faults c.in-Err-read_body.why
           (has-head kept came.0 c.args.spans.now c.args.found f)
-          (sym (c.in-Ok.ensures f.head at) ∙ ap Ok long)
-          (subst (λ l. FillsBody (l ++ came.0) c.read_body.new.body c.read_body.new.kept left old_faults new_faults (Err c.in-Err-read_body.why)) c.consume.ensures came.2),
+          (sym (c.in-Ok.ensures f.head at))
+          (subst (λ l. FillsBody c.in-Ok.length (l ++ came.0) body c.read_body.new.kept left old_faults new_faults (Err c.in-Err-read_body.why)) c.consume.ensures came.2),
       λ finished.
           let stands = body-stands kept f.head (drop c.args.found.len kept) c.in-Ok.length (head-here kept c.args.spans.now c.args.found f) (sym (c.in-Ok.ensures f.head at)) finished in
-          came.3 (omega (arith, stands, ap length c.consume.ensures, ap length c.as_mut_slice.ensures.value, c.in-Ok-zeros.ensures)),
+          came.3 (omega (arith, stands, ap length c.consume.ensures)),
     )
 
 pub returns-in-Ok-read_body-clause-idle : goal.returns-in-Ok-read_body-clause-idle
@@ -76,7 +72,7 @@ returns-in-Ok-read_body-clause-idle g c = λ finished.
     let f = c.requires in
     let at = subst (λ b. IsRequestAt (front b) c.args.spans.now c.args.found f.head) (sym c.bytes.ensures) f.at in
     let stands = body-stands kept f.head (drop c.args.found.len kept) c.in-Ok.length (head-here kept c.args.spans.now c.args.found f) (sym (c.in-Ok.ensures f.head at)) finished in
-    c.in-Ok-read_body.ensures.idle (omega (arith, stands, ap length c.consume.ensures, ap length c.as_mut_slice.ensures.value, c.in-Ok-zeros.ensures))
+    c.in-Ok-read_body.ensures.idle (omega (arith, stands, ap length c.consume.ensures))
 
 pub returns-in-Err-read_body-clause-idle : goal.returns-in-Err-read_body-clause-idle
 returns-in-Err-read_body-clause-idle g c = λ finished.
@@ -84,12 +80,12 @@ returns-in-Err-read_body-clause-idle g c = λ finished.
     let f = c.requires in
     let at = subst (λ b. IsRequestAt (front b) c.args.spans.now c.args.found f.head) (sym c.bytes.ensures) f.at in
     let stands = body-stands kept f.head (drop c.args.found.len kept) c.in-Ok.length (head-here kept c.args.spans.now c.args.found f) (sym (c.in-Ok.ensures f.head at)) finished in
-    c.in-Err-read_body.ensures.idle (omega (arith, stands, ap length c.consume.ensures, ap length c.as_mut_slice.ensures.value, c.in-Ok-zeros.ensures))
+    c.in-Err-read_body.ensures.idle (omega (arith, stands, ap length c.consume.ensures))
 
 pub returns-in-Err-request_in-clause-reads : goal.returns-in-Err-request_in-clause-reads
 returns-in-Err-request_in-clause-reads g c =
     ([], sym (prepended-nil _), sym (append-nil c.args.kept.now), λ finished. refl)
 
-pub returns-in-Err-zeros-clause-reads : goal.returns-in-Err-zeros-clause-reads
-returns-in-Err-zeros-clause-reads g c =
+pub returns-in-Err-with_capacity-clause-reads : goal.returns-in-Err-with_capacity-clause-reads
+returns-in-Err-with_capacity-clause-reads g c =
     ([], sym (prepended-nil _), sym (append-nil c.args.kept.now), λ finished. refl)
