@@ -1,5 +1,5 @@
 -- What a refusal is told: a reason and a message.
-use Rattle.std.specs.Prelude.{ℕ, List, [], ◌∷◌, ◌++◌, Option, Some, codes, decimal}
+use Rattle.std.specs.Prelude.{ℕ, List, [], ◌∷◌, ◌++◌, Option, Some, codes, decimal, option_map}
 use Rattle.std.specs.List.{concat}
 use Rattle.kube_meta.specs.Resources.{message_name_of}
 use Rattle.kube_meta.specs.declared.resources.Resource.{Resource}
@@ -13,6 +13,10 @@ use Rattle.api_errors.specs.declared.failures.Failure.{Failure}
 -- what is told of a refusal that is told at all: its reason, and a message in words
 abbrev pub say : Reason → List ℕ → Option Failure
 say reason message = Some (record { reason = reason; message = message })
+
+-- the HTTP status of what is told of a refusal, and none where nothing is told
+abbrev pub code_told : Option Failure → Option ℕ
+code_told told = option_map (λ (failure : Failure). code_of failure.reason) told
 
 -- a fault at a place, and in an item; both are counted from 0
 abbrev pub say_at : Reason → List ℕ → ℕ → Option Failure

@@ -1,7 +1,7 @@
 -- The reasons of failures, with the HTTP status of each (Kubernetes API reference, `Status`; RFC 9110, section 15).
 use Rattle.std.specs.Prelude.{ℕ, List, Bool, true, false, codes}
 use Rattle.api_errors.specs.declared.reasons.Reason.{Reason}
-use Rattle.api_errors.specs.declared.reasons.Reason.TheVariants.{BadRequest, Forbidden, NotFound, MethodNotAllowed, AlreadyExists, Conflict, Expired, LengthRequired, RequestEntityTooLarge, Invalid, InternalError, Timeout}
+use Rattle.api_errors.specs.declared.reasons.Reason.TheVariants.{BadRequest, Forbidden, NotFound, MethodNotAllowed, AlreadyExists, Conflict, Expired, LengthRequired, RequestEntityTooLarge, UnsupportedMediaType, Invalid, InternalError, Timeout}
 
 -- the HTTP status code of a failure with this reason
 abbrev pub code_of : Reason → ℕ
@@ -14,6 +14,7 @@ code_of Conflict = 409
 code_of Expired = 410
 code_of LengthRequired = 411
 code_of RequestEntityTooLarge = 413
+code_of UnsupportedMediaType = 415
 code_of Invalid = 422
 code_of InternalError = 500
 code_of Timeout = 504
@@ -29,6 +30,7 @@ reason_word Conflict = codes "Conflict"
 reason_word Expired = codes "Expired"
 reason_word LengthRequired = codes "LengthRequired"
 reason_word RequestEntityTooLarge = codes "RequestEntityTooLarge"
+reason_word UnsupportedMediaType = codes "UnsupportedMediaType"
 reason_word Invalid = codes "Invalid"
 reason_word InternalError = codes "InternalError"
 reason_word Timeout = codes "Timeout"

@@ -4,12 +4,14 @@ use Rattle.json_obj.specs.declared.refusals.ObjNo.{ObjNo}
 use Rattle.json_obj.specs.declared.refusals.ObjNo.TheVariants as object
 use Rattle.route_req.specs.declared.routing.RouteNo.{RouteNo}
 use Rattle.route_req.specs.declared.routing.RouteNo.TheVariants as route
+use Rattle.route_req.specs.declared.unserved.Unserved.{Unserved}
+use Rattle.route_req.specs.declared.unserved.Unserved.TheVariants as unserved
 use Rattle.route_req.specs.declared.transactions.TxTextNo.{TxTextNo}
 use Rattle.route_req.specs.declared.transactions.TxTextNo.TheVariants as transaction
 use Rattle.api_errors.specs.Options.{list_told, watch_told}
 use Rattle.api_errors.specs.Selectors.{selector_told}
 use Rattle.api_errors.specs.Failures.{say, bad, bad_at}
-use Rattle.api_errors.specs.declared.reasons.Reason.TheVariants.{Forbidden, NotFound, MethodNotAllowed}
+use Rattle.api_errors.specs.declared.reasons.Reason.TheVariants.{Forbidden, NotFound, MethodNotAllowed, UnsupportedMediaType}
 use Rattle.api_errors.specs.declared.failures.Failure.{Failure}
 
 -- why a body holds no object that can be stored; what it was to be stored for isn't told
@@ -34,9 +36,16 @@ transaction_failure (transaction.BadObject index fault) = bad_at (codes "transac
 transaction_failure (transaction.Repeated index) = bad_at (codes "transaction: Repeated in item ") index
 transaction_failure transaction.Memory = None
 
+-- which option isn't served, and that the write was therefore not done
+abbrev pub unserved_told : Unserved → Option Failure
+unserved_told unserved.DryRun = bad (codes "the server does not serve dryRun, and nothing was done")
+unserved_told unserved.Preconditions = bad (codes "the server does not serve preconditions of a deletion, and nothing was done")
+
 -- why a request isn't tried: no such path, no such method there, or what is wrong with its options or its body
 abbrev pub route_told : RouteNo → Option Failure
 route_told route.ForeignSite = say Forbidden (codes "the server does not allow requests that a browser makes for another site")
+route_told route.MediaType = say UnsupportedMediaType (codes "the body of the request was in an unknown format - accepted media types include: application/json")
+route_told (route.Unserved option) = unserved_told option
 route_told route.NoPath = say NotFound (codes "the server could not find the requested resource")
 route_told route.NoMethod = say MethodNotAllowed (codes "the server does not allow this method on the requested resource")
 route_told (route.Selector fault) = selector_told fault

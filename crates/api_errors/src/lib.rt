@@ -2,6 +2,7 @@
 //! request, as the Kubernetes API words its failures.
 #![tactic(auto)]
 
+mod codes;
 mod failures;
 mod options;
 mod reasons;
@@ -10,6 +11,7 @@ mod routes;
 mod selectors;
 mod writes;
 
+pub use codes::{request_code, route_code};
 pub use failures::{
     Failure, already_exists, bad_upgrade, conflict, expired, not_found, read_only, too_large,
     used_up,

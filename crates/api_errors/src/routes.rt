@@ -9,7 +9,7 @@ use crate::selectors::selector_told;
 use crate::{Failure, Reason};
 use json_obj::ObjNo;
 use kube_meta::Memory;
-use route_req::{RouteNo, TxTextNo};
+use route_req::{RouteNo, TxTextNo, Unserved};
 use std::alloc::Global;
 
 /// What is told of a request that has no route; `None` for want of memory.
@@ -22,6 +22,12 @@ pub fn route_told(alloc: Global, fault: RouteNo) -> Result<Option<Failure>, Memo
             Reason::Forbidden,
             "the server does not allow requests that a browser makes for another site",
         ),
+        RouteNo::MediaType => say(
+            alloc,
+            Reason::UnsupportedMediaType,
+            "the body of the request was in an unknown format - accepted media types include: application/json",
+        ),
+        RouteNo::Unserved(option) => unserved_told(alloc, option),
         RouteNo::NoPath => say(
             alloc,
             Reason::NotFound,
@@ -39,6 +45,21 @@ pub fn route_told(alloc: Global, fault: RouteNo) -> Result<Option<Failure>, Memo
         RouteNo::Operation => say(alloc, Reason::BadRequest, "operation: BadRevision"),
         RouteNo::Transaction(fault) => transaction_told(alloc, fault),
         RouteNo::Memory => Ok(None),
+    }
+}
+
+fn unserved_told(alloc: Global, option: Unserved) -> Result<Option<Failure>, Memory>
+    ensures { IfOk result (λ told. told ≡ spec.unserved_told option) }
+{
+    match option {
+        Unserved::DryRun => bad(
+            alloc,
+            "the server does not serve dryRun, and nothing was done",
+        ),
+        Unserved::Preconditions => bad(
+            alloc,
+            "the server does not serve preconditions of a deletion, and nothing was done",
+        ),
     }
 }
 

@@ -7,7 +7,7 @@ use Rattle.kube_meta.specs.Names.{is_namespace}
 use Rattle.kube_meta.specs.declared.resources.Resource.{Resource}
 use Rattle.kube_meta.specs.declared.resources.Resource.TheVariants.{Pods}
 use Rattle.discovery.specs.declared.documents.Document.{Document}
-use Rattle.discovery.specs.declared.documents.Document.TheVariants.{Version, CoreVersions, Groups, AppsGroup, CoreResources, AppsResources, Namespace, Probe}
+use Rattle.discovery.specs.declared.documents.Document.TheVariants.{Version, CoreVersions, Groups, AppsGroup, CoreResources, AppsResources, OpenApi, Namespace, Probe}
 use Rattle.discovery.specs.declared.documents.Probe.TheVariants.{Livez, Readyz, Healthz}
 use Rattle.route_req.specs.Places.{document_path, IsDocument, place_path}
 use Rattle.route_req.specs.Lookup.{last_kept, before_slash, document_word, document_pair, apps_document, namespace_document, document_at}
@@ -68,9 +68,12 @@ pair_found : (base word : List ℕ) (text : Document) → document_pair base wor
 pair_found base word text e =
     elim (first_found (bytes_eq base (codes "api") && bytes_eq word (codes "v1")) CoreResources _ text e) [
       | inl p ↦ has_moved (codes "api" ∷ codes "v1" ∷ []) (base ∷ word ∷ []) CoreResources text (pair_same base word (codes "api") (codes "v1") p.0) p.1 (refl, tt)
-      | inr e1 ↦ elim (first_found (bytes_eq base (codes "apis") && bytes_eq word (codes "apps")) AppsGroup None text e1) [
+      | inr e1 ↦ elim (first_found (bytes_eq base (codes "apis") && bytes_eq word (codes "apps")) AppsGroup _ text e1) [
         | inl p ↦ has_moved (codes "apis" ∷ codes "apps" ∷ []) (base ∷ word ∷ []) AppsGroup text (pair_same base word (codes "apis") (codes "apps") p.0) p.1 (refl, tt)
-        | inr none ↦ absurd (none-some text none)
+        | inr e2 ↦ elim (first_found (bytes_eq base (codes "openapi") && bytes_eq word (codes "v2")) OpenApi None text e2) [
+          | inl p ↦ has_moved (codes "openapi" ∷ codes "v2" ∷ []) (base ∷ word ∷ []) OpenApi text (pair_same base word (codes "openapi") (codes "v2") p.0) p.1 (refl, tt)
+          | inr none ↦ absurd (none-some text none)
+        ]
       ]
     ]
 

@@ -20,7 +20,7 @@ use Rattle.up_store.specs.declared.operations.Operate.TheVariants as operate
 use Rattle.route_req.specs.Asks.{is_watch, AsksList, AsksWatch, Asks}
 use Rattle.route_req.specs.Outcomes.{AnswersAgree}
 use Rattle.route_req.specs.declared.places.Action.{Action}
-use Rattle.route_req.specs.declared.places.Action.TheVariants.{Read, Create, Get, Replace, Compact, Transact}
+use Rattle.route_req.specs.declared.places.Action.TheVariants.{Read, Create, Get, Replace, Remove, Compact, Transact}
 use Rattle.route_req.specs.declared.routing.Routed.{Routed}
 use Rattle.route_req.specs.declared.routing.Routed.TheVariants as routed
 use Rattle.route_req.proofs.Readings.{one_text, one_object, unrefused_plain, stores_once, one_transaction}
@@ -98,6 +98,7 @@ acts_once (Get r ns name) req a b ha hb =
     let x = get_asks r ns name req.params a ha in
     let y = get_asks r ns name req.params b hb in
     x.1 ∙ ap (λ v. routed.Get v) (gets_once x.0 y.0 (x.2 ∙ sym y.2) (x.3 ∙ sym y.3) (same_Ok (x.0).meaning (y.0).meaning (sym x.4 ∙ y.4))) ∙ sym y.1
+acts_once (Remove r ns name) req a b ha hb = ha.1 ∙ sym hb.1
 acts_once (Replace r ns name) req a b ha hb =
     let x = replace_asks r ns name req.body a ha in
     let y = replace_asks r ns name req.body b hb in

@@ -1,7 +1,6 @@
 -- A request has one outcome.
 use Rattle.std.proofs.Common.{◌≡◌, ◌≢◌, ℕ, Bool, true, false, List, Option, Some, None, Result, Ok, Err, refl, sym, ap, subst, ◌∙◌, inl, inr, ◌⊎◌, codes, cond, bytes_eq}
 use Rattle.std.specs.Bool.{MatchBool}
-use Rattle.std.proofs.lemmas.Bool.{both_ways}
 use Rattle.std.proofs.lemmas.Option.{none-some, same_Some}
 use Rattle.serde_json.specs.Data.{Data}
 use Rattle.kube_meta.specs.declared.objects.Obj.{Obj}
@@ -27,18 +26,19 @@ use Rattle.up_store.specs.declared.writes.WriteAsk.TheVariants as write
 use Rattle.up_store.specs.declared.operations.Operate.TheVariants as operate
 use Rattle.route_req.specs.Places.{Names, action_at, takes_memory}
 use Rattle.route_req.specs.Texts.{AsksTransaction, RefusesText}
-use Rattle.route_req.specs.Asks.{is_watch, IsSelection, HasSelectorFault, compacts_at, HoldsNoObject, AsksList, AsksWatch, AsksRead, AsksCreate, AsksReplace, AsksGet, AsksCompact, AsksTransact, Asks, RefusesList, RefusesWatch, RefusesRead, RefusesObject, RefusesGet, RefusesCompact, RefusesTransact, Refuses, AsksAtPath, RefusesAtPath, IsRefusal}
+use Rattle.route_req.specs.Asks.{is_watch, IsSelection, HasSelectorFault, compacts_at, HoldsNoObject, AsksList, AsksWatch, AsksRead, AsksCreate, AsksReplace, AsksGet, AsksCompact, AsksTransact, Asks, option_in, AsksOption, first_refusal, RefusesList, RefusesWatch, RefusesRead, RefusesObject, RefusesGet, RefusesRemove, RefusesCompact, RefusesTransact, Refuses, AsksAtPath, RefusesAtPath, IsRefusal}
 use Rattle.route_req.specs.Outcomes.{RoutesAreNotRefused, RefusalsAgree}
 use Rattle.route_req.specs.declared.places.Place.{Place}
-use Rattle.route_req.specs.declared.places.Place.TheVariants.{Described, OfMetrics, OfCut, OfCompact, OfRestart}
+use Rattle.route_req.specs.declared.places.Place.TheVariants.{Described, OfMetrics, OfCut, OfCompact, OfRestart, OfDisconnect}
 use Rattle.route_req.specs.declared.places.Action.{Action}
-use Rattle.route_req.specs.declared.places.Action.TheVariants.{Describe, Measure, Read, Create, Get, Replace, Remove, Cut, Compact, Restart, Transact}
+use Rattle.route_req.specs.declared.places.Action.TheVariants.{Describe, Measure, Read, Create, Get, Replace, Remove, Cut, Compact, Restart, Disconnect, Transact}
 use Rattle.route_req.specs.declared.transactions.TxTextNo.{TxTextNo}
 use Rattle.route_req.specs.declared.transactions.TxTextNo.TheVariants as text_no
 use Rattle.route_req.specs.declared.routing.Routed.{Routed}
 use Rattle.route_req.specs.declared.routing.Routed.TheVariants as routed
 use Rattle.route_req.specs.declared.routing.RouteNo.{RouteNo}
 use Rattle.route_req.specs.declared.routing.RouteNo.TheVariants as route_no
+use Rattle.route_req.specs.declared.unserved.Unserved.{Unserved}
 use Rattle.route_req.proofs.DocumentPaths.{if_found}
 use Rattle.route_req.proofs.Paths.{one_place}
 use Rattle.route_req.proofs.Readings.{one_text, texts_agree, text_unrefused}
@@ -115,6 +115,17 @@ get_tells params (route_no.List ask_no.Memory) is = absurd is
 get_tells params (route_no.List why) is = inr (why, refl, is)
 get_tells params route_no.Memory is = inl refl
 get_tells params fault is = absurd is
+
+remove_tells : (body : List ℕ) (fault : RouteNo) → RefusesRemove body fault → Tells fault (λ why. route_no.Unserved why) (AsksOption body)
+remove_tells body (route_no.Unserved option) is = inr (option, refl, is)
+remove_tells body route_no.Memory is = inl refl
+remove_tells body fault is = absurd is
+
+-- a body asks for one option
+options_agree : (body : List ℕ) (x y : Unserved) → AsksOption body x → AsksOption body y → x ≡ y
+options_agree body x y a b =
+    let same : a.0 ≡ b.0 = one_text body a.0 b.0 a.1 b.1 in
+    same_Some x y (sym a.2 ∙ ap option_in same ∙ b.2)
 
 compact_tells : (params : QueryPairs) (fault : RouteNo) → RefusesCompact params fault → (fault ≡ route_no.Operation) × ((at : ℕ) → compacts_at params ≡ Some (Ok at) → ⊥)
 compact_tells params route_no.Operation is = (refl, is)
@@ -210,6 +221,7 @@ memory_taken req OfMetrics action e refused = absurd (same_refuses req Measure a
 memory_taken req OfCut action e refused = absurd (same_refuses req Cut action (bytes_eq req.method (codes "POST")) e refused)
 memory_taken req OfCompact action e refused = absurd (same_refuses req Compact action (bytes_eq req.method (codes "POST")) e refused)
 memory_taken req OfRestart action e refused = absurd (same_refuses req Restart action (bytes_eq req.method (codes "POST")) e refused)
+memory_taken req OfDisconnect action e refused = absurd (same_refuses req Disconnect action (bytes_eq req.method (codes "POST")) e refused)
 memory_taken req place action e refused = refl
 
 -- what an action refuses is refused at the path that names it
@@ -218,6 +230,7 @@ refused_at_path req place action fault names at refused = by_fault fault (act_pl
   where
     by_fault : (fault : RouteNo) → Placed fault → Refuses action req fault → RefusesAtPath req fault
     by_fault route_no.ForeignSite placed is = absurd placed
+    by_fault route_no.MediaType placed is = absurd placed
     by_fault route_no.NoPath placed is = absurd placed
     by_fault route_no.NoMethod placed is = absurd placed
     by_fault route_no.Memory placed is = (place, names, memory_taken req place action at is)
@@ -261,7 +274,9 @@ acts_exclude (Get r ns name) req answer fault asked refused =
 acts_exclude (Replace r ns name) req answer fault asked refused =
     let x = replace_asks r ns name req.body answer asked in
     body_excludes r ns (Some name) req.body fault x.2 x.4 x.5 refused
-acts_exclude (Remove r ns name) req answer fault asked refused = refused
+acts_exclude (Remove r ns name) req answer fault asked refused =
+    told_memory (λ why. route_no.Unserved why) (AsksOption req.body) fault
+    (λ why bad. none-some why (sym (asked.0 bad.0 bad.1) ∙ bad.2)) (remove_tells req.body fault refused)
 acts_exclude Compact req answer fault asked refused =
     let ask = compact_asks req.params answer asked in
     absurd ((compact_tells req.params fault refused).1 ask.0 ask.2)
@@ -302,7 +317,8 @@ acts_agree (Create r ns) req a b ha hb na nb = body_agrees r ns None req.body a 
 acts_agree (Get r ns name) req a b ha hb na nb =
     told_once (λ why. route_no.List why) _ a b (λ x y hx hy. err_once (of_get (parameter_number (given (codes "resourceVersion") req.params))) x y hx hy) (get_tells req.params a ha) (get_tells req.params b hb) na nb
 acts_agree (Replace r ns name) req a b ha hb na nb = body_agrees r ns (Some name) req.body a b ha hb na nb
-acts_agree (Remove r ns name) req a b ha hb na nb = ha ∙ sym hb
+acts_agree (Remove r ns name) req a b ha hb na nb =
+    told_once (λ why. route_no.Unserved why) (AsksOption req.body) a b (options_agree req.body) (remove_tells req.body a ha) (remove_tells req.body b hb) na nb
 acts_agree Compact req a b ha hb na nb = (compact_tells req.params a ha).0 ∙ sym (compact_tells req.params b hb).0
 acts_agree Transact req a b ha hb na nb =
     told_once (λ why. route_no.Transaction why) (TextFault req.body) a b (λ x y hx hy. texts_agree req.body x y hx.0 hy.0 hx.1 hy.1) (text_tells req.body a ha) (text_tells req.body b hb) na nb
@@ -326,6 +342,7 @@ Refusal req fault = ((fault ≡ route_no.NoPath) × ((place : Place) → Names r
 
 refusal_is : (req : Req) (fault : RouteNo) → RefusesAtPath req fault → Refusal req fault
 refusal_is req route_no.ForeignSite is = absurd is
+refusal_is req route_no.MediaType is = absurd is
 refusal_is req route_no.NoPath is = inl (refl, is)
 refusal_is req route_no.Memory is = inr (inl refl)
 refusal_is req route_no.NoMethod is = inr (inr (inl (refl, is.0, is.1, is.2)))
@@ -333,11 +350,6 @@ refusal_is req fault is = inr (inr (inr is))
 
 pub same_action : (req : Req) (p q : Place) (a b : Option Action) → Names req.path p → Names req.path q → action_at p req.method ≡ a → action_at q req.method ≡ b → a ≡ b
 same_action req p q a b np nq ea eb = sym ea ∙ ap (λ place. action_at place req.method) (one_place req.path p q np nq) ∙ eb
-
--- a refusal: of a browser's request for another site, or of what the path and the rest ask for
-sited : (req : Req) (fault : RouteNo) → IsRefusal req fault → ((fault ≡ route_no.ForeignSite) × (req.foreign ≡ true)) ⊎ ((req.foreign ≡ false) × RefusesAtPath req fault)
-sited req route_no.ForeignSite is = inl (refl, is)
-sited req fault is = inr is
 
 asked_excludes : (req : Req) (answer : Routed) (fault : RouteNo) → AsksAtPath req answer → RefusesAtPath req fault → fault ≡ route_no.Memory
 asked_excludes req answer fault route refused = by_refusal (refusal_is req fault refused)
@@ -351,8 +363,8 @@ asked_excludes req answer fault route refused = by_refusal (refusal_is req fault
         acts_exclude route.1 req answer fault route.4 (subst (λ action. Refuses action req fault) same act.4)
 
 pub routes_are_not_refused : RoutesAreNotRefused
-routes_are_not_refused req answer fault (own, route) refused = elim (sited req fault refused) [
-  | inl other ↦ absurd (both_ways req.foreign own other.1)
+routes_are_not_refused req answer fault (passed, route) refused = elim refused [
+  | inl first ↦ absurd (none-some fault (sym passed ∙ first))
   | inr at ↦ asked_excludes req answer fault route at.1
 ]
 
@@ -376,11 +388,10 @@ asked_agree req a b ra rb na nb = by_refusals (refusal_is req a ra) (refusal_is 
     by_refusals (inr (inr x)) (inr (inr y)) = places x y
 
 pub refusals_agree : RefusalsAgree
-refusals_agree req a b ra rb na nb = both (sited req a ra) (sited req b rb)
+refusals_agree req a b ra rb na nb = both ra rb
   where
-    both : ((a ≡ route_no.ForeignSite) × (req.foreign ≡ true)) ⊎ ((req.foreign ≡ false) × RefusesAtPath req a)
-        → ((b ≡ route_no.ForeignSite) × (req.foreign ≡ true)) ⊎ ((req.foreign ≡ false) × RefusesAtPath req b) → a ≡ b
-    both (inl x) (inl y) = x.0 ∙ sym y.0
-    both (inl x) (inr y) = absurd (both_ways req.foreign y.0 x.1)
-    both (inr x) (inl y) = absurd (both_ways req.foreign x.0 y.1)
+    both : IsRefusal req a → IsRefusal req b → a ≡ b
+    both (inl x) (inl y) = same_Some a b (sym x ∙ y)
+    both (inl x) (inr y) = absurd (none-some a (sym y.0 ∙ x))
+    both (inr x) (inl y) = absurd (none-some b (sym x.0 ∙ y))
     both (inr x) (inr y) = asked_agree req a b x.1 y.1 na nb

@@ -12,7 +12,7 @@ use Rattle.route_req.specs.Lookup.{behind, namespaced, named, own_word, own_plac
 use Rattle.discovery.specs.declared.documents.Document.{Document}
 use Rattle.route_req.proofs.DocumentPaths.{if_found, same_text, row_found, text_found, slashed, text_at_path, text_at_slash, no_text_everywhere, no_text_namespaced, no_text_named}
 use Rattle.route_req.specs.declared.places.Place.{Place}
-use Rattle.route_req.specs.declared.places.Place.TheVariants.{Described, Everywhere, Namespaced, Named, OfMetrics, OfCut, OfCompact, OfRestart, OfTransaction}
+use Rattle.route_req.specs.declared.places.Place.TheVariants.{Described, Everywhere, Namespaced, Named, OfMetrics, OfCut, OfCompact, OfRestart, OfDisconnect, OfTransaction}
 
 -- ---- what a look-up that found something looked at
 
@@ -46,8 +46,9 @@ moved path path' p place e f n = subst (Names path') f (subst (λ q. Names q p) 
 own_word_found : (word : List ℕ) (place : Place) → own_word word ≡ Some place → Names (codes "watchcache" ∷ word ∷ []) place
 own_word_found word place e =
     row_found (λ w p. Names (codes "watchcache" ∷ w ∷ []) p)
-    ((codes "cut", OfCut) ∷ (codes "compact", OfCompact) ∷ (codes "restart", OfRestart) ∷ (codes "transaction", OfTransaction) ∷ []) word place
-    ((refl, tt), ((refl, tt), ((refl, tt), ((refl, tt), tt)))) e
+    ((codes "cut", OfCut) ∷ (codes "compact", OfCompact) ∷ (codes "restart", OfRestart) ∷ (codes "disconnect", OfDisconnect)
+    ∷ (codes "transaction", OfTransaction) ∷ []) word place
+    ((refl, tt), ((refl, tt), ((refl, tt), ((refl, tt), ((refl, tt), tt))))) e
 
 own_found : (rest : List (List ℕ)) (place : Place) → own_place rest ≡ Some place → Names (codes "watchcache" ∷ rest) place
 own_found (word ∷ []) place e = own_word_found word place e

@@ -33,7 +33,7 @@ use Rattle.list_rules.specs.Tokens.{token_read}
 use Rattle.json_obj.specs.declared.refusals.ObjNo.{ObjNo}
 use Rattle.json_obj.specs.declared.refusals.ObjNo.TheVariants as object_no
 use Rattle.route_req.specs.Texts as texts
-use Rattle.route_req.specs.Asks.{is_watch, of_selector, of_list, of_object, of_text, wraps_memory, RefusesList, RefusesWatch, RefusesRead, RefusesObject, RefusesGet, RefusesCompact, RefusesTransact, Refuses}
+use Rattle.route_req.specs.Asks.{is_watch, of_selector, of_list, of_object, of_text, wraps_memory, RefusesList, RefusesWatch, RefusesRead, RefusesObject, RefusesGet, RefusesRemove, RefusesCompact, RefusesTransact, Refuses}
 use Rattle.route_req.specs.declared.places.Action.{Action}
 use Rattle.route_req.specs.declared.places.Action.TheVariants.{Read, Create, Get, Replace, Remove, Compact, Transact}
 use Rattle.route_req.specs.declared.transactions.TxTextNo.TheVariants as text_no
@@ -114,11 +114,12 @@ object_told d why is = elim is [
 
 abbrev pub Placed : RouteNo → Type 0
 Placed route_no.ForeignSite = ⊥
+Placed route_no.MediaType = ⊥
 Placed route_no.NoPath = ⊥
 Placed route_no.NoMethod = ⊥
 Placed fault = Unit {0}
 
--- what an action refuses is no want of memory within, and isn't for its path, its method or its site
+-- what an action refuses is no want of memory within, and isn't for its path, its method, its site or its media type
 abbrev pub IsPlain : RouteNo → Type 0
 IsPlain fault = (wraps_memory fault ≡ false) × Placed fault
 
@@ -161,6 +162,11 @@ get_plain params (route_no.List why) is = (refl, tt)
 get_plain params route_no.Memory is = (refl, tt)
 get_plain params fault is = absurd is
 
+remove_plain : (body : List ℕ) (fault : RouteNo) → RefusesRemove body fault → IsPlain fault
+remove_plain body (route_no.Unserved option) is = (refl, tt)
+remove_plain body route_no.Memory is = (refl, tt)
+remove_plain body fault is = absurd is
+
 text_plain : (body : List ℕ) (fault : RouteNo) → RefusesTransact body fault → IsPlain fault
 text_plain body (route_no.Transaction (text_no.BadObject i why)) is = (item_told i why (object_told is.1 why is.4), tt)
 text_plain body (route_no.Transaction text_no.Memory) is = absurd is
@@ -177,7 +183,7 @@ act_plain (Read r ns) req fault is = read_plain r ns req.params fault is
 act_plain (Create r ns) req fault is = body_plain r ns None req.body fault is
 act_plain (Get r ns name) req fault is = get_plain req.params fault is
 act_plain (Replace r ns name) req fault is = body_plain r ns (Some name) req.body fault is
-act_plain (Remove r ns name) req fault is = subst IsPlain (sym is) (refl, tt)
+act_plain (Remove r ns name) req fault is = remove_plain req.body fault is
 act_plain Compact req fault is = compact_plain req.params fault is
 act_plain Transact req fault is = text_plain req.body fault is
 act_plain action req fault is = absurd is

@@ -1,8 +1,11 @@
--- What a request asks for, or why it is refused: by its path, its method, its selectors, its options and its body, in this order.
-use Rattle.std.specs.Prelude.{◌≡◌, ℕ, List, Bool, true, false, Option, Some, None, Result, Ok, Err, codes, option_map}
+-- What a request asks for, or why it is refused: for whom it was made, by the media type of a write's body and by a dry run;
+-- then by its path, its method, its selectors, its options and its body, in this order.
+use Rattle.std.specs.Prelude.{◌≡◌, ◌⊎◌, ◌==◌, ◌&&◌, ◌||◌, ℕ, List, length, Bool, true, false, not, Option, Some, None, is_some, Result, Ok, Err, codes, option_map, if◌then◌else◌}
 use Rattle.std.specs.Bool.{MatchBool}
 use Rattle.std.specs.Option.{option_map_or}
+use Rattle.std.specs.Str.{bytes_eq}
 use Rattle.serde_json.specs.Data.{Data}
+use Rattle.serde_json.specs.Find.{get}
 use Rattle.kube_meta.specs.Keys.{joined}
 use Rattle.kube_meta.specs.Revisions.{revision_of}
 use Rattle.kube_meta.specs.declared.revisions.RevNo.{RevNo}
@@ -30,13 +33,15 @@ use Rattle.route_req.specs.Places.{Names, action_at, MayLackMemory}
 use Rattle.route_req.specs.Texts.{AsksTransaction, RefusesText}
 use Rattle.route_req.specs.declared.places.Place.{Place}
 use Rattle.route_req.specs.declared.places.Action.{Action}
-use Rattle.route_req.specs.declared.places.Action.TheVariants.{Describe, Measure, Read, Create, Get, Replace, Remove, Cut, Compact, Restart, Transact}
+use Rattle.route_req.specs.declared.places.Action.TheVariants.{Describe, Measure, Read, Create, Get, Replace, Remove, Cut, Compact, Restart, Disconnect, Transact}
 use Rattle.route_req.specs.declared.transactions.TxTextNo.{TxTextNo}
 use Rattle.route_req.specs.declared.transactions.TxTextNo.TheVariants as text_no
 use Rattle.route_req.specs.declared.routing.Routed.{Routed}
 use Rattle.route_req.specs.declared.routing.Routed.TheVariants as routed
 use Rattle.route_req.specs.declared.routing.RouteNo.{RouteNo}
 use Rattle.route_req.specs.declared.routing.RouteNo.TheVariants as route_no
+use Rattle.route_req.specs.declared.unserved.Unserved.{Unserved}
+use Rattle.route_req.specs.declared.unserved.Unserved.TheVariants.{DryRun, Preconditions}
 
 -- a read of a collection is a watch exactly where the truth parameter `watch` is true
 abbrev pub is_watch : QueryPairs → Bool
@@ -62,6 +67,23 @@ compacts_at params = option_map revision_of (given (codes "revision") params)
 abbrev pub HoldsNoObject : Resource → List ℕ → Option (List ℕ) → List ℕ → ObjNo → Type 0
 HoldsNoObject r ns name body object_no.NotJson = (d : Data) → ¬ (IsTextOf body d)
 HoldsNoObject r ns name body fault = (d : Data) × IsTextOf body d × (refusal r ns name d ≡ Some fault)
+
+-- ---- options of writes that aren't served
+
+-- the option of a deletion that a value has as a member, the first of them: to try it alone, or to do it only to an object
+-- of one revision or uid
+abbrev pub option_in : Data → Option Unserved
+option_in d =
+    if is_some (get (codes "dryRun") d) then Some DryRun else
+    (if is_some (get (codes "preconditions") d) then Some Preconditions else None)
+
+-- a body asks for this option: it is one JSON text, of a value that has it
+abbrev pub AsksOption : List ℕ → Unserved → Type 0
+AsksOption body option = (d : Data) × IsTextOf body d × (option_in d ≡ Some option)
+
+-- a body asks for none of them
+abbrev pub AsksNoOption : List ℕ → Type 0
+AsksNoOption body = (d : Data) → IsTextOf body d → option_in d ≡ None
 
 -- ---- what is asked for at a place that has the method
 
@@ -110,9 +132,10 @@ abbrev pub AsksTransact : List ℕ → Routed → Type 0
 AsksTransact body (routed.Transact transaction) = AsksTransaction body transaction
 AsksTransact body answer = ⊥
 
--- a removal of the object that the path names, whatever its revision; the parameters and the body are ignored
-abbrev pub AsksRemove : Resource → List ℕ → List ℕ → Routed → Type 0
-AsksRemove r ns name answer = answer ≡ routed.Write (write.Remove r (joined ns name))
+-- a removal of the object that the path names, whatever its revision; its body asks for no option that isn't served, and is
+-- ignored otherwise
+abbrev pub AsksRemove : Resource → List ℕ → List ℕ → List ℕ → Routed → Type 0
+AsksRemove r ns name body answer = AsksNoOption body × (answer ≡ routed.Write (write.Remove r (joined ns name)))
 
 -- what a request is for, of which its path and its method have said the action already
 abbrev pub Asks : Action → Req → Routed → Type 0
@@ -122,10 +145,11 @@ Asks (Read r ns) req answer = AsksRead r ns req.params answer
 Asks (Create r ns) req answer = AsksCreate r ns req.body answer
 Asks (Get r ns name) req answer = AsksGet r ns name req.params answer
 Asks (Replace r ns name) req answer = AsksReplace r ns name req.body answer
-Asks (Remove r ns name) req answer = AsksRemove r ns name answer
+Asks (Remove r ns name) req answer = AsksRemove r ns name req.body answer
 Asks Cut req answer = answer ≡ routed.Operate operate.Cut
 Asks Compact req answer = AsksCompact req.params answer
 Asks Restart req answer = answer ≡ routed.Operate operate.Restart
+Asks Disconnect req answer = answer ≡ routed.Operate operate.Disconnect
 Asks Transact req answer = AsksTransact req.body answer
 
 -- ---- why it is refused there; want of memory may come wherever some is taken
@@ -183,6 +207,12 @@ RefusesGet params (route_no.List fault) = of_get (parameter_number (given (codes
 RefusesGet params route_no.Memory = Unit {0}
 RefusesGet params fault = ⊥
 
+-- why a removal isn't tried: its body asks for an option that isn't served, or there was no memory
+abbrev pub RefusesRemove : List ℕ → RouteNo → Type 0
+RefusesRemove body (route_no.Unserved option) = AsksOption body option
+RefusesRemove body route_no.Memory = Unit {0}
+RefusesRemove body fault = ⊥
+
 -- why a compaction isn't tried: the parameter `revision` is absent or is no revision
 abbrev pub RefusesCompact : QueryPairs → RouteNo → Type 0
 RefusesCompact params route_no.Operation = (at : ℕ) → ¬ (compacts_at params ≡ Some (Ok at))
@@ -195,14 +225,14 @@ RefusesTransact body (route_no.Transaction fault) = RefusesText body fault
 RefusesTransact body route_no.Memory = Unit {0}
 RefusesTransact body fault = ⊥
 
--- why a request is refused although its path and its method say an action; what describes the server, metrics, a cut and a
--- restart never are
+-- why a request is refused although its path and its method say an action; what describes the server, metrics, a cut, a
+-- restart and a disconnection never are
 abbrev pub Refuses : Action → Req → RouteNo → Type 0
 Refuses (Read r ns) req fault = RefusesRead r ns req.params fault
 Refuses (Create r ns) req fault = RefusesObject r ns None req.body fault
 Refuses (Get r ns name) req fault = RefusesGet req.params fault
 Refuses (Replace r ns name) req fault = RefusesObject r ns (Some name) req.body fault
-Refuses (Remove r ns name) req fault = fault ≡ route_no.Memory
+Refuses (Remove r ns name) req fault = RefusesRemove req.body fault
 Refuses Compact req fault = RefusesCompact req.params fault
 Refuses Transact req fault = RefusesTransact req.body fault
 Refuses action req fault = ⊥
@@ -221,19 +251,41 @@ RefusesAtPath req route_no.NoPath = (place : Place) → ¬ (Names req.path place
 RefusesAtPath req route_no.NoMethod = (place : Place) × Names req.path place × (action_at place req.method ≡ None)
 RefusesAtPath req route_no.Memory = MayLackMemory req.path
 RefusesAtPath req route_no.ForeignSite = ⊥
+RefusesAtPath req route_no.MediaType = ⊥
 RefusesAtPath req fault =
     (place : Place) × (action : Action) × Names req.path place × (action_at place req.method ≡ Some action) × Refuses action req fault
 
--- ---- the whole: for whom the request was made before all else
+-- ---- what stands before the path
 
--- the route of a request that no browser made for another site: what its path names and its method asks for there
+-- the methods of requests that may change something
+abbrev pub is_write : List ℕ → Bool
+is_write method = bytes_eq method (codes "POST") || bytes_eq method (codes "PUT") || bytes_eq method (codes "DELETE")
+
+-- a write has a body, of a media type that isn't read
+abbrev pub has_unread_body : Req → Bool
+has_unread_body req = is_write req.method && req.unreadable && not (length req.body == 0)
+
+-- a write is to be tried alone: its query has the parameter `dryRun`, whatever its value
+abbrev pub is_dry_run : Req → Bool
+is_dry_run req = is_write req.method && is_some (first_value (codes "dryRun") req.params)
+
+-- why a request is refused whatever its path, the first reason that holds: it was made for another site, its body can't be
+-- read, or it is to be tried alone
+abbrev pub first_refusal : Req → Option RouteNo
+first_refusal req =
+    if req.foreign then Some route_no.ForeignSite else
+    (if has_unread_body req then Some route_no.MediaType else
+    (if is_dry_run req then Some (route_no.Unserved DryRun) else None))
+
+-- ---- the whole
+
+-- the route of a request that isn't refused whatever its path: what its path names and its method asks for there
 abbrev pub IsRoute : Req → Routed → Type 0
-IsRoute req answer = (req.foreign ≡ false) × AsksAtPath req answer
+IsRoute req answer = (first_refusal req ≡ None) × AsksAtPath req answer
 
--- a browser made it for another site; or it didn't, and the first of the other reasons holds
+-- it is refused whatever its path; or it isn't, and the first of the other reasons holds
 abbrev pub IsRefusal : Req → RouteNo → Type 0
-IsRefusal req route_no.ForeignSite = req.foreign ≡ true
-IsRefusal req fault = (req.foreign ≡ false) × RefusesAtPath req fault
+IsRefusal req fault = (first_refusal req ≡ Some fault) ⊎ ((first_refusal req ≡ None) × RefusesAtPath req fault)
 
 -- ---- want of memory is told by itself, and is no reason within another refusal
 

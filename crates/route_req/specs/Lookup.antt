@@ -8,7 +8,7 @@ use Rattle.discovery.specs.declared.documents.Document.{Document}
 use Rattle.discovery.specs.declared.documents.Document.TheVariants as document
 use Rattle.discovery.specs.declared.documents.Probe.TheVariants as probe
 use Rattle.route_req.specs.declared.places.Place.{Place}
-use Rattle.route_req.specs.declared.places.Place.TheVariants.{Described, Everywhere, Namespaced, Named, OfMetrics, OfCut, OfCompact, OfRestart, OfTransaction}
+use Rattle.route_req.specs.declared.places.Place.TheVariants.{Described, Everywhere, Namespaced, Named, OfMetrics, OfCut, OfCompact, OfRestart, OfDisconnect, OfTransaction}
 
 -- what stands behind a first segment
 abbrev pub behind : List ℕ → List (List ℕ) → Option (List (List ℕ))
@@ -45,7 +45,8 @@ own_word word =
     if bytes_eq word (codes "cut") then Some OfCut else
     (if bytes_eq word (codes "compact") then Some OfCompact else
     (if bytes_eq word (codes "restart") then Some OfRestart else
-    (if bytes_eq word (codes "transaction") then Some OfTransaction else None)))
+    (if bytes_eq word (codes "disconnect") then Some OfDisconnect else
+    (if bytes_eq word (codes "transaction") then Some OfTransaction else None))))
 
 -- the place of the segments behind `watchcache`
 abbrev pub own_place : List (List ℕ) → Option Place
@@ -91,7 +92,8 @@ document_word word =
 abbrev pub document_pair : List ℕ → List ℕ → Option Document
 document_pair base word =
     if bytes_eq base (codes "api") && bytes_eq word (codes "v1") then Some document.CoreResources else
-    (if bytes_eq base (codes "apis") && bytes_eq word (codes "apps") then Some document.AppsGroup else None)
+    (if bytes_eq base (codes "apis") && bytes_eq word (codes "apps") then Some document.AppsGroup else
+    (if bytes_eq base (codes "openapi") && bytes_eq word (codes "v2") then Some document.OpenApi else None))
 
 abbrev pub apps_document : List ℕ → List ℕ → List ℕ → Option Document
 apps_document base group version =

@@ -1,5 +1,5 @@
 -- Which paths and methods are served: those of the Kubernetes API for the resources ("Resource URIs" of the API concepts)
--- and for what describes the server ("Discovery", "API health endpoints"), that of metrics, and four of the server's own.
+-- and for what describes the server ("Discovery", "API health endpoints"), that of metrics, and five of the server's own.
 use Rattle.std.specs.Prelude.{◌≡◌, ◌⊎◌, ℕ, Bool, true, false, IsTrue, List, [], ◌∷◌, ◌++◌, codes, Option, Some, None, if◌then◌else◌}
 use Rattle.std.specs.Str.{bytes_eq}
 use Rattle.kube_meta.specs.Names.{IsNamespace, IsObjectName}
@@ -9,9 +9,9 @@ use Rattle.discovery.specs.declared.documents.Document.{Document}
 use Rattle.discovery.specs.declared.documents.Document.TheVariants as document
 use Rattle.discovery.specs.declared.documents.Probe.TheVariants as probe
 use Rattle.route_req.specs.declared.places.Place.{Place}
-use Rattle.route_req.specs.declared.places.Place.TheVariants.{Described, Everywhere, Namespaced, Named, OfMetrics, OfCut, OfCompact, OfRestart, OfTransaction}
+use Rattle.route_req.specs.declared.places.Place.TheVariants.{Described, Everywhere, Namespaced, Named, OfMetrics, OfCut, OfCompact, OfRestart, OfDisconnect, OfTransaction}
 use Rattle.route_req.specs.declared.places.Action.{Action}
-use Rattle.route_req.specs.declared.places.Action.TheVariants.{Describe, Measure, Read, Create, Get, Replace, Remove, Cut, Compact, Restart, Transact}
+use Rattle.route_req.specs.declared.places.Action.TheVariants.{Describe, Measure, Read, Create, Get, Replace, Remove, Cut, Compact, Restart, Disconnect, Transact}
 
 -- ---- the table of paths
 
@@ -33,6 +33,7 @@ document_path document.Groups = codes "apis" ∷ []
 document_path document.AppsGroup = codes "apis" ∷ codes "apps" ∷ []
 document_path document.CoreResources = codes "api" ∷ codes "v1" ∷ []
 document_path document.AppsResources = codes "apis" ∷ codes "apps" ∷ codes "v1" ∷ []
+document_path document.OpenApi = codes "openapi" ∷ codes "v2" ∷ []
 document_path (document.Namespace ns) = codes "api" ∷ codes "v1" ∷ codes "namespaces" ∷ ns ∷ []
 document_path (document.Probe probe.Livez) = codes "livez" ∷ []
 document_path (document.Probe probe.Readyz) = codes "readyz" ∷ []
@@ -43,7 +44,7 @@ abbrev pub metrics_path : List (List ℕ)
 metrics_path = codes "metrics" ∷ []
 
 -- the path of each place, in segments: behind the base path /{resource}, /namespaces/{ns}/{resource} and
--- /namespaces/{ns}/{resource}/{name}; and /watchcache/cut, /compact, /restart and /transaction
+-- /namespaces/{ns}/{resource}/{name}; and /watchcache/cut, /compact, /restart, /disconnect and /transaction
 abbrev pub place_path : Place → List (List ℕ)
 place_path (Described text) = document_path text
 place_path (Everywhere r) = base_of r ++ plural_of r ∷ []
@@ -53,6 +54,7 @@ place_path OfMetrics = metrics_path
 place_path OfCut = codes "watchcache" ∷ codes "cut" ∷ []
 place_path OfCompact = codes "watchcache" ∷ codes "compact" ∷ []
 place_path OfRestart = codes "watchcache" ∷ codes "restart" ∷ []
+place_path OfDisconnect = codes "watchcache" ∷ codes "disconnect" ∷ []
 place_path OfTransaction = codes "watchcache" ∷ codes "transaction" ∷ []
 
 -- the path is that of the place; a text that describes the server, and metrics, have it with a slash behind it too, which
@@ -108,6 +110,7 @@ action_at OfMetrics method = only (codes "GET") Measure method
 action_at OfCut method = only (codes "POST") Cut method
 action_at OfCompact method = only (codes "POST") Compact method
 action_at OfRestart method = only (codes "POST") Restart method
+action_at OfDisconnect method = only (codes "POST") Disconnect method
 action_at OfTransaction method = only (codes "POST") Transact method
 
 -- the namespace and the name of what is asked for are in the grammars

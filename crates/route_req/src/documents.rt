@@ -53,6 +53,7 @@ fn of_pair(base: &str, word: &str) -> Option<Document>
     match (base, word) {
         ("api", "v1") => Some(Document::CoreResources),
         ("apis", "apps") => Some(Document::AppsGroup),
+        ("openapi", "v2") => Some(Document::OpenApi),
         _ => None,
     }
 }

@@ -7,6 +7,7 @@ mod laws;
 mod places;
 mod routing;
 mod transactions;
+mod unserved;
 
 pub use laws::{
     answers_agree, item_objects_are_plain, paths_name_one_place, refusals_agree,
@@ -14,3 +15,4 @@ pub use laws::{
 };
 pub use routing::{RouteNo, Routed, route};
 pub use transactions::TxTextNo;
+pub use unserved::Unserved;

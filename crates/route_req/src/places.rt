@@ -28,6 +28,8 @@ pub(crate) enum Place {
     OfCompact,
     /// `/watchcache/restart`.
     OfRestart,
+    /// `/watchcache/disconnect`.
+    OfDisconnect,
     /// `/watchcache/transaction`.
     OfTransaction,
 }
@@ -46,6 +48,7 @@ pub(crate) enum Action {
     Cut,
     Compact,
     Restart,
+    Disconnect,
     Transact,
 }
 
@@ -153,6 +156,7 @@ fn own_word(word: &str) -> Option<Place>
         "cut" => Some(Place::OfCut),
         "compact" => Some(Place::OfCompact),
         "restart" => Some(Place::OfRestart),
+        "disconnect" => Some(Place::OfDisconnect),
         "transaction" => Some(Place::OfTransaction),
         _ => None,
     }
@@ -233,6 +237,7 @@ pub(crate) fn action_at(place: Place, method: &str) -> Option<Action>
         Place::OfCut => only("POST", Action::Cut, method),
         Place::OfCompact => only("POST", Action::Compact, method),
         Place::OfRestart => only("POST", Action::Restart, method),
+        Place::OfDisconnect => only("POST", Action::Disconnect, method),
         Place::OfTransaction => only("POST", Action::Transact, method),
     }
 }

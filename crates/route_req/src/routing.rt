@@ -1,6 +1,6 @@
 //! Routes.
 
-ghost use Rattle.std.specs.Prelude.{◌≡◌, ℕ, IfOk, IfErr, IsTrue, Some, None, Ok, Err, false, codes};
+ghost use Rattle.std.specs.Prelude.{◌≡◌, ℕ, IfOk, IfErr, IfSome, IsTrue, Some, None, Ok, Err, false, codes};
 ghost use Rattle.kube_meta.specs.Names.{IsNamespace, IsObjectName};
 ghost use Rattle.route_req.specs.Places.{IsAction};
 ghost use Rattle.route_req.specs.Asks as asks;
@@ -8,6 +8,7 @@ ghost use Rattle.route_req.specs.Asks.{IsRoute, IsRefusal};
 
 use crate::places::{Action, action_at, place_at};
 use crate::transactions::{TxTextNo, key_of, transaction};
+use crate::unserved::{Unserved, has_unread_body, is_dry_run, option_asked};
 use discovery::Document;
 use http_read::{Params, Req};
 use json_obj::{ObjNo, read_obj};
@@ -42,8 +43,13 @@ pub enum Routed {
 /// Why a request has no route; the first of these that holds.
 #[derive(Clone, Copy, Debug, PartialEq, Eq)]
 pub enum RouteNo {
-    /// A browser made the request, and not for the server's own site.
+    /// The request was made for another site than the server's own.
     ForeignSite,
+    /// A write has a body of a media type that isn't read.
+    MediaType,
+    /// A write asks for what isn't served: in its query, which is looked at before the path, or, behind the method, in
+    /// the body of a removal.
+    Unserved(Unserved),
     /// The path names nothing that is served, or its namespace or name is none.
     NoPath,
     /// What the path names doesn't have this method.
@@ -210,14 +216,25 @@ fn replace(
     }
 }
 
-fn remove(resource: Resource, ns: Text, name: Text) -> Result<Routed, RouteNo>
+fn remove(
+    alloc: Global,
+    resource: Resource,
+    ns: Text,
+    name: Text,
+    body: &[u8],
+) -> Result<Routed, RouteNo>
     requires namespace { IsNamespace ns }
     requires name { IsObjectName name }
-    ensures ok { IfOk result (asks.AsksRemove resource ns name) }
-    ensures refused { IfErr result (λ fault. fault ≡ RouteNo.Memory) }
+    ensures ok { IfOk result (asks.AsksRemove resource ns name body.now) }
+    ensures refused { IfErr result (asks.RefusesRemove body.now) }
 {
-    let key = key_of(ns, name)?;
-    Ok(Routed::Write(WriteAsk::Remove { resource, key }))
+    match option_asked(alloc, body)? {
+        Some(option) => Err(RouteNo::Unserved(option)),
+        None => {
+            let key = key_of(ns, name)?;
+            Ok(Routed::Write(WriteAsk::Remove { resource, key }))
+        }
+    }
 }
 
 fn get(resource: Resource, ns: Text, name: Text, params: &Params) -> Result<Routed, RouteNo>
@@ -271,10 +288,13 @@ fn act(alloc: Global, action: Action, req: &Req) -> Result<Routed, RouteNo>
         Action::Replace(resource, ns, name) => {
             replace(alloc, resource, ns, name, req.body.as_slice())
         }
-        Action::Remove(resource, ns, name) => remove(resource, ns, name),
+        Action::Remove(resource, ns, name) => {
+            remove(alloc, resource, ns, name, req.body.as_slice())
+        }
         Action::Cut => Ok(Routed::Operate(Operate::Cut)),
         Action::Compact => compact(&req.params),
         Action::Restart => Ok(Routed::Operate(Operate::Restart)),
+        Action::Disconnect => Ok(Routed::Operate(Operate::Disconnect)),
         Action::Transact => transact(alloc, req.body.as_slice()),
     }
 }
@@ -294,22 +314,39 @@ fn route_at_path(alloc: Global, req: &Req) -> Result<Routed, RouteNo>
     }
 }
 
-/// What a request asks for, or the first reason why it has no route: a browser that acts for another site is refused
-/// first, then the path is tested, then the method, then selectors, options, and the object or the transaction in the
-/// body.
+// Why a request is refused whatever its path.
+fn first_refusal(req: &Req) -> Option<RouteNo>
+    ensures value { result ≡ asks.first_refusal req.now }
+    ensures plain { IfSome result (λ fault. asks.wraps_memory fault ≡ false) }
+{
+    if req.foreign {
+        return Some(RouteNo::ForeignSite);
+    }
+    if has_unread_body(req) {
+        return Some(RouteNo::MediaType);
+    }
+    if is_dry_run(req) {
+        return Some(RouteNo::Unserved(Unserved::DryRun));
+    }
+    None
+}
+
+/// What a request asks for, or the first reason why it has no route: what was made for another site is refused first,
+/// then a write whose body is of a media type that isn't read, and one that is to be tried alone. Then the path is
+/// tested, then the method, then selectors, options, and the object, the transaction or the options in the body.
 ///
 /// The paths and methods are those of the Kubernetes API for pods, config maps and deployments
 /// ("Resource URIs" of the API concepts), GET of what describes the server (its version, its API
-/// groups and resources, each namespace, and the probes) and of `/metrics`, and POST of `/watchcache/cut`,
-/// `/watchcache/compact`, `/watchcache/restart` and `/watchcache/transaction`. A GET of a collection
-/// is a watch exactly where the parameter `watch` is true.
+/// groups and resources, an OpenAPI document, each namespace, and the probes) and of `/metrics`, and POST of
+/// `/watchcache/cut`, `/watchcache/compact`, `/watchcache/restart`, `/watchcache/disconnect` and
+/// `/watchcache/transaction`. A GET of a collection is a watch exactly where the parameter `watch` is true.
 pub fn route(alloc: Global, req: &Req) -> Result<Routed, RouteNo>
     ensures ok { IfOk result (IsRoute req.now) }
     ensures refused { IfErr result (IsRefusal req.now) }
     ensures plain { IfErr result (λ fault. asks.wraps_memory fault ≡ false) }
 {
-    if req.foreign {
-        return Err(RouteNo::ForeignSite);
+    match first_refusal(req) {
+        Some(fault) => Err(fault),
+        None => route_at_path(alloc, req),
     }
-    route_at_path(alloc, req)
 }
