@@ -1,6 +1,7 @@
 -- Where nobody else holds the log, what is due is served.
 use Rattle.std.specs.Prelude.{Result, Ok, Err, IsSomeAnd}
 use Rattle.std.proofs.Common.{◌≡◌, ℕ, inl, inr, List, [], ◌∷◌, Option, Some, None, refl, ap, sym, subst}
+use Rattle.discovery.specs.declared.documents.Document.TheVariants as document
 use Rattle.rev_front.specs.Passes.{Pass, IsPass, Whole}
 use Rattle.rev_log.specs.Changes.{RevisionData}
 use Rattle.rev_log.specs.Logs.{Fits}
@@ -25,7 +26,7 @@ use Rattle.client_api.specs.declared.answers.ListNo.TheVariants.{Expired, TooLar
 use Rattle.client_api.specs.Told.{IsToldWrite, IsToldTx, IsToldOperation}
 use Rattle.sess_reply.specs.Replies.{unrouted, wrote, transacted, got, listed, operated, described, metered, unready, unwatched, bad_upgrade}
 use Rattle.sess_turns.specs.Terms.{Terms}
-use Rattle.sess_serve.specs.Answers.{Answer, Stream, gone, begun, replied, streamed, IsAnswerTo, readiness}
+use Rattle.sess_serve.specs.Answers.{Answer, Stream, gone, begun, replied, streamed, IsAnswerTo}
 use Rattle.sess_serve.specs.Steps.{Exchange, Says, StreamSays, UnwatchedSays, IsAlone, IsAloneStream}
 use Rattle.answered_requests.specs.Due.{IsDue, IsKept, MayBeDone}
 use Rattle.answered_requests.specs.Hindered.{IsHindered, IsCutOff}
@@ -120,7 +121,8 @@ module _ (terms : Terms) (p q : Pass RevisionData) (req : Req) (lawful : IsPass 
     served_of (replied (operated ask answer)) to says sole = same-due (routed.Operate ask) _ to (done ask answer says.0 says.1 sole)
     served_of (replied (described document)) to says sole = same-due (routed.Describe document) _ to (λ _. inl (record { answer_is = refl; status_is = refl }))
     served_of (replied (metered told)) to says sole = same-due routed.Metrics _ to (λ _. (told, record { answer_is = refl; status_is = refl }, says))
-    served_of (replied unready) to says sole = same-due (routed.Describe readiness) _ to (λ _. inr (refl, says.0, record { answer_is = refl; status_is = refl }))
+    served_of (replied (unready probe)) to says sole =
+        same-due (routed.Describe (document.Probe probe)) _ to (λ _. inr (probe, refl, says.0, record { answer_is = refl; status_is = refl }))
     served_of (replied (unwatched ask fault)) to says sole = same-due (routed.Watch ask) _ to.0 (λ d. absurd (refused-start ask fault says sole d.1))
     served_of (replied (bad_upgrade ask)) to says sole = same-due (routed.Watch ask) _ to.0 (λ d. absurd (upgrade_clash req.upgrade d.0 to.1))
     served_of (streamed ask stream) to says sole = same-due (routed.Watch ask) _ to.0 (λ d. begins ask stream says sole d.1)

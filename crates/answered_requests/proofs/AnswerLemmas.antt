@@ -1,6 +1,7 @@
 -- Each answer serves its request, or tells what stands in its way.
 use Rattle.std.specs.Prelude.{Result, Ok, Err, IfSome}
 use Rattle.std.proofs.Common.{ℕ, ◌⊎◌, inl, inr, List, [], ◌∷◌, Option, Some, None, refl, sym, subst}
+use Rattle.discovery.specs.declared.documents.Document.TheVariants as document
 use Rattle.rev_front.specs.Passes.{Pass}
 use Rattle.rev_log.specs.Changes.{RevisionData}
 use Rattle.http_read.specs.declared.request.Req.{Req}
@@ -33,7 +34,7 @@ use Rattle.client_api.specs.declared.answers.ListNo.{ListNo}
 use Rattle.client_api.specs.declared.answers.ListNo.TheVariants.{Expired, TooLarge, Absent, Memory}
 use Rattle.sess_reply.specs.Replies.{unrouted, wrote, transacted, got, listed, operated, described, metered, unready, unwatched, bad_upgrade}
 use Rattle.sess_turns.specs.Terms.{Terms}
-use Rattle.sess_serve.specs.Answers.{Answer, Stream, gone, begun, replied, streamed, IsAnswerTo, readiness, IsUnrouted, FailsUpgrade}
+use Rattle.sess_serve.specs.Answers.{Answer, Stream, gone, begun, replied, streamed, IsAnswerTo, IsUnrouted, FailsUpgrade}
 use Rattle.sess_serve.specs.Steps.{Exchange, Says, StreamSays, UnwatchedSays}
 use Rattle.answered_requests.specs.Hindered.{IsHindered, IsCutOff}
 use Rattle.answered_requests.specs.Laws.{RequestsAreServed}
@@ -146,7 +147,8 @@ module _ (terms : Terms) (p q : Pass RevisionData) (req : Req) where
     outcome_of (replied (operated ask answer)) to says = same-route _ _ to (operation_outcome ask answer says.0 says.1)
     outcome_of (replied (described document)) to says = same-route _ _ to (inl (inl (record { answer_is = refl; status_is = refl })))
     outcome_of (replied (metered told)) to says = same-route routed.Metrics _ to (inl (told, record { answer_is = refl; status_is = refl }, says))
-    outcome_of (replied unready) to says = same-route (routed.Describe readiness) _ to (inl (inr (refl, says.0, record { answer_is = refl; status_is = refl })))
+    outcome_of (replied (unready probe)) to says =
+        same-route (routed.Describe (document.Probe probe)) _ to (inl (inr (probe, refl, says.0, record { answer_is = refl; status_is = refl })))
     outcome_of (replied (unwatched ask fault)) to says = same-route _ _ to.0 (unwatched_outcome ask fault says)
     outcome_of (replied (bad_upgrade ask)) to says = same-route _ _ to.0 (inr (inl to.1))
     outcome_of (streamed ask stream) to says = same-route _ _ to.0 (stream_outcome ask stream says)

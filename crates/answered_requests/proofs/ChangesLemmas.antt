@@ -10,7 +10,7 @@ use Rattle.up_store.specs.Stores.{accepted, log_in, IsCutAnswer, IsCompactionAns
 use Rattle.up_store.specs.Transacting.{tx_refusal_of, AreWritten, IsTransactionAnswer}
 use Rattle.up_store.specs.Writes.{refusal_of, IsWritten, IsWriteAnswer}
 use Rattle.up_store.specs.declared.operations.Operate.{Operate}
-use Rattle.up_store.specs.declared.operations.Operate.TheVariants.{Cut, Compact, Restart}
+use Rattle.up_store.specs.declared.operations.Operate.TheVariants.{Cut, Compact, Restart, Disconnect}
 use Rattle.up_store.specs.declared.operations.OpNo.{OpNo}
 use Rattle.up_store.specs.declared.operations.OpNo.TheVariants as op_no
 use Rattle.up_store.specs.declared.transactions.TxWriteNo.{TxWriteNo}
@@ -149,7 +149,7 @@ one_compaction at w x y (Err (op_no.Future asked current)) (Err (op_no.Future ot
 one_compaction at w x y (Err (op_no.UsedUp n)) b low is is' = absurd is
 one_compaction at w x y (Err op_no.Memory) b low is is' = absurd is
 
--- a restart is done, and answers the floor
+-- a restart is done, and answers the floor; so is a disconnection, whose reply is the same
 restarted : (p q : Pass RevisionData) (a : Result ℕ OpNo) → IsToldOperation a → IsOperationReply p Restart a q → q.floor ≡ p.floor → a ≡ Ok p.floor
 restarted p q (Ok n) told is same = ap (λ (k : ℕ). Ok k) (omega (arith, is.0, is.1, same))
 restarted p q (Err (op_no.Compacted asked floor)) told is same = absurd is
@@ -174,6 +174,13 @@ module _ (p q o r : Pass RevisionData) (sound : IsSound p) (lawful : IsPass Fits
   one_operation (Compact at) a b told told' is is' sole sole' =
       one_compaction at (known p) (known q) (known r) a b sound.floor (made_of p q (Compact at) a told sole)
       (subst (λ (w : Whole RevisionData). IsCompactionAnswer at w (known r) b) same (made_of o r (Compact at) b told' sole'))
+  one_operation Disconnect a b told told' is is' sole sole' =
+      let first : known q ≡ known p = made_of p q Disconnect a told sole in
+      let second : known r ≡ known o = made_of o r Disconnect b told' sole' in
+      let floors : o.floor ≡ p.floor = ap (λ (w : Whole RevisionData). w.floor) same in (
+        restarted o r b told' is' (ap (λ (w : Whole RevisionData). w.floor) second) ∙ ap (λ (k : ℕ). Ok k) floors ∙ sym (restarted p q a told is (ap (λ (w : Whole RevisionData). w.floor) first)),
+        second ∙ same ∙ sym first,
+      )
   one_operation Restart a b told told' is is' sole sole' =
       let first : known q ≡ known p = made_of p q Restart a told sole in
       let second : known r ≡ known o = made_of o r Restart b told' sole' in

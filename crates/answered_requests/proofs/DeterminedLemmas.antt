@@ -3,7 +3,7 @@ use Rattle.std.specs.Prelude.{Result, Ok, Err, IsSomeAnd, IfSome}
 use Rattle.std.proofs.Common.{◌≡◌, ◌≢◌, ℕ, ◌≤◌, ◌⊎◌, inl, inr, Bool, true, false, List, [], ◌∷◌, length, map, Option, Some, None, refl, ap, sym, ◌∙◌, subst, length-append, arith}
 use Rattle.discovery.specs.declared.documents.Document.{Document}
 use Rattle.discovery.specs.declared.documents.Document.TheVariants as document
-use Rattle.discovery.specs.declared.documents.Probe.TheVariants as probe
+use Rattle.discovery.specs.declared.documents.Probe.{Probe}
 use Rattle.kube_meta.specs.Rows.{RowData}
 use Rattle.kube_meta.specs.declared.resources.Resource.{Resource}
 use Rattle.kube_meta.specs.declared.resources.Resource.TheVariants.{Pods, ConfigMaps, Deployments}
@@ -21,7 +21,7 @@ use Rattle.up_store.specs.Stores.{accepted}
 use Rattle.up_store.specs.Transacting.{IsTransactionAnswer}
 use Rattle.up_store.specs.Writes.{IsWriteAnswer}
 use Rattle.up_store.specs.declared.operations.Operate.{Operate}
-use Rattle.up_store.specs.declared.operations.Operate.TheVariants.{Cut, Compact, Restart}
+use Rattle.up_store.specs.declared.operations.Operate.TheVariants.{Cut, Compact, Restart, Disconnect}
 use Rattle.up_store.specs.declared.operations.OpNo.{OpNo}
 use Rattle.up_store.specs.declared.operations.OpNo.TheVariants as op_no
 use Rattle.up_store.specs.declared.transactions.TxWriteNo.{TxWriteNo}
@@ -45,7 +45,7 @@ use Rattle.client_api.specs.declared.answers.ListNo.TheVariants.{TooLarge, Expir
 use Rattle.client_api.specs.Starts.{StartsTooLarge}
 use Rattle.sess_reply.specs.Replies.{unrouted, wrote, transacted, got, listed, operated, described, metered, unready, unwatched, bad_upgrade}
 use Rattle.sess_turns.specs.Terms.{Terms}
-use Rattle.sess_serve.specs.Answers.{Answer, replied, streamed, is_stream, IsAnswerTo, IsUnrouted, IsPlainOrUpgrade, FailsUpgrade, readiness}
+use Rattle.sess_serve.specs.Answers.{Answer, replied, streamed, is_stream, IsAnswerTo, IsUnrouted, IsPlainOrUpgrade, FailsUpgrade}
 use Rattle.sess_serve.specs.Steps.{Exchange, Says, IsAlone, Run, AreAlone}
 use Rattle.answered_requests.specs.Determined.{HaveReplies, AreOne, AreAnsweredAlike, HoldAlike, TellAlike, IsSound, RepliesAreDetermined}
 use Rattle.answered_requests.proofs.AnswerLemmas.{refusal_of, routed_clash, upgrade_clash}
@@ -82,12 +82,13 @@ low-operated (Compact at) w after (Err (op_no.Compacted asked floor)) is low_w =
 low-operated (Compact at) w after (Err (op_no.Future asked current)) is low_w = subst low (sym is.3) low_w
 low-operated (Compact at) w after (Err op_no.Memory) is low_w = absurd is
 low-operated Restart w after a is low_w = subst low (sym is) low_w
+low-operated Disconnect w after a is low_w = subst low (sym is) low_w
 
 -- ---- what describes the server, and metrics
 
 abbrev IsDescribedBy : Bool → Document → Answer → Type 0
 IsDescribedBy mirror text a =
-    (a ≡ replied (described text)) ⊎ ((text ≡ readiness) × (mirror ≡ true) × (a ≡ replied unready))
+    (a ≡ replied (described text)) ⊎ ((probe : Probe) × (text ≡ document.Probe probe) × (mirror ≡ true) × (a ≡ replied (unready probe)))
 
 -- two answers, of which what is said is known
 moved-one : (mirror : Bool) (a b x y : Answer) → a ≡ x → b ≡ y → AreOne mirror x y → AreOne mirror a b
@@ -101,18 +102,25 @@ same-described mirror document.Groups = refl
 same-described mirror document.AppsGroup = refl
 same-described mirror document.CoreResources = refl
 same-described mirror document.AppsResources = refl
+same-described mirror document.OpenApi = refl
 same-described mirror (document.Namespace ns) = refl
-same-described mirror (document.Probe probe.Livez) = refl
-same-described mirror (document.Probe probe.Readyz) = inl refl
-same-described mirror (document.Probe probe.Healthz) = refl
+same-described mirror (document.Probe probe) = inl refl
+
+same-probe : (a b : Probe) → document.Probe a ≡ document.Probe b → a ≡ b
+same-probe a b e = cc
 
 described-one : (mirror : Bool) (text : Document) (a b : Answer) → IsDescribedBy mirror text a → IsDescribedBy mirror text b → AreOne mirror a b
 described-one mirror text a b (inl is) (inl is') = moved-one mirror a b _ _ is is' (same-described mirror text)
 described-one mirror text a b (inl is) (inr is') =
-    moved-one mirror a b (replied (described readiness)) (replied unready) (is ∙ ap (λ (t : Document). replied (described t)) is'.0) is'.2 (inr (is'.1, refl))
+    moved-one mirror a b (replied (described (document.Probe is'.0))) (replied (unready is'.0))
+    (is ∙ ap (λ (t : Document). replied (described t)) is'.1) is'.3 (inr (is'.2, refl))
 described-one mirror text a b (inr is) (inl is') =
-    moved-one mirror a b (replied unready) (replied (described readiness)) is.2 (is' ∙ ap (λ (t : Document). replied (described t)) is.0) (is.1, inr refl)
-described-one mirror text a b (inr is) (inr is') = moved-one mirror a b (replied unready) (replied unready) is.2 is'.2 (is.1, inl refl)
+    moved-one mirror a b (replied (unready is.0)) (replied (described (document.Probe is.0))) is.3
+    (is' ∙ ap (λ (t : Document). replied (described t)) is.1) (is.2, inr refl)
+described-one mirror text a b (inr is) (inr is') =
+    let same : is'.0 ≡ is.0 = same-probe is'.0 is.0 (sym is'.1 ∙ is.1) in
+    moved-one mirror a b (replied (unready is.0)) (replied (unready is.0)) is.3
+    (is'.3 ∙ ap (λ (p : Probe). replied (unready p)) same) (is.2, inl refl)
 
 -- the same log has the same state
 module _ (base : List RowData) (q r : Pass RevisionData) (same : known r ≡ known q) where
@@ -186,7 +194,8 @@ module _ (terms : Terms) (history : ℕ) (if-sole : (P : ℕ → Type 0) → IsS
   routes p q req (replied (operated ask x)) to says sole plain = inl (record { route = routed.Operate ask; is = to; by = (x, refl, says.0, says.1, sole) })
   routes p q req (replied (described text)) to says sole plain = inl (record { route = routed.Describe text; is = to; by = (inl refl, sole) })
   routes p q req (replied (metered told)) to says sole plain = inl (record { route = routed.Metrics; is = to; by = (told, refl, says, sole) })
-  routes p q req (replied unready) to says sole plain = inl (record { route = routed.Describe readiness; is = to; by = (inr (refl, says.0, refl), sole) })
+  routes p q req (replied (unready probe)) to says sole plain =
+      inl (record { route = routed.Describe (document.Probe probe); is = to; by = (inr (probe, refl, says.0, refl), sole) })
   routes p q req (replied (unwatched ask (TooLarge asked current))) to says sole plain =
       inl (record { route = routed.Watch ask; is = to.0; by = inl (asked, current, refl, to.1, says, sole) })
   routes p q req (replied (unwatched ask (Expired asked floor))) to says sole plain = absurd says

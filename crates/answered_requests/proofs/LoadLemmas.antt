@@ -6,7 +6,6 @@ use Rattle.std.proofs.lemmas.List.{same_from_push}
 use Rattle.std.proofs.lemmas.List.Elements.{All-nil, All-head, All-tail}
 use Rattle.std.proofs.lemmas.List.Sorted.{IsNonDecreasingBy-short}
 use Rattle.discovery.specs.declared.documents.Document.TheVariants as document
-use Rattle.discovery.specs.declared.documents.Probe.TheVariants as probe
 use Rattle.kube_meta.specs.declared.resources.Resource.TheVariants.{Pods}
 use Rattle.rev_front.specs.Passes.{Pass, Whole, revision}
 use Rattle.rev_log.specs.Changes.{RevisionData}
@@ -76,15 +75,14 @@ same-code req (replied (described document.Groups)) b is = ap (reply_code req) i
 same-code req (replied (described document.AppsGroup)) b is = ap (reply_code req) is
 same-code req (replied (described document.CoreResources)) b is = ap (reply_code req) is
 same-code req (replied (described document.AppsResources)) b is = ap (reply_code req) is
+same-code req (replied (described document.OpenApi)) b is = ap (reply_code req) is
 same-code req (replied (described (document.Namespace ns))) b is = ap (reply_code req) is
-same-code req (replied (described (document.Probe probe.Livez))) b is = ap (reply_code req) is
-same-code req (replied (described (document.Probe probe.Readyz))) b is = elim is [
+same-code req (replied (described (document.Probe probe))) b is = elim is [
   | inl ready ↦ ap (reply_code req) ready
   | inr lost ↦ absurd (false≢true lost.0)
 ]
-same-code req (replied (described (document.Probe probe.Healthz))) b is = ap (reply_code req) is
 same-code req (replied (metered told)) b is = ap (reply_code req) is.1
-same-code req (replied unready) b is = absurd (false≢true is.0)
+same-code req (replied (unready probe)) b is = absurd (false≢true is.0)
 same-code req (replied (unwatched ask fault)) b is = ap (reply_code req) is
 same-code req (replied (bad_upgrade ask)) b is = ap (reply_code req) is
 

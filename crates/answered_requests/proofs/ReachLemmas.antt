@@ -9,7 +9,7 @@ use Rattle.select_all.specs.declared.selection.Meaning.TheVariants.{MostRecent, 
 use Rattle.select_all.specs.Floors.{IsEvicted}
 use Rattle.up_store.specs.Replies.{IsOperationReply}
 use Rattle.up_store.specs.declared.operations.Operate.{Operate}
-use Rattle.up_store.specs.declared.operations.Operate.TheVariants.{Cut, Compact, Restart}
+use Rattle.up_store.specs.declared.operations.Operate.TheVariants.{Cut, Compact, Restart, Disconnect}
 use Rattle.up_store.specs.declared.operations.OpNo.{OpNo}
 use Rattle.up_store.specs.declared.operations.OpNo.TheVariants.{Compacted, Future, UsedUp, Memory}
 use Rattle.watch_rules.specs.declared.ask.WatchAsk.{WatchAsk}
@@ -85,6 +85,10 @@ barred p q Restart (Compacted asked floor) told is = is
 barred p q Restart (Future asked current) told is = is
 barred p q Restart (UsedUp at) told is = is
 barred p q Restart Memory told is = told
+barred p q Disconnect (Compacted asked floor) told is = is
+barred p q Disconnect (Future asked current) told is = is
+barred p q Disconnect (UsedUp at) told is = is
+barred p q Disconnect Memory told is = told
 
 -- an operation that can be done isn't refused
 pub operation_clash : (p q : Pass RevisionData) (ask : Operate) (fault : OpNo) → MayBeDone p ask → IsToldOperation {A = ℕ} (Err fault) →
@@ -101,3 +105,7 @@ operation_clash p q Restart (Compacted asked floor) may told is sole = is
 operation_clash p q Restart (Future asked current) may told is sole = is
 operation_clash p q Restart (UsedUp at) may told is sole = is
 operation_clash p q Restart Memory may told is sole = told
+operation_clash p q Disconnect (Compacted asked floor) may told is sole = is
+operation_clash p q Disconnect (Future asked current) may told is sole = is
+operation_clash p q Disconnect (UsedUp at) may told is sole = is
+operation_clash p q Disconnect Memory may told is sole = told

@@ -6,13 +6,12 @@ use Rattle.rev_log.specs.Changes.{RevisionData}
 use Rattle.rev_log.specs.Logs.{Fits}
 use Rattle.client_api.specs.Alone.{known}
 use Rattle.discovery.specs.declared.documents.Document.TheVariants as document
-use Rattle.discovery.specs.declared.documents.Probe.TheVariants as probe
 use Rattle.metrics.specs.declared.caches.Metrics.{Metrics}
 use Rattle.metrics.specs.declared.caches.CacheMetrics.{CacheMetrics}
 use Rattle.client_api.specs.declared.answers.ListNo.TheVariants as list_no
 use Rattle.sess_reply.specs.Replies.{listed, described, metered, unready}
 use Rattle.sess_turns.specs.Terms.{Terms}
-use Rattle.sess_serve.specs.Answers.{Answer, replied, readiness, is_stream}
+use Rattle.sess_serve.specs.Answers.{Answer, replied, is_stream}
 use Rattle.sess_serve.specs.Steps.{Exchange, Run, AreAlone}
 
 -- each of the requests is answered by a reply, and none by the stream of a watch
@@ -35,15 +34,15 @@ pub record TellAlike (a b : Metrics) : Type 0 where
   pub deployments : HoldAlike a.deployments b.deployments
 
 -- Two answers are one; but two refusals of a list whose one revision isn't kept any more may tell different floors; metrics
--- may differ in what requests don't determine; and a mirror may have become ready, or not be any more.
+-- may differ in what requests don't determine; and a mirror may pass a probe that it failed, or not any more.
 abbrev pub AreOne : Bool → Answer → Answer → Type 0
 AreOne mirror (replied (listed ask (Err (list_no.Expired asked floor)))) other =
     (n : ℕ) × (other ≡ replied (listed ask (Err (list_no.Expired asked n))))
 AreOne mirror (replied (metered told)) other = (again : Metrics) × (other ≡ replied (metered again)) × TellAlike told again
-AreOne mirror (replied (described (document.Probe probe.Readyz))) other =
-    (other ≡ replied (described readiness)) ⊎ ((mirror ≡ true) × (other ≡ replied unready))
-AreOne mirror (replied unready) other =
-    (mirror ≡ true) × ((other ≡ replied unready) ⊎ (other ≡ replied (described readiness)))
+AreOne mirror (replied (described (document.Probe probe))) other =
+    (other ≡ replied (described (document.Probe probe))) ⊎ ((mirror ≡ true) × (other ≡ replied (unready probe)))
+AreOne mirror (replied (unready probe)) other =
+    (mirror ≡ true) × ((other ≡ replied (unready probe)) ⊎ (other ≡ replied (described (document.Probe probe))))
 AreOne mirror answer other = other ≡ answer
 
 -- the same requests are answered by the same answers

@@ -8,7 +8,7 @@ use Rattle.select_all.specs.declared.selection.Meaning.TheVariants.{MostRecent, 
 use Rattle.select_all.specs.Floors.{IsEvicted}
 use Rattle.up_api.specs.Sections.{log_of}
 use Rattle.up_store.specs.declared.operations.Operate.{Operate}
-use Rattle.up_store.specs.declared.operations.Operate.TheVariants.{Cut, Compact, Restart}
+use Rattle.up_store.specs.declared.operations.Operate.TheVariants.{Cut, Compact, Restart, Disconnect}
 use Rattle.watch_rules.specs.declared.ask.WatchAsk.{WatchAsk}
 use Rattle.watch_rules.specs.declared.starts.Start.{Start}
 use Rattle.watch_rules.specs.declared.starts.Start.TheVariants.{FromState, FromHere, FromRevision}
@@ -38,11 +38,13 @@ IsKept terms p ask (FromHere meaning) = IsInReach p meaning
 IsKept terms p ask (FromRevision at) =
     (n : ℕ) → ¬ (IsEvicted (log_of terms.base p) p.floor terms.window ask.selection.resource at n)
 
--- an operation can be done: a further cut, a compaction between the floor and the end of the log, and each restart
+-- an operation can be done: a further cut, a compaction between the floor and the end of the log, and each restart and
+-- disconnection
 abbrev pub MayBeDone : Pass RevisionData → Operate → Type 0
 MayBeDone p Cut = p.gen < 2 ^ 62
 MayBeDone p (Compact at) = (p.floor ≤ at) × IsReached p at
 MayBeDone p Restart = Unit {0}
+MayBeDone p Disconnect = Unit {0}
 
 -- a request that asks for this is due what it asks for: nothing stands in its way
 abbrev pub IsDue : Terms → Pass RevisionData → Req → Routed → Type 0

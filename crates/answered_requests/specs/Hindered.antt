@@ -8,7 +8,7 @@ use Rattle.select_all.specs.Floors.{IsEvicted}
 use Rattle.up_api.specs.Sections.{log_of, log_upto}
 use Rattle.up_store.specs.Replies.{IsKnown}
 use Rattle.up_store.specs.declared.operations.Operate.{Operate}
-use Rattle.up_store.specs.declared.operations.Operate.TheVariants.{Cut, Compact, Restart}
+use Rattle.up_store.specs.declared.operations.Operate.TheVariants.{Cut, Compact, Restart, Disconnect}
 use Rattle.up_store.specs.declared.writes.WriteAsk.{WriteAsk}
 use Rattle.watch_rules.specs.declared.ask.WatchAsk.{WatchAsk}
 use Rattle.watch_rules.specs.declared.starts.Start.{Start}
@@ -50,6 +50,7 @@ abbrev pub IsBarred : Pass RevisionData → Operate → Pass RevisionData → Ty
 IsBarred p Cut q = q.gen ≡ 2 ^ 62
 IsBarred p (Compact at) q = (p.shown < at) ⊎ (at < q.floor)
 IsBarred p Restart q = ⊥
+IsBarred p Disconnect q = ⊥
 
 -- What stands in the way of a request that asks for this: nothing, where it asks what describes the server or for metrics;
 -- for a watch also that it asks for a WebSocket, and not as it must.

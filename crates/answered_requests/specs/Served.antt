@@ -1,6 +1,8 @@
 -- What a request gets that is served: its 200, its 201 or its stream; and a get its 404 where no object stands.
 use Rattle.std.specs.Prelude.{◌≡◌, ℕ, ◌⊎◌, List, true, Option, Some, Ok, Err, option_map}
 use Rattle.discovery.specs.declared.documents.Document.{Document}
+use Rattle.discovery.specs.declared.documents.Document.TheVariants as document
+use Rattle.discovery.specs.declared.documents.Probe.{Probe}
 use Rattle.metrics.specs.declared.caches.Metrics.{Metrics}
 use Rattle.rev_front.specs.Passes.{Pass}
 use Rattle.rev_log.specs.Changes.{RevisionData}
@@ -20,7 +22,7 @@ use Rattle.sess_reply.specs.Contents.{Content, accepted_code}
 use Rattle.sess_reply.specs.Replies.{Reply, content_of, form_of, wrote, transacted, got, listed, operated, described, metered, unready}
 use Rattle.sess_turns.specs.Terms.{Terms}
 use Rattle.sess_turns.specs.Turns.{Turns, IsWatchTurns}
-use Rattle.sess_serve.specs.Answers.{begun, replied, streamed, readiness}
+use Rattle.sess_serve.specs.Answers.{begun, replied, streamed}
 use Rattle.sess_serve.specs.Steps.{Exchange}
 
 -- the HTTP status of a reply
@@ -40,12 +42,13 @@ pub record GetsStream (terms : Terms) (p : Pass RevisionData) (e : Exchange) (as
   pub starts : IsWatchStart terms.base p ask watch.begun opened
   pub turns : IsWatchTurns terms ask opened watch e.pass
 
--- the request is answered by what describes the server; but a mirror may answer that it isn't ready
+-- the request is answered by what describes the server; but a mirror may answer that it fails the probe
 abbrev pub GetsDescribed : Terms → Exchange → Document → Type 0
-GetsDescribed terms e document =
-    Gets e (described document) 200 ⊎ ((document ≡ readiness) × (terms.mirror ≡ true) × Gets e unready 503)
+GetsDescribed terms e text =
+    Gets e (described text) 200
+    ⊎ ((probe : Probe) × (text ≡ document.Probe probe) × (terms.mirror ≡ true) × Gets e (unready probe) 503)
 
--- What a request gets that asks for this. What describes the server: 200, or 503 where a mirror isn't ready. Metrics: 200,
+-- What a request gets that asks for this. What describes the server: 200, or 503 where a mirror fails a probe. Metrics: 200,
 -- with those of the log and its caches. A list: 200, with its page at a fresh
 -- revision. A get: 200 with the object that stands at a fresh revision, or 404 where none stands there. A write: 201
 -- where it creates and 200 where it replaces or removes, and its change is in the log. A transaction: 200, and its

@@ -1,4 +1,4 @@
-//! The HTTP status of each refusal that comes before a client is asked. Want of memory has none, since it is told nobody.
+//! The HTTP status of each refusal that comes before a client is asked. Want of memory has none, since nobody is told.
 
 ghost use Rattle.std.specs.Prelude.{◌≡◌};
 ghost use Rattle.api_errors.specs.Failures.{code_told};

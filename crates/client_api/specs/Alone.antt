@@ -13,7 +13,7 @@ use Rattle.up_store.specs.declared.writes.Written.{Written}
 use Rattle.up_store.specs.declared.transactions.TxWriteNo.{TxWriteNo}
 use Rattle.up_store.specs.declared.transactions.TxWriteNo.TheVariants as tx_no
 use Rattle.up_store.specs.declared.operations.Operate.{Operate}
-use Rattle.up_store.specs.declared.operations.Operate.TheVariants.{Cut, Compact, Restart}
+use Rattle.up_store.specs.declared.operations.Operate.TheVariants.{Cut, Compact, Restart, Disconnect}
 use Rattle.up_store.specs.declared.operations.OpNo.{OpNo}
 use Rattle.up_store.specs.declared.operations.OpNo.TheVariants as op_no
 use Rattle.up_store.specs.Stores.{accepted, IsCutAnswer, IsCompactionAnswer}
@@ -85,12 +85,13 @@ SoleTransact base mirror history p asks (Err fault) q =
 
 -- ---- operations
 
--- what an operation makes of the log, its floor and its generation, and what it answers; a restart changes none of
--- them
+-- what an operation makes of the log, its floor and its generation, and what it answers; a restart and a disconnection
+-- change none of them
 abbrev pub IsSoleOperation : Operate → Whole RevisionData → Result ℕ OpNo → Whole RevisionData → Type 0
 IsSoleOperation Cut w answer after = IsCutAnswer w after answer
 IsSoleOperation (Compact at) w answer after = IsCompactionAnswer at w after answer
 IsSoleOperation Restart w answer after = after ≡ w
+IsSoleOperation Disconnect w answer after = after ≡ w
 
 -- what an operation makes of the log, as it answers; after want of memory no more is said than that the log is the same
 abbrev pub SoleOperate : Pass RevisionData → Operate → Result ℕ OpNo → Pass RevisionData → Type 0

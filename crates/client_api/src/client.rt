@@ -151,6 +151,27 @@ pub trait Client {
     fn is_ready(&self) -> bool
         ensures { mirror ≡ false → result ≡ true };
 
+    /// Whether a supervisor should let the server run on. That of a mirror shouldn't once it has ended following its peer
+    /// for good; any other always should.
+    fn is_live(&self) -> bool
+        ensures { mirror ≡ false → result ≡ true }
+    {
+        true
+    }
+
+    /// Is told that a request with this method, or bytes that are none, were refused with this HTTP status, before the
+    /// client was asked anything. One that counts nothing needs to do nothing.
+    fn refused(&mut self, method: &str, code: u16)
+        ensures pass { pass self.new ≡ pass self.old }
+        ensures facts { facts self.new ≡ facts self.old }
+        ensures times { times self.new ≡ times self.old }
+        ensures whole { whole self.old → whole self.new }
+        ensures cached { cached self.new ≡ cached self.old }
+    {
+        let _ = method;
+        let _ = code;
+    }
+
     /// Is told a time, by which the age of events is judged.
     fn tick(&mut self, ms: u64)
         ensures pass { pass self.new ≡ pass self.old }

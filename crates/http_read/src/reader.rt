@@ -24,8 +24,8 @@ use std::marker::Model;
 /// How many bytes of a body are read at a time, at most, behind those that came with its head.
 const STEP: usize = 8192;
 
-// Reads once behind the front of a body of `whole` bytes, and answers how many bytes came. The body's memory is reserved,
-// so that none is asked for, and none is used before bytes come for it.
+// Reads once behind the front of a body of `whole` bytes, and answers how many bytes came. The body's memory is
+// reserved, so that none is asked for, and none is used before bytes come for it.
 fn read_more<S: Source>(source: &mut S, body: &mut Vec<u8>, whole: usize) -> Result<usize, Failed>
     requires open { length body.old.items < whole }
     requires reserved { whole ≤ vec_capacity body.old }

@@ -45,6 +45,12 @@ impl Counts {
         self.note(Verb::Operate, None, code);
     }
 
+    /// A request with this method, or bytes that are none, were refused by this code before a client was asked. No
+    /// resource is told of it.
+    pub fn refused(&self, method: &str, code: u16) {
+        self.answered(verb_of(method), None, code);
+    }
+
     /// A watch took what there was for it.
     pub fn took(&self, took: &Took) {
         if let Took::Events { lines, .. } = took {
@@ -57,6 +63,18 @@ impl Counts {
         if let Some(code) = code {
             self.answered(verb, resource, code);
         }
+    }
+}
+
+// What a request with this method asks for. One that isn't served is told among the operations, as bytes that are no
+// request are.
+fn verb_of(method: &str) -> Verb {
+    match method {
+        "GET" => Verb::Get,
+        "POST" => Verb::Create,
+        "PUT" => Verb::Replace,
+        "DELETE" => Verb::Remove,
+        _ => Verb::Operate,
     }
 }
 

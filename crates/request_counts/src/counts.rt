@@ -9,7 +9,9 @@ use std::sync::atomic::AtomicU64;
 use std::sync::atomic::Ordering::SeqCst;
 
 /// The codes by which clients are answered.
-const CODES: [u16; 8] = [200, 201, 404, 405, 409, 410, 500, 504];
+const CODES: [u16; 14] = [
+    200, 201, 400, 403, 404, 405, 409, 410, 411, 413, 415, 422, 500, 504,
+];
 
 /// What requests ask for.
 const VERBS: [Verb; 8] = [
@@ -32,7 +34,7 @@ const RESOURCES: [Option<Resource>; 4] = [
 ];
 
 /// How many kinds of answers are counted, each by itself: one for each verb, resource and code.
-const KINDS: usize = 256;
+const KINDS: usize = 512;
 
 /// How many connections are open, how many events were told, and how many requests were answered, of each kind. No
 /// contract speaks of it: each thread adds by itself, and nobody waits.
@@ -118,9 +120,9 @@ impl Counts {
 
 // The place of the count of a kind.
 fn place(verb: Verb, resource: Option<Resource>, code: u16) -> usize
-    ensures { result < 256 }
+    ensures { result < 512 }
 {
-    place_of_verb(verb) * 32 + place_of_resource(resource) * 8 + place_of_code(code)
+    place_of_verb(verb) * 64 + place_of_resource(resource) * 16 + place_of_code(code)
 }
 
 fn place_of_verb(verb: Verb) -> usize
@@ -151,16 +153,22 @@ fn place_of_resource(resource: Option<Resource>) -> usize
 
 // A code by which no client is answered counts as a fault of the server.
 fn place_of_code(code: u16) -> usize
-    ensures { result < 8 }
+    ensures { result < 16 }
 {
     match code {
         200 => 0,
         201 => 1,
-        404 => 2,
-        405 => 3,
-        409 => 4,
-        410 => 5,
-        504 => 7,
-        _ => 6,
+        400 => 2,
+        403 => 3,
+        404 => 4,
+        405 => 5,
+        409 => 6,
+        410 => 7,
+        411 => 8,
+        413 => 9,
+        415 => 10,
+        422 => 11,
+        504 => 12,
+        _ => 13,
     }
 }

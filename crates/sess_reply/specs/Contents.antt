@@ -1,14 +1,17 @@
--- What each answer says: a status, whether it is to be asked again in a second, and a text, which is JSON but for probes
--- and metrics.
+-- What each answer says: a status, whether it is to be asked again in a second, and a text, which is JSON but for probes,
+-- metrics and the OpenAPI document.
 -- Nothing is said of want of memory.
 use Rattle.std.specs.Prelude.{ℕ, List, [], ◌∷◌, codes, Bool, true, false, Option, None, Some, Result, Ok, Err, map, option_map, option_and_then, slice_get, if◌then◌else◌}
 use Rattle.kube_meta.specs.Keys.{name_of}
 use Rattle.kube_meta.specs.Rows.{RowData}
 use Rattle.kube_meta.specs.declared.resources.Resource.{Resource}
-use Rattle.discovery.specs.Documents.{document_text, is_probe_of}
+use Rattle.discovery.specs.Documents.{document_text}
 use Rattle.discovery.specs.declared.documents.Document.{Document}
+use Rattle.discovery.specs.declared.documents.Document.TheVariants as document
+use Rattle.discovery.specs.declared.documents.Probe.{Probe}
+use Rattle.discovery.specs.declared.documents.Probe.TheVariants as probe
 use Rattle.http_send.specs.declared.replies.ContentType.{ContentType}
-use Rattle.http_send.specs.declared.replies.ContentType.TheVariants.{Json, PlainText, MetricsText}
+use Rattle.http_send.specs.declared.replies.ContentType.TheVariants.{Json, PlainText, MetricsText, OpenApi}
 use Rattle.json_obj.specs.Replies.{list_text, status_text, value_text}
 use Rattle.list_rules.specs.declared.ask.ListAsk.{ListAsk}
 use Rattle.list_rules.specs.declared.get.GetAsk.{GetAsk}
@@ -134,13 +137,15 @@ listed_content form ask (Err fault) = refusal_content (read_told fault)
 
 -- ---- what describes the server
 
--- a probe is answered by a plain text, and all else by JSON
+-- a probe is answered by a plain text, the OpenAPI document is in protobuf, and all else is JSON
 abbrev pub content_type_of : Document → ContentType
-content_type_of document = if is_probe_of document then PlainText else Json
+content_type_of (document.Probe asked) = PlainText
+content_type_of document.OpenApi = OpenApi
+content_type_of text = Json
 
 -- what describes the server is said as it is
 abbrev pub described_content : Document → Option Content
-described_content document = Some (record { code = 200; retry = false; kind = content_type_of document; text = document_text document })
+described_content text = Some (record { code = 200; retry = false; kind = content_type_of text; text = document_text text })
 
 -- ---- monitors
 
@@ -148,7 +153,12 @@ described_content document = Some (record { code = 200; retry = false; kind = co
 abbrev pub metered_content : Metrics → Option Content
 metered_content told = Some (record { code = 200; retry = false; kind = MetricsText; text = metrics_text told })
 
--- a mirror that has lost its peer isn't ready (503, Service Unavailable)
-abbrev pub unready_content : Option Content
-unready_content =
-    Some (record { code = 503; retry = true; kind = PlainText; text = codes "[-]following its peer failed\nreadyz check failed" })
+-- what a failed probe is told
+abbrev pub failed_text : Probe → List ℕ
+failed_text probe.Livez = codes "[-]following its peer failed\nlivez check failed"
+failed_text probe.Readyz = codes "[-]following its peer failed\nreadyz check failed"
+failed_text probe.Healthz = codes "[-]following its peer failed\nhealthz check failed"
+
+-- a mirror that has lost its peer fails the probe (503, Service Unavailable)
+abbrev pub unready_content : Probe → Option Content
+unready_content asked = Some (record { code = 503; retry = true; kind = PlainText; text = failed_text asked })

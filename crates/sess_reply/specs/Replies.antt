@@ -1,6 +1,7 @@
 -- What each answer that is a reply is written as, byte by byte.
 use Rattle.std.specs.Prelude.{ℕ, List, [], ◌∷◌, ◌++◌, Bool, true, false, Option, None, Some, Result}
 use Rattle.discovery.specs.declared.documents.Document.{Document}
+use Rattle.discovery.specs.declared.documents.Probe.{Probe}
 use Rattle.http_read.specs.declared.refusal.ReqNo.{ReqNo}
 use Rattle.http_read.specs.declared.request.Req.{Req}
 use Rattle.http_send.specs.Replies as http
@@ -26,7 +27,7 @@ use Rattle.metrics.specs.declared.caches.Metrics.{Metrics}
 use Rattle.sess_reply.specs.Contents.{Content, refused, refusal_content, written_content, transacted_content, got_content, listed_content, operated_content, described_content, metered_content, unready_content, read_told}
 
 -- an answer that is a reply, with what was asked: the request has no route; what its write, transaction, get, list or
--- operation came to; what describes the server; what a monitor is told; the server isn't ready; its watch is refused before
+-- operation came to; what describes the server; what a monitor is told; the probe failed; its watch is refused before
 -- it began; its watch asks to go on as a WebSocket, and that isn't one
 pub data Reply : Type 0 where
   unrouted : RouteNo → Reply
@@ -37,7 +38,7 @@ pub data Reply : Type 0 where
   operated : Operate → Result ℕ OpNo → Reply
   described : Document → Reply
   metered : Metrics → Reply
-  unready : Reply
+  unready : Probe → Reply
   unwatched : WatchAsk → ListNo → Reply
   bad_upgrade : WatchAsk → Reply
 
@@ -51,7 +52,7 @@ content_of form (listed ask answer) = listed_content form ask answer
 content_of form (operated ask answer) = operated_content answer
 content_of form (described document) = described_content document
 content_of form (metered told) = metered_content told
-content_of form unready = unready_content
+content_of form (unready probe) = unready_content probe
 content_of form (unwatched ask fault) = refusal_content (read_told fault)
 content_of form (bad_upgrade ask) = Some (refused errors.bad_upgrade)
 

@@ -13,14 +13,14 @@ use discovery::Document;
 use edge_io::Sink;
 use http_send::ContentType;
 
-// A probe is answered by a plain text, and all else by JSON.
+// A probe is answered by a plain text, the OpenAPI document is in protobuf, and all else is JSON.
 fn content_type_of(document: &Document) -> ContentType
     ensures { result ≡ contents.content_type_of document.now }
 {
-    if document.is_probe() {
-        ContentType::PlainText
-    } else {
-        ContentType::Json
+    match document {
+        Document::Probe(_) => ContentType::PlainText,
+        Document::OpenApi => ContentType::OpenApi,
+        _ => ContentType::Json,
     }
 }
 

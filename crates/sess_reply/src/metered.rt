@@ -1,19 +1,31 @@
-//! Replies to a monitor, and that a server isn't ready.
+//! Replies to a monitor, and that a server isn't ready, or isn't to run on.
 
+ghost use Rattle.std.specs.Prelude.{◌≡◌};
 ghost use Rattle.edge_io.specs.Sent.{sent_through};
 ghost use Rattle.meta_view.specs.declared.form.Form.TheVariants.{Whole};
+ghost use Rattle.sess_reply.specs.Contents as contents;
 ghost use Rattle.sess_reply.specs.Replies.{reply_text, metered, unready};
 ghost use Rattle.sess_reply.specs.Sending.{Sends};
 
 use crate::Broken;
 use crate::body::send_typed_pieces;
+use discovery::Probe;
 use edge_io::Sink;
 use http_send::ContentType;
 use metrics::Metrics;
 use metrics_text::metrics_text;
 use std::alloc::Global;
 
-const UNREADY: &[u8] = b"[-]following its peer failed\nreadyz check failed";
+// What a failed probe is told.
+fn failed_text(probe: Probe) -> &'static [u8]
+    ensures { result.now ≡ contents.failed_text probe }
+{
+    match probe {
+        Probe::Livez => b"[-]following its peer failed\nlivez check failed",
+        Probe::Readyz => b"[-]following its peer failed\nreadyz check failed",
+        Probe::Healthz => b"[-]following its peer failed\nhealthz check failed",
+    }
+}
 
 /// Replies with what a monitor is told.
 pub fn send_metered<K: Sink>(
@@ -35,9 +47,10 @@ pub fn send_metered<K: Sink>(
     )
 }
 
-/// Replies to a probe that the server isn't ready, and may be in a second.
-pub fn send_unready<K: Sink>(sink: &mut K, close: bool) -> Result<(), Broken>
-    ensures { Sends result (reply_text Whole close unready) (sent_through K.written K.settled K.faults sink.old sink.new) }
+/// Replies to a probe that it failed, and may be tried again in a second.
+pub fn send_unready<K: Sink>(sink: &mut K, close: bool, probe: Probe) -> Result<(), Broken>
+    ensures { Sends result (reply_text Whole close (unready probe)) (sent_through K.written K.settled K.faults sink.old sink.new) }
 {
-    send_typed_pieces(sink, ContentType::PlainText, 503, true, close, &[UNREADY])
+    let text = failed_text(probe);
+    send_typed_pieces(sink, ContentType::PlainText, 503, true, close, &[text])
 }

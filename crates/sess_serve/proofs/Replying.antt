@@ -86,7 +86,7 @@ module _ (base : List RowData) (mirror : Bool) (facts : Facts) (s : Settings) (p
   pub lacks-operate : (ask : Operate) (answer : Result ℕ OpNo) → answer ≡ Err op_no.Memory → SoleOperate p ask answer q → IsBegun
   lacks-operate ask answer is sole = inl (subst (λ a. SoleOperate p ask a q) is sole)
 
--- a server that isn't ready is a mirror's
+-- a server that fails a probe is a mirror's
 pub mirror-unready : (mirror ready : Bool) → (mirror ≡ false → ready ≡ true) → ready ≡ false → mirror ≡ true
 mirror-unready mirror ready always lost = grind arith
 

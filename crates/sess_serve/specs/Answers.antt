@@ -1,8 +1,6 @@
 -- The answers to requests, as plain data: each has what was asked, and what the client answered.
 use Rattle.std.specs.Prelude.{ℕ, List, [], Bool, true, false, Option, Some, None, IfSome}
-use Rattle.discovery.specs.declared.documents.Document.{Document}
 use Rattle.discovery.specs.declared.documents.Document.TheVariants as document
-use Rattle.discovery.specs.declared.documents.Probe.TheVariants as probe
 use Rattle.edge_io.specs.declared.clock.Reading.{Reading}
 use Rattle.rev_front.specs.Passes.{Pass}
 use Rattle.rev_log.specs.Changes.{RevisionData}
@@ -44,10 +42,6 @@ abbrev pub FailsUpgrade : Option Upgrade → Type 0
 FailsUpgrade None = ⊥
 FailsUpgrade (Some u) = ¬ (IsUpgrade u.key u.version)
 
--- whether the server is ready
-abbrev pub readiness : Document
-readiness = document.Probe probe.Readyz
-
 -- the reply is to what the request asks for: it tells why that has no route, or what came of the route that it has
 abbrev pub IsReplyTo : Req → Reply → Type 0
 IsReplyTo req (unrouted fault) = IsUnrouted req fault
@@ -58,7 +52,7 @@ IsReplyTo req (listed ask answer) = IsRoute req (routed.List ask)
 IsReplyTo req (operated ask answer) = IsRoute req (routed.Operate ask)
 IsReplyTo req (described document) = IsRoute req (routed.Describe document)
 IsReplyTo req (metered told) = IsRoute req routed.Metrics
-IsReplyTo req unready = IsRoute req (routed.Describe readiness)
+IsReplyTo req (unready probe) = IsRoute req (routed.Describe (document.Probe probe))
 IsReplyTo req (unwatched ask fault) = IsRoute req (routed.Watch ask) × IsPlainOrUpgrade req
 IsReplyTo req (bad_upgrade ask) = IsRoute req (routed.Watch ask) × FailsUpgrade req.upgrade
 

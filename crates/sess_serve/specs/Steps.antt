@@ -29,7 +29,7 @@ UnwatchedSays terms p ask (Absent at) q = ⊥
 UnwatchedSays terms p ask Memory q = ⊥
 
 -- a reply tells what the client answered, which wasn't want of memory; where it wasn't asked nothing has changed; none but
--- a mirror isn't ready
+-- a mirror fails a probe
 abbrev pub ReplySays : Terms → Pass RevisionData → Reply → Pass RevisionData → Type 0
 ReplySays terms p (unrouted fault) q = p ≡ q
 ReplySays terms p (wrote ask answer) q = IsToldWrite answer × IsWriteReply terms.base terms.mirror p ask answer q
@@ -39,7 +39,7 @@ ReplySays terms p (listed ask answer) q = IsToldRead answer × IsListAnswer term
 ReplySays terms p (operated ask answer) q = IsToldOperation answer × IsOperationReply p ask answer q
 ReplySays terms p (described document) q = p ≡ q
 ReplySays terms p (metered told) q = AreMetrics terms.base p told q
-ReplySays terms p unready q = (terms.mirror ≡ true) × (p ≡ q)
+ReplySays terms p (unready probe) q = (terms.mirror ≡ true) × (p ≡ q)
 ReplySays terms p (unwatched ask fault) q = UnwatchedSays terms p ask fault q
 ReplySays terms p (bad_upgrade ask) q = p ≡ q
 
@@ -85,7 +85,7 @@ IsAloneReply terms p (got ask answer) q = IsSoleRead p q
 IsAloneReply terms p (listed ask answer) q = IsSoleRead p q
 IsAloneReply terms p (described document) q = IsSoleRead p q
 IsAloneReply terms p (metered told) q = IsSoleRead p q
-IsAloneReply terms p unready q = IsSoleRead p q
+IsAloneReply terms p (unready probe) q = IsSoleRead p q
 IsAloneReply terms p (unwatched ask fault) q = IsSoleRead p q
 IsAloneReply terms p (bad_upgrade ask) q = IsSoleRead p q
 

@@ -8,10 +8,12 @@ ghost use Rattle.sess_turns.specs.Streams.{outside_of};
 ghost use Rattle.sess_turns.specs.Terms.{terms_of};
 ghost use Rattle.sess_serve.specs.Serving.{Answered, UnlessMemory};
 
+use crate::refused::tell_refused;
 use crate::steps::{
     step_describe, step_get, step_list, step_metrics, step_operate, step_transact, step_write,
 };
 use crate::watching::{by_reply, step_watch};
+use api_errors::route_code;
 use client_api::Client;
 use edge_io::{Clock, Sink};
 use http_read::Req;
@@ -43,7 +45,10 @@ pub fn answer<C: Client, K: Sink, T: Clock>(
         Ok(routed) => act(alloc, client, sink, clock, req, &routed, settings),
         Err(fault) => match fault {
             RouteNo::Memory => Err(Broken::Memory),
-            _ => by_reply(send_unrouted(alloc, sink, req.close, fault)),
+            _ => {
+                tell_refused(client, req.method.as_str(), route_code(fault));
+                by_reply(send_unrouted(alloc, sink, req.close, fault))
+            }
         },
     }
 }

@@ -5,6 +5,7 @@
 mod answer;
 mod ends;
 mod laws;
+mod refused;
 mod serve;
 mod steps;
 mod view;

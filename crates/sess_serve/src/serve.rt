@@ -16,6 +16,8 @@ ghost use Rattle.sess_serve.specs.Session.{IsSession};
 
 use crate::answer::answer;
 use crate::ends::SessionEnd;
+use crate::refused::tell_refused;
+use api_errors::request_code;
 use client_api::Client;
 use edge_io::{Clock, Sink, Source};
 use http_read::{Reader, Req, ReqNo};
@@ -122,7 +124,10 @@ fn round<C: Client, S: Source, K: Sink, T: Clock>(
             end_after(came, req.close)
         }
         Ok(None) => Some(SessionEnd::Done),
-        Err(fault) => Some(stop(alloc, sink, fault)),
+        Err(fault) => {
+            tell_refused(client, "", request_code(fault));
+            Some(stop(alloc, sink, fault))
+        }
     }
 }
 

@@ -1,6 +1,6 @@
 //! Requests that are answered by replies: one function a kind. Each asks the client, and writes what it answers.
 
-ghost use Rattle.std.specs.Prelude.{◌≡◌};
+ghost use Rattle.std.specs.Prelude.{◌≡◌, false, true};
 ghost use Rattle.std.specs.Bool.{MatchBool};
 ghost use Rattle.edge_io.specs.Sent.{sent_through};
 ghost use Rattle.client_api.specs.Told.{IsToldRead, IsToldWrite, IsToldTx, IsToldOperation};
@@ -179,7 +179,17 @@ pub fn step_metrics<C: Client, K: Sink>(
     }
 }
 
-/// What describes the server: the client is asked for no more than whether it is ready.
+// Whether a probe is passed: the server is ready, or is to run on.
+fn passes<C: Client>(client: &C, probe: Probe) -> bool
+    ensures { C.mirror ≡ false → result ≡ true }
+{
+    match probe {
+        Probe::Readyz => client.is_ready(),
+        Probe::Livez | Probe::Healthz => client.is_live(),
+    }
+}
+
+/// What describes the server: the client is asked for no more than whether it is ready, and whether it is to run on.
 pub fn step_describe<C: Client, K: Sink>(
     client: &C,
     sink: &mut K,
@@ -191,8 +201,8 @@ pub fn step_describe<C: Client, K: Sink>(
         (C.pass client.now) req.now (sent_through K.written K.settled K.faults sink.old sink.new) (C.pass client.now) result }
 {
     match document {
-        Document::Probe(Probe::Readyz) if !client.is_ready() => {
-            by_reply(send_unready(sink, req.close))
+        Document::Probe(probe) if !passes(client, *probe) => {
+            by_reply(send_unready(sink, req.close, *probe))
         }
         _ => by_reply(send_described(sink, req.close, document)),
     }

@@ -11,6 +11,7 @@ ghost use Rattle.sess_serve.specs.Answers.{IsPlainOrUpgrade};
 ghost use Rattle.sess_serve.specs.Serving.{Answered, UnlessMemory, sent_with};
 ghost use Rattle.sess_serve.specs.Texts as texts;
 
+use crate::refused::tell_refused;
 use crate::view::{is_plain_or_upgrade, view_of};
 use client_api::{Client, ListNo};
 use edge_io::{Clock, Sink};
@@ -20,6 +21,9 @@ use sess_turns::{View, WatchEnd, serve_gone, serve_stream};
 use std::alloc::Global;
 use up_api::Settings;
 use watch_rules::WatchAsk;
+
+// The HTTP status of the reply to a watch that asks for a WebSocket, and not as it must.
+const BAD_UPGRADE: u16 = 400;
 
 /// How a request came out that was answered by a reply.
 pub fn by_reply(sent: Result<(), Broken>) -> Result<Option<WatchEnd>, Broken>
@@ -76,6 +80,7 @@ pub fn step_watch<C: Client, K: Sink, T: Clock>(
             Err(_) => Err(Broken::Memory),
         }
     } else {
+        tell_refused(client, req.method.as_str(), Some(BAD_UPGRADE));
         by_reply(send_bad_upgrade(alloc, sink, req.close))
     }
 }
@@ -103,7 +108,7 @@ fn watch<C: Client, K: Sink, T: Clock>(
     ensures kept { C.whole client.old → UnlessMemory result (C.whole client.new) }
 {
     match client.watch(ask) {
-        Ok(begun) => by_stream(serve_stream(client, sink, clock, ask, &begun, view, settings)),
+        Ok(begun) => by_stream(serve_stream(client, sink, clock, ask, begun, view, settings)),
         Err(ListNo::Expired { asked, floor }) => {
             by_loss(serve_gone(sink, view, asked, floor), asked, floor)
         }

@@ -22,19 +22,20 @@ use up_api::Settings;
 use watch_rules::WatchAsk;
 
 /// Answers a watch that has begun by its stream, until it ends, and ends the watch. The clock is read once before the
-/// head and once a turn; each turn is flushed.
+/// head and once a turn; each turn is flushed. What the watch began with is let go behind the opening, so that the
+/// objects that stood there aren't held while the watch goes on.
 pub fn serve_stream<C: Client, K: Sink, T: Clock>(
     client: &mut C,
     sink: &mut K,
     clock: &mut T,
     ask: &WatchAsk,
-    begun: &Begun,
+    begun: Begun,
     view: &View,
     settings: &Settings,
 ) -> Result<WatchEnd, Broken>
-    requires watching { (C.facts client.old).watching ≡ Some (record { selection = ask.now.selection; position = begun.now.at }) }
+    requires watching { (C.facts client.old).watching ≡ Some (record { selection = ask.now.selection; position = begun.at }) }
     requires settings { AreInRange settings.now }
-    ensures streamed { IsStreamed (terms_of C.base C.mirror (C.facts client.old) settings.now) view.now ask.now begun.now
+    ensures streamed { IsStreamed (terms_of C.base C.mirror (C.facts client.old) settings.now) view.now ask.now begun
         (C.whole client.old) (C.pass client.old)
         (outside_of T.readings clock.old clock.new (sent_through K.written K.settled K.faults sink.old sink.new)) result (C.pass client.new) }
     ensures facts { C.facts client.new ≡
@@ -55,33 +56,34 @@ fn stream<C: Client, K: Sink, T: Clock>(
     sink: &mut K,
     clock: &mut T,
     ask: &WatchAsk,
-    begun: &Begun,
+    begun: Begun,
     start: Reading,
     view: &View,
     settings: &Settings,
 ) -> Result<WatchEnd, Broken>
-    requires watching { (C.facts client.old).watching ≡ Some (record { selection = ask.now.selection; position = begun.now.at }) }
+    requires watching { (C.facts client.old).watching ≡ Some (record { selection = ask.now.selection; position = begun.at }) }
     requires settings { AreInRange settings.now }
     requires heard { T.last clock.old ≤ (C.facts client.old).heard }
     ensures streamed { (readings : Option (List ReadingData)) → Noted readings (T.readings clock.old) (start ∷ []) →
-        IsStreamed (terms_of C.base C.mirror (C.facts client.old) settings.now) view.now ask.now begun.now (C.whole client.old) (C.pass client.old)
+        IsStreamed (terms_of C.base C.mirror (C.facts client.old) settings.now) view.now ask.now begun (C.whole client.old) (C.pass client.old)
         (record { readings_old = readings; readings_new = T.readings clock.new; sent = sent_through K.written K.settled K.faults sink.old sink.new })
         result (C.pass client.new) }
     ensures same { C.facts client.new ≡ record (C.facts client.old) { watching = (C.facts client.new).watching; heard = (C.facts client.new).heard } }
     ensures heard { T.last clock.new ≤ (C.facts client.new).heard }
     ensures kept { C.whole client.old → result ≢ Err Broken.Memory → C.whole client.new }
 {
+    let at = begun.at;
     open(sink, view, ask, begun)?;
-    turns(client, sink, clock, ask, start, begun.at, view, settings)
+    turns(client, sink, clock, ask, start, at, view, settings)
 }
 
-// Writes the head and the opening, and sends them on.
-fn open<K: Sink>(sink: &mut K, view: &View, ask: &WatchAsk, begun: &Begun) -> Result<(), Broken>
-    ensures { Sends result (head_text view.now.framing ++ frames_of view.now ask.now.selection.resource (opening_lines ask.now begun.now.at begun.now.rows))
+// Writes the head and the opening, and sends them on. What the watch began with is let go then.
+fn open<K: Sink>(sink: &mut K, view: &View, ask: &WatchAsk, begun: Begun) -> Result<(), Broken>
+    ensures { Sends result (head_text view.now.framing ++ frames_of view.now ask.now.selection.resource (opening_lines ask.now begun.at begun.rows))
         (sent_through K.written K.settled K.faults sink.old sink.new) }
 {
     begin(sink, &view.framing)?;
-    opening(sink, view, ask, begun)?;
+    opening(sink, view, ask, &begun)?;
     send_on(sink)
 }
 

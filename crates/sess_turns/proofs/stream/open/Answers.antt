@@ -20,6 +20,6 @@ pub returns : goal.returns
 returns g c =
     sends-on c.send_on.result _ _ _ _ _ _ _ _ _ _
     (written-behind _ _ _ _ _ _ (head_text c.args.view.now.framing)
-    (frames_of c.args.view.now c.args.ask.now.selection.resource (opening_lines c.args.ask.now c.args.begun.now.at c.args.begun.now.rows))
+    (frames_of c.args.view.now c.args.ask.now.selection.resource (opening_lines c.args.ask.now c.args.begun.at c.args.begun.rows))
     c.in_ok-begin.ensures c.in_ok-opening.ensures)
     c.send_on.ensures
