@@ -151,8 +151,8 @@ pub trait Client {
     fn is_ready(&self) -> bool
         ensures { mirror ≡ false → result ≡ true };
 
-    /// Whether a supervisor should let the server run on. That of a mirror shouldn't once it has ended following its peer
-    /// for good; any other always should.
+    /// Whether a supervisor should let the server run on. That of a mirror shouldn't once it has ended following its
+    /// peer for good; any other always should.
     fn is_live(&self) -> bool
         ensures { mirror ≡ false → result ≡ true }
     {

@@ -9,8 +9,8 @@ use sess_turns::WatchEnd;
 /// Why a session ended.
 #[derive(Clone, Copy, Debug, PartialEq, Eq)]
 pub enum SessionEnd {
-    /// A request that closes the connection, by `Connection: close` or as a HEAD, was answered by a reply; or input ended
-    /// with no byte of a further request.
+    /// A request that closes the connection, by `Connection: close` or as a HEAD, was answered by a reply; or input
+    /// ended with no byte of a further request.
     Done,
     /// A watch was answered by its stream, which came to its end.
     Watched(WatchEnd),
