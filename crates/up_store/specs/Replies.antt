@@ -6,7 +6,7 @@ use Rattle.rev_log.specs.Changes.{RevisionData}
 use Rattle.rev_log.specs.Logs.{Log, end_of, grown}
 use Rattle.up_api.specs.Sections.{log_of, log_upto}
 use Rattle.up_store.specs.declared.operations.Operate.{Operate}
-use Rattle.up_store.specs.declared.operations.Operate.TheVariants.{Cut, Compact, Restart}
+use Rattle.up_store.specs.declared.operations.Operate.TheVariants.{Cut, Compact, Restart, Disconnect}
 use Rattle.up_store.specs.declared.operations.OpNo.{OpNo}
 use Rattle.up_store.specs.declared.operations.OpNo.TheVariants.{Compacted, Future, UsedUp, Memory}
 use Rattle.up_store.specs.declared.transactions.TxWriteNo.{TxWriteNo}
@@ -87,7 +87,7 @@ IsCompactionReply at p (Err (Future asked current)) q = (asked ≡ at) × (curre
 IsCompactionReply at p (Err (UsedUp other)) q = ⊥
 IsCompactionReply at p (Err Memory) q = Unit {0}
 
--- what a restart of the caches answers: the floor from which they were built
+-- what a restart of the caches, or an end of all watches, answers: the floor, from which the caches are built
 abbrev pub IsRestartReply : Pass RevisionData → Result ℕ OpNo → Pass RevisionData → Type 0
 IsRestartReply p (Ok floor) q = (p.floor ≤ floor) × (floor ≤ q.floor)
 IsRestartReply p (Err Memory) q = Unit {0}
@@ -98,3 +98,4 @@ abbrev pub IsOperationReply : Pass RevisionData → Operate → Result ℕ OpNo 
 IsOperationReply p Cut answer q = IsCutReply p answer q
 IsOperationReply p (Compact at) answer q = IsCompactionReply at p answer q
 IsOperationReply p Restart answer q = IsRestartReply p answer q
+IsOperationReply p Disconnect answer q = IsRestartReply p answer q

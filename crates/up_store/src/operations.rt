@@ -11,6 +11,8 @@ pub enum Operate {
     Compact { at: u64 },
     /// The caches are built anew from the store.
     Restart,
+    /// All open watches of the server end. Nothing of the log changes.
+    Disconnect,
 }
 
 /// Why an operation was refused.
