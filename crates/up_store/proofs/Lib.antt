@@ -1,4 +1,5 @@
 pub mod ApplyLemmas
+pub mod ChangedLemmas
 pub mod HearLemmas
 pub mod KeptLemmas
 pub mod OrderLemmas

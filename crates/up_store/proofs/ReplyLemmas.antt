@@ -14,7 +14,7 @@ use Rattle.up_store.specs.declared.writes.WriteAsk.{WriteAsk}
 use Rattle.up_store.specs.declared.writes.WriteNo.{WriteNo}
 use Rattle.up_store.specs.declared.writes.WriteNo.TheVariants as write_no
 use Rattle.up_store.specs.declared.writes.Written.{Written}
-use Rattle.up_store.specs.Hearing.{IsHeard, IsHearAnswer, IsHearAllAnswer, IsHearAllReply}
+use Rattle.up_store.specs.Hearing.{IsHeard, IsHearAnswer, AreHeard, IsAddAnswer, IsAnewAnswer, IsFollowReply, IsAnewReply, extended, filled}
 use Rattle.up_store.specs.Replies.{IsKnown, IsWriteRefused, IsTxRefused, IsWriteReply, IsTransactionReply}
 use Rattle.up_store.specs.Stores.{HasMet, log_in}
 use Rattle.up_store.specs.Transacting.{tx_refusal_of, IsTransactionAnswer}
@@ -98,15 +98,16 @@ module _ (base : List RowData) (was w after : Whole RevisionData) (p m q : Pass 
   }
   hear-replied history revision (Err memory) next is = tt
 
-  pub hear_all-replied : (from : ℕ) (revisions : List RevisionData) (answer : Result ℕ HearNo) → IsHearAllAnswer from revisions w after answer →
-      IsHearAllReply base p from revisions answer q
-  hear_all-replied from revisions (Ok to) is = record {
-    before = log_in base w;
-    shown = shown;
-    follow = is.0;
-    number = is.1;
-    committed = met-log base after m q two ∙ ap (log_in base) is.2;
-    floor = ap (λ x. x.floor) two.is ∙ ap (λ v. v.floor) is.2;
-  }
-  hear_all-replied from revisions (Err (hear_no.Passed at)) is = (is.0 ∙ sym (ap end_of (stayed is.2)), omega (arith, shown, is.0), is.1)
-  hear_all-replied from revisions (Err hear_no.Memory) is = tt
+  module _ (from : ℕ) (revisions : List RevisionData) (to floor : ℕ) where
+    heard_all : from ≡ reached w → after ≡ extended w (filled from revisions to) floor → AreHeard base p from revisions to q
+    heard_all end is = record { before = log_in base w; shown = shown; follow = end; committed = met-log base after m q two ∙ ap (log_in base) is }
+
+    pub follow-replied : (answer : Result ℕ HearNo) → IsAddAnswer from to w (extended w (filled from revisions to) floor) after answer → IsFollowReply base p from revisions to answer q
+    follow-replied (Ok end) is = (is.1, heard_all is.0 is.2)
+    follow-replied (Err (hear_no.Passed at)) is = (is.0 ∙ sym (ap end_of (stayed is.2)), omega (arith, shown, is.0), is.1)
+    follow-replied (Err hear_no.Memory) is = tt
+
+  pub anew-replied : (from : ℕ) (revisions : List RevisionData) (to : ℕ) (answer : Result ℕ HearNo) → IsAnewAnswer from revisions to w after answer → IsAnewReply base p from revisions to answer q
+  anew-replied from revisions to (Ok end) is = (is.1, heard_all from revisions to to is.0 is.2, ap (λ x. x.floor) two.is ∙ ap (λ v. v.floor) is.2)
+  anew-replied from revisions to (Err (hear_no.Passed at)) is = follow-replied from revisions to to (Err (hear_no.Passed at)) is
+  anew-replied from revisions to (Err hear_no.Memory) is = tt

@@ -1,10 +1,12 @@
--- What a store keeps of its log: the rows of each resource at its compaction floor and at its end, and the revisions after the floor.
-use Rattle.std.specs.Prelude.{◌≡◌, ℕ, ◌+◌, ◌^◌, ◌≤◌, List, length, take, fold, Option}
+-- What a store keeps of its log: the rows of each resource at its compaction floor and at its end, and the revisions
+-- with changes after the floor.
+use Rattle.std.specs.Prelude.{◌≡◌, ℕ, ◌+◌, ◌-◌, ◌^◌, ◌≤◌, Bool, true, false, List, [], ◌∷◌, length, take, drop, map, filter, fold, Option}
 use Rattle.std.specs.VecDeque.{deque_len, deque_capacity}
 use Rattle.kube_meta.specs.Rows.{RowData, AreRising, row_with}
 use Rattle.kube_meta.specs.declared.resources.Resource.{Resource}
 use Rattle.kube_meta.specs.declared.resources.Resource.TheVariants.{Pods, ConfigMaps, Deployments}
-use Rattle.rev_log.specs.Changes.{RevisionData}
+use Rattle.rev_front.specs.Passes.{last_or}
+use Rattle.rev_log.specs.Changes.{ChangeData, RevisionData}
 use Rattle.rev_log.specs.Logs.{Log, end_of, between, AreNumbered}
 use Rattle.rev_log.specs.States.{row_after, row_next, row_at}
 use Rattle.up_store.specs.declared.kept.Kept.{Kept}
@@ -50,6 +52,23 @@ pub record Replay (log : Log) (from least : ℕ) (tables : Tables) : Type 0 wher
   pub replays : (resource : Resource) (key : List ℕ) (at : ℕ) → least ≤ at → at ≤ end_of log →
       fold (row_next resource key) (row_with (rows_of tables resource) key) (between log from at) ≡ row_at log resource at key
 
+-- there are any changes
+abbrev pub are_any : List ChangeData → Bool
+are_any [] = false
+are_any (change ∷ more) = true
+
+-- something changes at the revision
+abbrev pub has_changes : RevisionData → Bool
+has_changes revision = are_any revision.changes
+
+-- those of the revisions at which something changes
+abbrev pub with_changes : List RevisionData → List RevisionData
+with_changes revisions = filter has_changes revisions
+
+-- the revisions with changes above one number and up to another
+abbrev pub changed : Log → ℕ → ℕ → List RevisionData
+changed log from to = with_changes (between log from to)
+
 -- what is kept of a log with this floor
 pub record Keeps (log : Log) (floor : ℕ) (kept : Kept) : Type 0 where
   pub numbered : AreNumbered log.first log.revisions
@@ -57,17 +76,24 @@ pub record Keeps (log : Log) (floor : ℕ) (kept : Kept) : Type 0 where
   pub begun : log.first ≤ kept.from
   pub within : kept.from ≤ floor
   pub reached : floor ≤ end_of log
-  pub revisions : kept.revisions.items ≡ between log kept.from (end_of log)
+  pub end_is : kept.end ≡ end_of log
+  pub revisions : kept.revisions.items ≡ changed log kept.from (end_of log)
   pub floor_rows : Replay log kept.from floor kept.floor_rows
   pub followed : kept.from ≤ kept.last_at
   pub behind : kept.last_at ≤ end_of log
   pub last_rows : Replay log kept.last_at (end_of log) kept.last_rows
 
--- its numbers are in order, and none is above 2 ^ 62
-pub record AreBounded (kept : Kept) : Type 0 where
-  pub followed : kept.from ≤ kept.last_at
-  pub behind : kept.last_at ≤ kept.from + length kept.revisions.items
-  pub bounded : kept.from + length kept.revisions.items ≤ 2 ^ 62
+-- the place among what is kept behind the revisions up to a number, and before those above it
+pub record IsPlace (log : Log) (kept : Kept) (at n : ℕ) : Type 0 where
+  pub below : take n kept.revisions.items ≡ changed log kept.from at
+  pub above : drop n kept.revisions.items ≡ changed log at (end_of log)
+
+-- of the revisions with changes the last one that has this many others behind it, or 0 where there is none: no more
+-- than this many are above it
+abbrev pub floor_behind : ℕ → List RevisionData → ℕ
+floor_behind history revisions =
+    let those : List RevisionData = with_changes revisions in
+    last_or 0 (map (λ r. r.rev) (take (length those - history) those))
 
 -- there is room for this many more revisions
 abbrev pub HasRoom : ℕ → Kept → Type 0

@@ -1,8 +1,9 @@
 //! Commits, and the floor that follows them.
 
-ghost use Rattle.std.specs.Prelude.{◌≡◌, ℕ, ◌+◌, ◌^◌, ◌<◌, ◌≤◌, [], ◌∷◌, ◌++◌, length, OnOk};
-ghost use Rattle.rev_front.specs.Passes.{FitFrom, revision as reached};
-ghost use Rattle.rev_log.specs.Logs.{Fits};
+ghost use Rattle.std.specs.Prelude.{◌≡◌, ℕ, ◌+◌, ◌-◌, ◌^◌, ◌<◌, ◌≤◌, [], ◌∷◌, ◌++◌, length, OnOk};
+ghost use Rattle.rev_front.specs.Passes.{quiets, revision as reached};
+ghost use Rattle.rev_log.specs.Logs.{Fits, quiet_at};
+ghost use Rattle.up_store.specs.Hearing.{AreAscending, filled};
 ghost use Rattle.up_store.specs.Kept.{Keeps, HasRoom};
 ghost use Rattle.up_store.specs.Stores.{accepted, log_in, IsCutAnswer, IsCompactionAnswer};
 
@@ -100,38 +101,40 @@ pub fn commit<N: LogFacts>(
     raise(pen, kept, floor)
 }
 
-/// Adds revisions, for which there is room, to the log, and raises the floor to its new end, which is answered.
-pub fn commit_all<N: LogFacts>(
+/// Adds revisions, for which there is room, to the log, and passes over all others up to a number, at which nothing
+/// changes. The floor stays.
+pub fn put_all<N: LogFacts>(
     pen: &mut Pen<Revision, N>,
     kept: &mut Kept,
     revisions: Vec<SharedRevision>,
-) -> u64
-    requires last { reached pen.old + length revisions.items ≤ 2 ^ 62 }
-    requires fits { FitFrom Fits (reached pen.old) revisions.items }
+    to: u64,
+)
+    requires last { to ≤ 2 ^ 62 }
+    requires rising { AreAscending (reached pen.old) revisions.items to }
     requires room { HasRoom (length revisions.items) kept.old }
     requires keeps { Keeps (log_in N.base pen.old) pen.old.floor kept.old }
-    ensures answer { result ≡ reached pen.old + length revisions.items }
-    ensures log { pen.new ≡ record pen.old { log = pen.old.log ++ revisions.items; floor = result } }
-    ensures keeps { Keeps (log_in N.base pen.new) pen.new.floor kept.new }
-{
-    put_all(pen, kept, revisions);
-    let end = pen.revision();
-    let _ = raise(pen, kept, end);
-    end
-}
-
-// Adds revisions, for which there is room, to the log. The floor stays.
-fn put_all<N: LogFacts>(pen: &mut Pen<Revision, N>, kept: &mut Kept, revisions: Vec<SharedRevision>)
-    requires last { reached pen.old + length revisions.items ≤ 2 ^ 62 }
-    requires fits { FitFrom Fits (reached pen.old) revisions.items }
-    requires room { HasRoom (length revisions.items) kept.old }
-    requires keeps { Keeps (log_in N.base pen.old) pen.old.floor kept.old }
-    ensures log { pen.new ≡ record pen.old { log = pen.old.log ++ revisions.items } }
+    ensures log { pen.new ≡ record pen.old { log = pen.old.log ++ filled (reached pen.old) revisions.items to } }
     ensures keeps { Keeps (log_in N.base pen.new) pen.new.floor kept.new }
 {
     for revision in revisions {
+        let before = revision.get().rev - 1;
+        pass_over(pen, kept, before);
         put(pen, kept, revision);
     }
+    pass_over(pen, kept, to);
+}
+
+// Passes over revisions, up to this one, at which nothing changes. The floor stays.
+fn pass_over<N: LogFacts>(pen: &mut Pen<Revision, N>, kept: &mut Kept, upto: u64)
+    requires onward { reached pen.old ≤ upto }
+    requires last { upto ≤ 2 ^ 62 }
+    requires keeps { Keeps (log_in N.base pen.old) pen.old.floor kept.old }
+    ensures log { pen.new ≡ record pen.old { log = pen.old.log ++ quiets quiet_at (reached pen.old) (upto - reached pen.old) } }
+    ensures room { (count : ℕ) → HasRoom count kept.old → HasRoom count kept.new }
+    ensures keeps { Keeps (log_in N.base pen.new) pen.new.floor kept.new }
+{
+    pen.pass_over(upto);
+    kept.end = upto;
 }
 
 // Adds a revision, for which there is room, to the log, and answers its number. The floor stays.

@@ -1,13 +1,12 @@
 //! Doors to one store, for many threads.
 
-ghost use Rattle.std.specs.Prelude.{◌≡◌, ◌+◌, ◌≤◌, ◌^◌, length, All, IfErr, IfOk, true};
+ghost use Rattle.std.specs.Prelude.{◌≡◌, ◌≤◌, ◌^◌, All, IfErr, IfOk, true};
 ghost use Rattle.kube_meta.specs.declared.resources.Resource.TheVariants.{Pods};
-ghost use Rattle.rev_front.specs.Passes.{FitFrom, Whole, pass_from};
+ghost use Rattle.rev_front.specs.Passes.{Whole, pass_from};
 ghost use Rattle.rev_log.specs.Changes.{RevisionData};
-ghost use Rattle.rev_log.specs.Logs.{Fits};
 ghost use Rattle.rev_log.specs.States.{IsStateAt};
 ghost use Rattle.up_api.specs.Sections.{log_of, Learns, HasSeenAll, RefusesAt, Sections};
-ghost use Rattle.up_store.specs.Hearing.{IsHearReply, IsHearAllReply};
+ghost use Rattle.up_store.specs.Hearing.{AreAscending, IsHearReply, IsFollowReply, IsAnewReply};
 ghost use Rattle.up_store.specs.Replies.{IsWriteReply, IsTransactionReply, IsCutReply, IsCompactionReply};
 ghost use Rattle.up_store.specs.Transacting.{answers_in};
 
@@ -85,23 +84,47 @@ impl<N: LogFacts, R: Wait + Copy> StoreDoor<N, R> {
         self.store.lock(&self.rt).hear_next(revision, told)
     }
 
-    /// Adds the revisions of the peer's log that follow `from`, if that is the mirror's end, and raises the floor to
-    /// the last of them, all in one section: no other section sees a part of that. Answers the log's end.
-    pub fn hear_all(
+    /// Adds the revisions of the peer's log that follow `from`, if that is the mirror's end, up to `to`: these, and all
+    /// others between them and behind them, at which nothing changes. It adds all of them or none, in one section.
+    /// Answers the log's end.
+    pub fn follow(
         &self,
         from: u64,
         revisions: Vec<Revision>,
+        to: u64,
         told: &mut Pass<N>,
     ) -> Result<u64, HearNo>
         requires mirror { N.mirror ≡ true }
-        requires fits { FitFrom Fits from revisions.items }
-        requires last { from + length revisions.items ≤ 2 ^ 62 }
+        requires rising { AreAscending from revisions.items to }
+        requires last { to ≤ 2 ^ 62 }
         requires pods { All (λ revision. All (λ change. change.resource ≡ Pods) revision.changes) revisions.items }
         ensures learns { Learns told.old told.new }
         ensures section { HasSeenAll told.new }
-        ensures reply { IsHearAllReply N.base told.old from revisions.items result told.new }
+        ensures reply { IsFollowReply N.base told.old from revisions.items to result told.new }
     {
-        self.store.lock(&self.rt).hear_all(from, revisions, told)
+        self.store.lock(&self.rt).follow(from, revisions, to, told)
+    }
+
+    /// Adds the revisions of the peer's log that follow `from`, as `follow` does, and raises the floor to the last of
+    /// them, all in one section: no other section sees a part of that, and none is served what is below.
+    pub fn begin_anew(
+        &self,
+        from: u64,
+        revisions: Vec<Revision>,
+        to: u64,
+        told: &mut Pass<N>,
+    ) -> Result<u64, HearNo>
+        requires mirror { N.mirror ≡ true }
+        requires rising { AreAscending from revisions.items to }
+        requires last { to ≤ 2 ^ 62 }
+        requires pods { All (λ revision. All (λ change. change.resource ≡ Pods) revision.changes) revisions.items }
+        ensures learns { Learns told.old told.new }
+        ensures section { HasSeenAll told.new }
+        ensures reply { IsAnewReply N.base told.old from revisions.items to result told.new }
+    {
+        self.store
+            .lock(&self.rt)
+            .begin_anew(from, revisions, to, told)
     }
 
     /// Cuts all feeds: their next polls are refused. Answers the new generation of feeds.

@@ -1,17 +1,17 @@
 //! The store of a mirror: its log begins with pods, and its revisions come from a peer.
 
-ghost use Rattle.std.specs.Prelude.{◌≡◌, ◌+◌, ◌^◌, ◌<◌, ◌≤◌, length, All, IfOk, true};
+ghost use Rattle.std.specs.Prelude.{◌≡◌, ◌+◌, ◌^◌, ◌<◌, ◌≤◌, All, IfOk, true};
 ghost use Rattle.kube_meta.specs.Rows.{AreRising};
 ghost use Rattle.kube_meta.specs.declared.resources.Resource.TheVariants.{Pods};
-ghost use Rattle.rev_front.specs.Passes.{Covers, FitFrom, empty_log, revision as reached};
+ghost use Rattle.rev_front.specs.Passes.{Covers, empty_log, revision as reached};
 ghost use Rattle.rev_log.specs.Logs.{Fits};
 ghost use Rattle.up_api.specs.Sections.{Learns};
-ghost use Rattle.up_store.specs.Hearing.{IsHeard, IsHearAnswer, IsHearReply, IsHearAllAnswer, IsHearAllReply};
+ghost use Rattle.up_store.specs.Hearing.{AreAscending, IsHeard, IsHearAnswer, IsHearReply, IsAddAnswer, IsFollowAnswer, IsFollowReply, IsAnewAnswer, IsAnewReply, extended, filled};
 ghost use Rattle.up_store.specs.Kept.{Keeps};
 ghost use Rattle.up_store.specs.Stores.{KnowsAll, log_in};
 
 use crate::Store;
-use crate::committing::{commit, commit_all};
+use crate::committing::{commit, put_all, raise};
 use crate::kept::Kept;
 use crate::revisions::{SharedRevision, shared};
 use crate::store::meet;
@@ -108,28 +108,71 @@ impl<N: LogFacts> Store<N> {
         }
     }
 
-    /// Adds the revisions of the peer's log that follow `from`, if that is the log's end, and raises the floor to the
-    /// last of them: from then on states and feeds below it are refused. It adds all of them or none. Answers the
-    /// log's end.
-    pub fn hear_all(
+    /// Adds the revisions of the peer's log that follow `from`, if that is the log's end, up to `to`: these, and all
+    /// others between them and behind them, at which nothing changes, in one step for each run. It adds all of them or
+    /// none. The floor follows: no more than `history` revisions with changes are above it, and those at which nothing
+    /// changes don't count. Answers the log's end.
+    pub fn follow(
         &mut self,
         from: u64,
         revisions: Vec<Revision>,
+        to: u64,
         told: &mut Pass<N>,
     ) -> Result<u64, HearNo>
         requires mirror { N.mirror ≡ true }
-        requires fits { FitFrom Fits from revisions.items }
-        requires last { from + length revisions.items ≤ 2 ^ 62 }
+        requires rising { AreAscending from revisions.items to }
+        requires last { to ≤ 2 ^ 62 }
         requires pods { All (λ revision. All (λ change. change.resource ≡ Pods) revision.changes) revisions.items }
         ensures covered { Covers self.old.whole told.old }
         ensures learns { Learns told.old told.new }
         ensures tells { KnowsAll self.new.whole told.new }
-        ensures answer { IsHearAllAnswer from revisions.items self.old.whole self.new.whole result }
-        ensures reply { IsHearAllReply N.base told.old from revisions.items result told.new }
+        ensures answer { IsFollowAnswer self.old.history from revisions.items to self.old.whole self.new.whole result }
+        ensures reply { IsFollowReply N.base told.old from revisions.items to result told.new }
         ensures rest { self.new ≡ record self.old { whole = self.new.whole } }
     {
         meet(&mut self.pen, told);
-        let answer = append_all(self.alloc, &mut self.pen, &mut self.kept, from, revisions);
+        let answer = append_following(
+            self.alloc,
+            &mut self.pen,
+            &mut self.kept,
+            self.history,
+            from,
+            revisions,
+            to,
+        );
+        meet(&mut self.pen, told);
+        answer
+    }
+
+    /// Adds the revisions of the peer's log that follow `from`, as `follow` does, and raises the floor to the last of
+    /// them: from then on states and feeds below it are refused.
+    pub fn begin_anew(
+        &mut self,
+        from: u64,
+        revisions: Vec<Revision>,
+        to: u64,
+        told: &mut Pass<N>,
+    ) -> Result<u64, HearNo>
+        requires mirror { N.mirror ≡ true }
+        requires rising { AreAscending from revisions.items to }
+        requires last { to ≤ 2 ^ 62 }
+        requires pods { All (λ revision. All (λ change. change.resource ≡ Pods) revision.changes) revisions.items }
+        ensures covered { Covers self.old.whole told.old }
+        ensures learns { Learns told.old told.new }
+        ensures tells { KnowsAll self.new.whole told.new }
+        ensures answer { IsAnewAnswer from revisions.items to self.old.whole self.new.whole result }
+        ensures reply { IsAnewReply N.base told.old from revisions.items to result told.new }
+        ensures rest { self.new ≡ record self.old { whole = self.new.whole } }
+    {
+        meet(&mut self.pen, told);
+        let answer = append_anew(
+            self.alloc,
+            &mut self.pen,
+            &mut self.kept,
+            from,
+            revisions,
+            to,
+        );
         meet(&mut self.pen, told);
         answer
     }
@@ -158,18 +201,19 @@ fn append<N: LogFacts>(
     Ok(rev)
 }
 
-// Adds the revisions that follow the log's end, if there is memory to keep them all, and raises the floor to the last.
+// Adds the revisions that follow the log's end, if there is memory to keep them all. The floor stays.
 fn append_all<N: LogFacts>(
     alloc: Global,
     pen: &mut Pen<Revision, N>,
     kept: &mut Kept,
     from: u64,
     revisions: Vec<Revision>,
+    to: u64,
 ) -> Result<u64, HearNo>
-    requires last { from + length revisions.items ≤ 2 ^ 62 }
-    requires fits { FitFrom Fits from revisions.items }
+    requires rising { AreAscending from revisions.items to }
+    requires last { to ≤ 2 ^ 62 }
     requires keeps { Keeps (log_in N.base pen.old) pen.old.floor kept.old }
-    ensures answer { IsHearAllAnswer from revisions.items pen.old pen.new result }
+    ensures answer { IsAddAnswer from to pen.old (extended pen.old (filled from revisions.items to) pen.old.floor) pen.new result }
     ensures keeps { Keeps (log_in N.base pen.new) pen.new.floor kept.new }
     ensures generation { pen.new.gen ≡ pen.old.gen }
 {
@@ -179,5 +223,50 @@ fn append_all<N: LogFacts>(
     }
     let entries = shared(alloc, revisions)?;
     kept.reserve(entries.len())?;
-    Ok(commit_all(pen, kept, entries))
+    put_all(pen, kept, entries, to);
+    Ok(to)
+}
+
+// The same, and the floor follows.
+fn append_following<N: LogFacts>(
+    alloc: Global,
+    pen: &mut Pen<Revision, N>,
+    kept: &mut Kept,
+    history: u64,
+    from: u64,
+    revisions: Vec<Revision>,
+    to: u64,
+) -> Result<u64, HearNo>
+    requires rising { AreAscending from revisions.items to }
+    requires last { to ≤ 2 ^ 62 }
+    requires keeps { Keeps (log_in N.base pen.old) pen.old.floor kept.old }
+    ensures answer { IsFollowAnswer history from revisions.items to pen.old pen.new result }
+    ensures keeps { Keeps (log_in N.base pen.new) pen.new.floor kept.new }
+    ensures generation { pen.new.gen ≡ pen.old.gen }
+{
+    let end = append_all(alloc, pen, kept, from, revisions, to)?;
+    let floor = pen.floor().max(kept.floor_behind(history));
+    let _ = raise(pen, kept, floor);
+    Ok(end)
+}
+
+// The same, and the floor is raised to the end.
+fn append_anew<N: LogFacts>(
+    alloc: Global,
+    pen: &mut Pen<Revision, N>,
+    kept: &mut Kept,
+    from: u64,
+    revisions: Vec<Revision>,
+    to: u64,
+) -> Result<u64, HearNo>
+    requires rising { AreAscending from revisions.items to }
+    requires last { to ≤ 2 ^ 62 }
+    requires keeps { Keeps (log_in N.base pen.old) pen.old.floor kept.old }
+    ensures answer { IsAnewAnswer from revisions.items to pen.old pen.new result }
+    ensures keeps { Keeps (log_in N.base pen.new) pen.new.floor kept.new }
+    ensures generation { pen.new.gen ≡ pen.old.gen }
+{
+    let end = append_all(alloc, pen, kept, from, revisions, to)?;
+    let _ = raise(pen, kept, end);
+    Ok(end)
 }

@@ -1,10 +1,11 @@
 //! What a store keeps of its log.
 
-ghost use Rattle.std.specs.Prelude.{◌≡◌, ℕ, ◌+◌, ◌^◌, ◌≤◌, ◌<◌, [], ◌∷◌, ◌++◌, IfOk, OnOk, OnErr, drop, length, option_copied, take};
+ghost use Rattle.std.specs.Prelude.{◌≡◌, ℕ, ◌+◌, ◌-◌, ◌≤◌, ◌∷◌, ◌++◌, [], max, IfOk, OnOk, drop, length, option_copied, take};
 ghost use Rattle.kube_meta.specs.Rows.{row_with};
 ghost use Rattle.rev_log.specs.Logs.{Log, end_of};
 ghost use Rattle.up_api.specs.Feeds.{IsPoll};
-ghost use Rattle.up_store.specs.Kept.{Keeps, AreBounded, HasRoom};
+ghost use Rattle.up_store.specs.Kept.{Keeps, HasRoom, IsPlace, with_changes};
+ghost use Rattle.up_store.specs.Kept as keeping;
 ghost use Rattle.up_store.specs.Past.{IsOldState, IsOldHistory};
 ghost use Rattle.up_store.specs.Writes.{row_before};
 
@@ -21,13 +22,15 @@ use std::collections::VecDeque;
 use up_api::Polled;
 
 /// What a store keeps of its log. Both tables follow the log, and may lag: what they lack is made upon them from the
-/// revisions.
+/// revisions. Those at which nothing changes are not kept: they cost nothing.
 #[derive(Drop)]
 pub struct Kept {
     /// The revision up to which `floor_rows` have followed the log.
     pub from: u64,
-    /// The revisions after `from`.
+    /// The revisions with changes after `from`.
     pub revisions: VecDeque<SharedRevision>,
+    /// The log's end.
+    pub end: u64,
     pub floor_rows: Tables,
     pub last_rows: Tables,
     /// The revision up to which `last_rows` have followed the log.
@@ -35,55 +38,73 @@ pub struct Kept {
 }
 
 impl Kept {
+    // The place behind the revisions up to a number, and before those above it.
+    fn place_of(&self, at: u64) -> usize
+        ensures within { result ≤ length self.now.revisions.items }
+        ensures place { (log : Log) (floor : ℕ) → Keeps log floor self.now → self.now.from ≤ at → at ≤ end_of log → IsPlace log self.now at result }
+    {
+        self.revisions
+            .partition_point(|revision| revision.get().rev <= at)
+    }
+
     /// Brings the last rows to the log's end.
     pub fn catch_up(&mut self) -> Result<(), Memory>
-        requires { AreBounded self.old }
         ensures keeps { (log : Log) (floor : ℕ) → Keeps log floor self.old → Keeps log floor self.new }
         ensures from { self.new.from ≡ self.old.from }
+        ensures end { self.new.end ≡ self.old.end }
         ensures revisions { self.new.revisions ≡ self.old.revisions }
-        ensures bounded { AreBounded self.new }
-        ensures done { OnOk result (self.new.last_at ≡ self.new.from + length self.new.revisions.items) }
+        ensures done { OnOk result (self.new.last_at ≡ self.new.end) }
     {
-        let start = (self.last_at - self.from) as usize;
+        let start = self.place_of(self.last_at);
         for i in start..self.revisions.len() {
             self.last_rows.apply(&self.revisions[i])?;
-            self.last_at += 1;
+            self.last_at = self.revisions[i].get().rev;
         }
+        self.last_at = self.end;
         Ok(())
     }
 
     /// Brings the last rows to the log's end and the floor's rows to this floor. Revisions that the floor's rows have
     /// are kept no longer.
     pub fn settle(&mut self, floor: u64) -> Result<(), Memory>
-        requires bounded { AreBounded self.old }
-        requires within { self.old.from ≤ floor }
-        requires reached { floor ≤ self.old.from + length self.old.revisions.items }
         ensures keeps { (log : Log) → Keeps log floor self.old → Keeps log floor self.new }
-        ensures bounded { AreBounded self.new }
         ensures done { OnOk result (self.new.from ≡ floor) }
     {
         self.catch_up()?;
-        for _ in self.from..floor {
+        let count = self.place_of(floor);
+        for _ in 0..count {
             self.drop_first()?;
         }
+        self.from = floor;
         Ok(())
     }
 
-    // Brings the floor's rows one revision further, which is then kept no longer.
+    // Brings the floor's rows to the first revision, which is then kept no longer.
     fn drop_first(&mut self) -> Result<(), Memory>
         requires some { 1 ≤ length self.old.revisions.items }
-        requires whole { self.old.last_at ≡ self.old.from + length self.old.revisions.items }
-        requires bounded { self.old.last_at ≤ 2 ^ 62 }
-        ensures keeps { (log : Log) (floor : ℕ) → self.old.from < floor → Keeps log floor self.old → Keeps log floor self.new }
+        ensures keeps { (log : Log) (floor n : ℕ) → self.old.last_at ≡ end_of log → 1 ≤ n → IsPlace log self.old floor n → Keeps log floor self.old → Keeps log floor self.new }
+        ensures place { OnOk result ((log : Log) (floor n : ℕ) → self.old.last_at ≡ end_of log → 1 ≤ n → IsPlace log self.old floor n → Keeps log floor self.old → IsPlace log self.new floor (n - 1)) }
         ensures last { self.new.last_at ≡ self.old.last_at }
-        ensures whole { self.new.last_at ≡ self.new.from + length self.new.revisions.items }
-        ensures next { OnOk result (self.new.from ≡ self.old.from + 1) }
-        ensures kept { OnErr result (self.new.from ≡ self.old.from) }
+        ensures end { self.new.end ≡ self.old.end }
+        ensures shorter { OnOk result (length self.new.revisions.items + 1 ≡ length self.old.revisions.items) }
     {
         self.floor_rows.apply(&self.revisions[0])?;
+        self.from = self.revisions[0].get().rev;
         let _ = self.revisions.pop_front();
-        self.from += 1;
         Ok(())
+    }
+
+    /// Of the revisions that are kept the last one that has this many others behind it, or 0 where there is none.
+    pub fn floor_behind(&self, history: u64) -> u64
+        ensures within { (log : Log) (floor : ℕ) → Keeps log floor self.now → result ≤ end_of log }
+        ensures behind { (log : Log) (floor : ℕ) → Keeps log floor self.now → max floor result ≡ max floor (keeping.floor_behind history log.revisions) }
+    {
+        let count = self.revisions.len() as u64;
+        if count <= history {
+            return 0;
+        }
+        let last = (count - history - 1) as usize;
+        self.revisions[last].get().rev
     }
 
     /// Makes room for this many more revisions.
@@ -96,19 +117,22 @@ impl Kept {
         Ok(())
     }
 
-    /// Adds the revision that the log got, for which there is room.
+    /// Adds the revision that the log got, for which there is room. It is kept if it has changes.
     pub fn push(&mut self, revision: SharedRevision)
         requires { HasRoom 1 self.old }
-        ensures same { self.new ≡ record self.old { revisions = self.new.revisions } }
-        ensures items { self.new.revisions.items ≡ self.old.revisions.items ++ revision ∷ [] }
+        ensures same { self.new ≡ record self.old { revisions = self.new.revisions; end = revision.rev } }
+        ensures items { self.new.revisions.items ≡ self.old.revisions.items ++ with_changes (revision ∷ []) }
         ensures room { (count : ℕ) → HasRoom (count + 1) self.old → HasRoom count self.new }
     {
-        self.revisions.push_back_reserved(revision);
+        self.end = revision.get().rev;
+        if !revision.get().changes.is_empty() {
+            self.revisions.push_back_reserved(revision);
+        }
     }
 
     /// The row of the write's object at the log's end, once the last rows have followed it.
     pub fn row_before(&self, ask: &WriteAsk) -> Option<&Row>
-        requires { self.now.last_at ≡ self.now.from + length self.now.revisions.items }
+        requires { self.now.last_at ≡ self.now.end }
         ensures { (log : Log) (floor : ℕ) → Keeps log floor self.now → option_copied result ≡ row_before log ask.now }
     {
         row_in(self.last_rows.of(resource_of(ask)), key_of(ask))
@@ -117,18 +141,16 @@ impl Kept {
     /// What the state of the resource at a revision from the floor to the log's end is made of. It costs a count, and
     /// between the two also one for each revision that is to be made.
     pub fn old_state(&self, alloc: Global, resource: Resource, at: u64) -> Result<OldState, Memory>
-        requires from { self.now.from ≤ at }
-        requires reached { at ≤ self.now.from + length self.now.revisions.items }
-        ensures { IfOk result (λ old. (log : Log) (floor : ℕ) → Keeps log floor self.now → floor ≤ at → IsOldState log resource at old) }
+        ensures { IfOk result (λ old. (log : Log) (floor : ℕ) → Keeps log floor self.now → floor ≤ at → at ≤ end_of log → IsOldState log resource at old) }
     {
-        let count = (at - self.from) as usize;
-        if count == self.revisions.len() && self.last_at == at {
+        if self.last_at == at && self.end == at {
             return Ok(OldState {
                 resource,
                 rows: self.last_rows.of(resource).copy()?,
                 revisions: Vec::new(alloc),
             });
         }
+        let count = self.place_of(at);
         self.state_after(alloc, resource, count)
     }
 
@@ -140,7 +162,7 @@ impl Kept {
         count: usize,
     ) -> Result<OldState, Memory>
         requires { count ≤ length self.now.revisions.items }
-        ensures { IfOk result (λ old. (log : Log) (floor : ℕ) → Keeps log floor self.now → floor ≤ self.now.from + count → IsOldState log resource (self.now.from + count) old) }
+        ensures { IfOk result (λ old. (log : Log) (floor at : ℕ) → Keeps log floor self.now → floor ≤ at → at ≤ end_of log → IsPlace log self.now at count → IsOldState log resource at old) }
     {
         let rows = self.floor_rows.of(resource).copy()?;
         let revisions = self.copied(alloc, 0, count)?;
@@ -160,14 +182,12 @@ impl Kept {
         from: u64,
         upto: u64,
     ) -> Result<OldHistory, Memory>
-        requires above { self.now.from ≤ from }
-        requires reached { from ≤ self.now.from + length self.now.revisions.items }
-        ensures history { IfOk result (λ old. (log : Log) (floor : ℕ) → Keeps log floor self.now → floor ≤ from → upto ≡ end_of log → IsOldHistory log from resource old) }
+        ensures history { IfOk result (λ old. (log : Log) (floor : ℕ) → Keeps log floor self.now → floor ≤ from → from ≤ upto → upto ≡ end_of log → IsOldHistory log from resource old) }
         ensures floor { IfOk result (λ old. old.floor ≡ from) }
         ensures upto { IfOk result (λ old. old.upto ≡ upto) }
     {
         let state = self.old_state(alloc, resource, from)?;
-        let start = (from - self.from) as usize;
+        let start = self.place_of(from);
         let revisions = self.copied(alloc, start, self.revisions.len())?;
         Ok(OldHistory {
             floor: from,
@@ -199,14 +219,11 @@ impl Kept {
         max: usize,
     ) -> Result<Polled, Memory>
         requires max { 1 ≤ max }
-        requires above { self.now.from ≤ from }
-        requires reached { from ≤ self.now.from + length self.now.revisions.items }
-        requires bounded { self.now.from + length self.now.revisions.items ≤ 2 ^ 62 }
-        ensures { IfOk result (λ polled. (log : Log) (floor : ℕ) → Keeps log floor self.now → IsPoll log resource from max polled) }
+        ensures { IfOk result (λ polled. (log : Log) (floor : ℕ) → Keeps log floor self.now → self.now.from ≤ from → from ≤ end_of log → IsPoll log resource from max polled) }
     {
         let mut revisions = Vec::new(alloc);
         let mut wanted = max;
-        let start = (from - self.from) as usize;
+        let start = self.place_of(from);
         for i in start..self.revisions.len() {
             let Some(found) = part(alloc, resource, self.revisions[i].get())? else {
                 continue;
@@ -223,10 +240,9 @@ impl Kept {
             }
             wanted -= count;
         }
-        let upto = self.from + self.revisions.len() as u64;
         Ok(Polled {
             from,
-            upto,
+            upto: self.end,
             revisions,
         })
     }

@@ -24,8 +24,8 @@ use up_api::{LogFacts, Pass};
 pub(crate) const LAST: u64 = 1 << 62;
 
 /// The store of an API server: one log of what was accepted. Contracts see the whole log; the code keeps the rows at
-/// the compaction floor and at the log's end, and the revisions after the floor. Each call that takes a pass is one
-/// section, after which the pass knows the whole log.
+/// the compaction floor and at the log's end, and the revisions with changes after the floor. Each call that takes a pass
+/// is one section, after which the pass knows the whole log.
 #[derive(Drop)]
 pub struct Store<N: LogFacts> {
     pub(crate) alloc: Global,
@@ -33,7 +33,8 @@ pub struct Store<N: LogFacts> {
     pub(crate) kept: Kept,
     // Whether the log is a mirror's, which takes its revisions from its peer alone.
     pub(crate) mirror: bool,
-    // How many revisions the floor is behind the log's end at most, once the log is longer than that.
+    // How many revisions the floor is behind the log's end at most, once the log is longer than that. Where the log
+    // follows a peer's, those at which nothing changes don't count.
     pub(crate) history: u64,
     pub(crate) reads: u64,
 }
@@ -82,6 +83,7 @@ impl<N: LogFacts> Store<N> {
         let kept = Kept {
             from: first,
             revisions: VecDeque::new(alloc),
+            end: first,
             floor_rows,
             last_rows,
             last_at: first,

@@ -4,7 +4,7 @@ ghost use Rattle.std.specs.Prelude.{◌≡◌, ℕ, ◌⊎◌, ◌+◌, ◌<◌,
 ghost use Rattle.rev_front.specs.Passes.{Covers};
 ghost use Rattle.rev_log.specs.Logs.{Log, end_of};
 ghost use Rattle.up_api.specs.Sections.{Learns};
-ghost use Rattle.up_store.specs.Kept.{Keeps, AreBounded, HasRoom};
+ghost use Rattle.up_store.specs.Kept.{Keeps, HasRoom};
 ghost use Rattle.up_store.specs.Replies.{IsTransactionReply};
 ghost use Rattle.up_store.specs.Stores.{KnowsAll, log_in};
 ghost use Rattle.up_store.specs.Transacting.{first_fault, tx_refusal_of, object_in, answers_in, AreWritten, IsTransactionAnswer, IsTxPrepared};
@@ -124,7 +124,6 @@ pub fn prepare_all(
 ) -> Result<(Vec<Written>, SharedRevision), TxWriteNo>
     requires transaction { AreTransaction asks.now }
     requires objects { IfOk shared (λ new. map object_in new.items ≡ map new_object asks.now) }
-    requires bounded { AreBounded kept.old }
     ensures keeps { (log : Log) (floor : ℕ) → Keeps log floor kept.old → Keeps log floor kept.new }
     ensures prepared { IfOk result (λ p. (log : Log) (floor : ℕ) → Keeps log floor kept.old → at ≡ end_of log → IsTxPrepared log asks.now p.0.items p.1) }
     ensures room { OnOk result (HasRoom 1 kept.new) }
@@ -148,7 +147,7 @@ pub fn prepare_all(
 
 // The first write that would be refused by itself. It takes no memory.
 fn refused_item(kept: &Kept, asks: &[WriteAsk], at: u64) -> Option<TxWriteNo>
-    requires { kept.now.last_at ≡ kept.now.from + length kept.now.revisions.items }
+    requires { kept.now.last_at ≡ kept.now.end }
     ensures { (log : Log) (floor : ℕ) → Keeps log floor kept.now → at ≡ end_of log → result ≡ first_fault log 0 asks.now }
 {
     for (index, ask) in asks.iter().enumerate() {
@@ -170,7 +169,7 @@ fn answers(
     shared: &[Option<Arc<Obj>>],
     at: u64,
 ) -> Result<Vec<Written>, Memory>
-    requires whole { kept.now.last_at ≡ kept.now.from + length kept.now.revisions.items }
+    requires whole { kept.now.last_at ≡ kept.now.end }
     requires objects { map object_in shared.now ≡ map new_object asks.now }
     requires below { at < 2 ^ 62 }
     ensures { IfOk result (λ answers. (log : Log) (floor : ℕ) → Keeps log floor kept.now → at ≡ end_of log → AreWritten log asks.now answers.items) }
@@ -189,7 +188,7 @@ fn answer(
     shared: &Option<Arc<Obj>>,
     at: u64,
 ) -> Result<Written, Memory>
-    requires whole { kept.now.last_at ≡ kept.now.from + length kept.now.revisions.items }
+    requires whole { kept.now.last_at ≡ kept.now.end }
     requires object { object_in shared.now ≡ new_object ask.now }
     requires below { at < 2 ^ 62 }
     ensures { IfOk result (λ written. (log : Log) (floor : ℕ) → Keeps log floor kept.now → at ≡ end_of log → IsWritten log ask.now written) }

@@ -4,7 +4,7 @@ ghost use Rattle.std.specs.Prelude.{◌≡◌, ℕ, ◌⊎◌, ◌+◌, ◌<◌,
 ghost use Rattle.rev_front.specs.Passes.{Covers};
 ghost use Rattle.rev_log.specs.Logs.{Log, end_of};
 ghost use Rattle.up_api.specs.Sections.{Learns};
-ghost use Rattle.up_store.specs.Kept.{Keeps, AreBounded, HasRoom};
+ghost use Rattle.up_store.specs.Kept.{Keeps, HasRoom};
 ghost use Rattle.up_store.specs.Replies.{IsWriteReply};
 ghost use Rattle.up_store.specs.Stores.{KnowsAll, log_in};
 ghost use Rattle.up_store.specs.Writes.{fault_at, stale_at, change_of, new_object, written_object, refusal_of, IsPrepared, IsWriteAnswer};
@@ -114,7 +114,6 @@ pub fn prepare(
     at: u64,
 ) -> Result<(Written, SharedRevision), WriteNo>
     requires object { IfOk shared (λ new. option_map (λ obj. obj.value) new ≡ new_object ask.now) }
-    requires bounded { AreBounded kept.old }
     ensures keeps { (log : Log) (floor : ℕ) → Keeps log floor kept.old → Keeps log floor kept.new }
     ensures prepared { IfOk result (λ p. (log : Log) (floor : ℕ) → Keeps log floor kept.old → at ≡ end_of log → IsPrepared log ask.now p.0 p.1) }
     ensures room { OnOk result (HasRoom 1 kept.new) }
