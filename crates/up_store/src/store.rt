@@ -24,8 +24,8 @@ use up_api::{LogFacts, Pass};
 pub(crate) const LAST: u64 = 1 << 62;
 
 /// The store of an API server: one log of what was accepted. Contracts see the whole log; the code keeps the rows at
-/// the compaction floor and at the log's end, and the revisions with changes after the floor. Each call that takes a pass
-/// is one section, after which the pass knows the whole log.
+/// the compaction floor and at the log's end, and the revisions with changes after the floor. Each call that takes a
+/// pass is one section, after which the pass knows the whole log.
 #[derive(Drop)]
 pub struct Store<N: LogFacts> {
     pub(crate) alloc: Global,
