@@ -13,7 +13,7 @@ ghost use Rattle.client_api.specs.Metered.{AreMetricsAnswered};
 ghost use Rattle.cached_client.specs.Caches.{KnowsOwn, LoadsBetween, ReadsFor};
 ghost use Rattle.cached_client.specs.Serving.{IsReached, IsRefused, IsServed, IsShown, IsUnreached, IsUnserved, needs_load};
 
-use crate::caches::Caches;
+use crate::caches::{Caches, Measures, Reads};
 use crate::reads::Found;
 use cache_answers::{found, listed};
 use client_api::{Got, ListNo, Listed, too_large};
@@ -22,11 +22,12 @@ use list_rules::{GetAsk, ListAsk};
 use metrics::Metrics;
 use obj_tree::Snapshot;
 use select_all::Meaning;
+use std::alloc::Global;
 use up_api::{LogFacts, Pass};
 
 /// One object, as it stands at a revision of the ask's meaning.
 #[tactic(auto, using(crate::proofs::CallLemmas::unexact, crate::proofs::CallLemmas::unexact_ok))]
-pub fn get<N: LogFacts, C: Caches<N>>(
+pub fn get<N: LogFacts, C: Reads<N>>(
     caches: &mut C,
     told: &mut Pass<N>,
     ask: &GetAsk,
@@ -44,7 +45,8 @@ pub fn get<N: LogFacts, C: Caches<N>>(
 }
 
 /// The objects of a selection, as they stand at a revision of the ask's meaning, or a page of them.
-pub fn list<N: LogFacts, C: Caches<N>>(
+pub fn list<N: LogFacts, C: Reads<N>>(
+    alloc: Global,
     caches: &mut C,
     told: &mut Pass<N>,
     ask: &ListAsk,
@@ -59,13 +61,13 @@ pub fn list<N: LogFacts, C: Caches<N>>(
     ensures within { C.alone → IfOk result (λ listed. UnlessExact ask.now.meaning (listed.rev ≡ (C.cached caches.new).ends ask.now.selection.resource)) }
 {
     let (at, state) = read(caches, ask.selection.resource, told, ask.meaning)?;
-    Ok(listed(caches.alloc(), ask, at, state)?)
+    Ok(listed(alloc, ask, at, state)?)
 }
 
 // The objects of a resource at a revision that will do for the meaning. What has to be loaded is loaded before any
 // cache is asked.
 #[tactic(auto, using(crate::proofs::CallLemmas::loads_on, crate::proofs::CallLemmas::knew, crate::proofs::CallLemmas::reads_since))]
-fn read<N: LogFacts, C: Caches<N>>(
+fn read<N: LogFacts, C: Reads<N>>(
     caches: &mut C,
     resource: Resource,
     told: &mut Pass<N>,
@@ -143,7 +145,7 @@ pub(crate) fn load<N: LogFacts, C: Caches<N>>(caches: &mut C, told: &mut Pass<N>
 }
 
 // The objects of a resource at a revision that will do for the meaning, which was reached.
-fn serve<N: LogFacts, C: Caches<N>>(
+fn serve<N: LogFacts, C: Reads<N>>(
     caches: &mut C,
     resource: Resource,
     told: &mut Pass<N>,
@@ -165,7 +167,7 @@ fn serve<N: LogFacts, C: Caches<N>>(
 
 /// What a monitor is told: the metrics of the caches, and then those of the log. So no cache is ahead of the revision
 /// that is told.
-pub fn measure<N: LogFacts, C: Caches<N>>(
+pub fn measure<N: LogFacts, C: Measures<N>>(
     caches: &mut C,
     told: &mut Pass<N>,
 ) -> Result<Metrics, Memory>

@@ -19,6 +19,7 @@ ghost use Rattle.cached_client.specs.Knowing.{KnowsAllOf};
 ghost use Rattle.cached_client.specs.Serving.{IsFound, IsServed, IsShown, IsUnserved, found_at};
 ghost use Rattle.cached_client.specs.Watching.{HasMore, IsLeftBehind, IsLostAt, IsTold};
 
+use crate::lanes::WatchLane;
 use crate::reads::Found;
 use crate::resources::OfResource;
 use crate::windows::{NamedWindow, Window};
@@ -353,17 +354,17 @@ impl<N: LogFacts, One: OfResource, W: Window> CacheState<N, One, W> {
         up: &mut U,
         told: &mut Pass<N>,
         selection: &Selection,
-        bell: Option<Arc<Bell>>,
-    ) -> Result<(u64, Snapshot, (u64, LaneOut<N>)), ListNo>
+        bell: &Option<Arc<Bell>>,
+    ) -> Result<(u64, Snapshot, WatchLane<N>), ListNo>
         requires resource { selection.now.resource ≡ One.resource }
         ensures learns { Learns told.old told.new }
         ensures served { IfOk result (λ r. IsServed N.base One.resource Any told.old.shown told.new r.0 r.1) }
         ensures refused { IfErr result (λ no. no ≡ ListNo.Memory) }
     {
+        let bell = shared(bell)?;
         let (at, state) = self.state_at_end(up, told)?;
         let lane = self.lane(selection, at)?;
-        self.ring_by(lane.0, bell);
-        Ok((at, state, lane))
+        Ok((at, state, self.rung(lane, bell)))
     }
 
     /// A lane at a position, once the cache was brought to all that the caller was shown. Its watcher is rung by this
@@ -374,17 +375,17 @@ impl<N: LogFacts, One: OfResource, W: Window> CacheState<N, One, W> {
         told: &mut Pass<N>,
         selection: &Selection,
         at: u64,
-        bell: Option<Arc<Bell>>,
-    ) -> Result<(u64, LaneOut<N>), CatchNo>
+        bell: &Option<Arc<Bell>>,
+    ) -> Result<WatchLane<N>, CatchNo>
         requires resource { selection.now.resource ≡ One.resource }
         ensures learns { Learns told.old told.new }
         ensures lost { IfErr result (IsLostAt N.base (unwrap_or W.window self.new.hub.cache.ring.window) selection.now at told.new) }
     {
+        let bell = shared(bell)?;
         let shown = told.shown();
         self.pump(up, told, shown)?;
         let lane = self.open(told, selection, at)?;
-        self.ring_by(lane.0, bell);
-        Ok(lane)
+        Ok(self.rung(lane, bell))
     }
 
     /// Refuses a position where what came after it may not all be kept, once the cache was brought to all that the
@@ -586,12 +587,18 @@ impl<N: LogFacts, One: OfResource, W: Window> CacheState<N, One, W> {
         }
     }
 
-    // Rings the watcher of a lane that was just opened by this bell. Between the two the cache stays locked, so that
-    // nothing comes to the lane before it has its bell.
-    fn ring_by(&mut self, id: u64, bell: Option<Arc<Bell>>)
+    // The lane of a watch, which was just opened, and whose watcher is rung by this bell. Between the two the cache stays
+    // locked, so that nothing comes to the lane before it has its bell.
+    fn rung(&mut self, lane: (u64, LaneOut<N>), bell: Option<Arc<Bell>>) -> WatchLane<N>
         ensures { self.new ≡ self.old }
     {
+        let (id, out) = lane;
         self.hub.ring_by(id, bell);
+        WatchLane {
+            resource: One::resource(),
+            id,
+            out,
+        }
     }
 
     // A lane at a position.
@@ -613,5 +620,13 @@ fn cuts_in(pumped: &Result<Pumped, Memory>) -> u64 {
     match pumped {
         Ok(pumped) => pumped.cuts,
         Err(Memory) => 0,
+    }
+}
+
+// The same bell once more.
+fn shared(bell: &Option<Arc<Bell>>) -> Result<Option<Arc<Bell>>, Memory> {
+    match bell {
+        Some(bell) => Ok(Some(Arc::try_clone(bell)?)),
+        None => Ok(None),
     }
 }

@@ -19,15 +19,12 @@ use kube_meta::{Memory, Resource};
 use metrics::CacheMetrics;
 use obj_tree::Snapshot;
 use select_all::{Meaning, Selection};
-use std::alloc::Global;
 use up_api::{LogFacts, Pass};
 
 /// A cache of each resource of one log, and the store behind them, as one client has them: alone, or shared with
-/// others. Each call is one section of a cache or of the store; no call makes a load of the revision.
+/// others. What a client asks of them stands in smaller traits above this one, so that a call is proved over what it
+/// asks alone. Each call is one section of a cache or of the store; no call makes a load of the revision.
 pub trait Caches<N: LogFacts> {
-    /// What the caches have of one watch, until it is closed.
-    type Lane;
-
     // nobody else holds the log
     ghost alone: { Type 0 };
 
@@ -36,9 +33,6 @@ pub trait Caches<N: LogFacts> {
 
     // how often the store was read and how far the caches are, where nobody else holds them
     ghost cached: { Self → CachesState };
-
-    /// The allocator of what is answered.
-    fn alloc(&self) -> Global;
 
     /// Tells the pass all of the log, where nobody else holds it.
     fn meet(&mut self, told: &mut Pass<N>)
@@ -52,7 +46,10 @@ pub trait Caches<N: LogFacts> {
         ensures same { self.new ≡ self.old }
         ensures told { told.new ≡ told.old }
         ensures knows { KnowsOwn (facts self.new) told.new };
+}
 
+/// What reads ask of caches.
+pub trait Reads<N: LogFacts>: Caches<N> {
     /// The objects of a resource at a revision that will do for the meaning, or where they are found.
     fn find(
         &mut self,
@@ -61,20 +58,26 @@ pub trait Caches<N: LogFacts> {
         meaning: Meaning,
     ) -> Result<Found, ListNo>
         requires shown { IsShown meaning told.old.shown }
-        ensures facts { facts self.new ≡ facts self.old }
+        ensures facts { Self.facts self.new ≡ Self.facts self.old }
         ensures learns { Learns told.old told.new }
         ensures found { IfOk result (IsFound N.base resource meaning told.old.shown told.new) }
         ensures refused { IfErr result (IsUnserved meaning told.new) }
-        ensures reads { ReadsFor resource told.old told.new (cached self.old) (cached self.new) }
-        ensures within { alone → IfOk result (λ found. UnlessExact meaning (found_at found ≡ (cached self.new).ends resource)) };
+        ensures reads { ReadsFor resource told.old told.new (Self.cached self.old) (Self.cached self.new) }
+        ensures within { Self.alone → IfOk result (λ found. UnlessExact meaning (found_at found ≡ (Self.cached self.new).ends resource)) };
 
     /// The objects of a resource at a revision that was shown, from the store.
     fn older(&mut self, resource: Resource, told: &mut Pass<N>, at: u64) -> Result<Snapshot, ListNo>
         requires shown { at ≤ told.old.shown }
-        ensures facts { facts self.new ≡ facts self.old }
+        ensures facts { Self.facts self.new ≡ Self.facts self.old }
         ensures learns { Learns told.old told.new }
         ensures served { IfOk result (IsServed N.base resource (Exact at) 0 told.new at) }
         ensures refused { IfErr result (IsUnserved (Exact at) told.new) };
+}
+
+/// What watches ask of caches.
+pub trait Watches<N: LogFacts>: Caches<N> {
+    /// What the caches have of one watch, until it is closed.
+    type Lane;
 
     /// The objects of the selection's resource at the end of its cache, and what the caches have of a watch from
     /// there.
@@ -83,12 +86,12 @@ pub trait Caches<N: LogFacts> {
         told: &mut Pass<N>,
         selection: &Selection,
     ) -> Result<(u64, Snapshot, Self::Lane), ListNo>
-        ensures facts { facts self.new ≡ facts self.old }
+        ensures facts { Self.facts self.new ≡ Self.facts self.old }
         ensures learns { Learns told.old told.new }
         ensures served { IfOk result (λ r. IsServed N.base selection.now.resource Any told.old.shown told.new r.0 r.1) }
         ensures refused { IfErr result (λ no. no ≡ ListNo.Memory) }
-        ensures reads { ReadsFor selection.now.resource told.old told.new (cached self.old) (cached self.new) }
-        ensures within { alone → IfOk result (λ r. r.0 ≡ (cached self.new).ends selection.now.resource) };
+        ensures reads { ReadsFor selection.now.resource told.old told.new (Self.cached self.old) (Self.cached self.new) }
+        ensures within { Self.alone → IfOk result (λ r. r.0 ≡ (Self.cached self.new).ends selection.now.resource) };
 
     /// What the caches have of a watch that stands at a position. It is refused where what came after that may not all
     /// be kept.
@@ -98,10 +101,10 @@ pub trait Caches<N: LogFacts> {
         selection: &Selection,
         at: u64,
     ) -> Result<Self::Lane, CatchNo>
-        ensures facts { facts self.new ≡ facts self.old }
+        ensures facts { Self.facts self.new ≡ Self.facts self.old }
         ensures learns { Learns told.old told.new }
-        ensures lost { IfErr result (IsLostAt N.base (facts self.old).window selection.now at told.new) }
-        ensures reads { ReadsFor selection.now.resource told.old told.new (cached self.old) (cached self.new) };
+        ensures lost { IfErr result (IsLostAt N.base (Self.facts self.old).window selection.now at told.new) }
+        ensures reads { ReadsFor selection.now.resource told.old told.new (Self.cached self.old) (Self.cached self.new) };
 
     /// What was sent to a watch that stands at a position, if something was.
     fn sent(
@@ -114,10 +117,10 @@ pub trait Caches<N: LogFacts> {
         ensures same { self.new ≡ self.old }
         ensures learns { Learns told.old told.new }
         ensures none { IfNone result (told.new ≡ told.old) }
-        ensures knows { OnSome result (KnowsOwn (facts self.new) told.new) }
+        ensures knows { OnSome result (KnowsOwn (Self.facts self.new) told.new) }
         ensures turn { IfSome result (λ sent. IfOk sent (λ took. (window : ℕ) (p : PassData RevisionData) →
             IsWatchTurn N.base window p (record { selection = selection.now; position = position }) took told.new)) }
-        ensures within { alone → IfSome result (λ sent. IfOk sent (λ took. TakesWithin took ((cached self.new).ends selection.now.resource))) };
+        ensures within { Self.alone → IfSome result (λ sent. IfOk sent (λ took. TakesWithin took ((Self.cached self.new).ends selection.now.resource))) };
 
     /// Whether a watch to which nothing was sent may rest where the log stands at its position.
     fn may_rest(&self, lane: &Self::Lane) -> bool;
@@ -137,24 +140,27 @@ pub trait Caches<N: LogFacts> {
     ) -> Result<Took, Memory>
         requires max { 1 ≤ max }
         requires loaded { told.old.last ≤ told.old.shown }
-        ensures facts { facts self.new ≡ facts self.old }
+        ensures facts { Self.facts self.new ≡ Self.facts self.old }
         ensures learns { Learns told.old told.new }
-        ensures turn { IfOk result (λ took. IsLoadedTurn N.base (facts self.old).window told.old (record { selection = selection.now; position = position }) took told.new) }
-        ensures reads { ReadsFor selection.now.resource told.old told.new (cached self.old) (cached self.new) }
-        ensures within { alone → IfOk result (λ took. TakesWithin took ((cached self.new).ends selection.now.resource)) };
+        ensures turn { IfOk result (λ took. IsLoadedTurn N.base (Self.facts self.old).window told.old (record { selection = selection.now; position = position }) took told.new) }
+        ensures reads { ReadsFor selection.now.resource told.old told.new (Self.cached self.old) (Self.cached self.new) }
+        ensures within { Self.alone → IfOk result (λ took. TakesWithin took ((Self.cached self.new).ends selection.now.resource)) };
+}
 
+/// What a monitor asks of caches.
+pub trait Measures<N: LogFacts>: Caches<N> {
     /// What a monitor is told of the cache of a resource.
     fn metrics(&mut self, resource: Resource, told: &mut Pass<N>) -> CacheMetrics
-        ensures facts { facts self.new ≡ facts self.old }
-        ensures cached { cached self.new ≡ cached self.old }
+        ensures facts { Self.facts self.new ≡ Self.facts self.old }
+        ensures cached { Self.cached self.new ≡ Self.cached self.old }
         ensures learns { Learns told.old told.new }
         ensures metrics { IsCacheMetrics N.base resource told.new result };
 
     /// Sees the log at least up to a revision that was shown, and answers its generation then.
     fn see(&mut self, told: &mut Pass<N>, reached: u64) -> Result<u64, Memory>
         requires shown { reached ≤ told.old.shown }
-        ensures facts { facts self.new ≡ facts self.old }
-        ensures cached { cached self.new ≡ cached self.old }
+        ensures facts { Self.facts self.new ≡ Self.facts self.old }
+        ensures cached { Self.cached self.new ≡ Self.cached self.old }
         ensures learns { Learns told.old told.new }
         ensures fresh { OnOk result (reached ≤ end_from told.new.first told.new.seen) }
         ensures generation { IfOk result (λ generation. generation ≡ told.new.gen) };

@@ -9,6 +9,7 @@
 mod answering;
 mod cache_state;
 mod caches;
+mod lanes;
 mod reads;
 mod resources;
 mod turns;
@@ -17,9 +18,10 @@ mod windows;
 
 pub use answering::{get, list, measure};
 pub use cache_state::{CacheState, Turn};
-pub use caches::Caches;
+pub use caches::{Caches, Measures, Reads, Watches};
+pub use lanes::WatchLane;
 pub use reads::Found;
 pub use resources::{OfConfigMaps, OfDeployments, OfPods, OfResource};
 pub use turns::{heard, see_from, turn_of};
-pub use watching::{Watch, begin, close, stand, turn};
+pub use watching::{Watch, begin, stand, turn};
 pub use windows::{NamedWindow, SeenWindow, Window};

@@ -15,7 +15,7 @@ ghost use Rattle.cached_client.specs.Caches.{KnowsOwn, LoadsBetween, ReadsFor};
 ghost use Rattle.cached_client.specs.Watching.{BeginsAtEnd, IsStartLost};
 
 use crate::answering::load;
-use crate::caches::Caches;
+use crate::caches::Watches;
 use cache_answers::{bare, opened, unreached};
 use cache_hub::CatchNo;
 use client_api::{Begun, ListNo, Took};
@@ -45,7 +45,8 @@ impl<L> Model for Watch<L> {
 
 /// Where a watch begins, and the watch.
 #[tactic(auto, using(crate::proofs::CallLemmas::loads_on, crate::proofs::CallLemmas::reads_since))]
-pub fn begin<N: LogFacts, C: Caches<N>>(
+pub fn begin<N: LogFacts, C: Watches<N>>(
+    alloc: Global,
     caches: &mut C,
     told: &mut Pass<N>,
     ask: &WatchAsk,
@@ -65,15 +66,16 @@ pub fn begin<N: LogFacts, C: Caches<N>>(
         return Err(no);
     }
     match ask.start {
-        Start::FromState(_) => begin_at_end(caches, told, &ask.selection, true),
-        Start::FromHere(_) => begin_at_end(caches, told, &ask.selection, false),
-        Start::FromRevision(asked) => begin_from(caches, told, &ask.selection, asked),
+        Start::FromState(_) => begin_at_end(alloc, caches, told, &ask.selection, true),
+        Start::FromHere(_) => begin_at_end(alloc, caches, told, &ask.selection, false),
+        Start::FromRevision(asked) => begin_from(alloc, caches, told, &ask.selection, asked),
     }
 }
 
 // At the end of the cache, with the selected objects there where they are sent.
 #[tactic(auto, using(crate::proofs::CallLemmas::knew))]
-fn begin_at_end<N: LogFacts, C: Caches<N>>(
+fn begin_at_end<N: LogFacts, C: Watches<N>>(
+    alloc: Global,
     caches: &mut C,
     told: &mut Pass<N>,
     wanted: &Selection,
@@ -94,9 +96,9 @@ fn begin_at_end<N: LogFacts, C: Caches<N>>(
     caches.settle(told);
     let _known = told.shown();
     let (position, state, lane) = started?;
-    match opening(caches.alloc(), wanted, position, &state, sends) {
+    match opening(alloc, wanted, position, &state, sends) {
         Ok(begun) => {
-            let watch = watch_at(caches, wanted, position, lane)?;
+            let watch = watch_at(alloc, caches, wanted, position, lane)?;
             Ok((begun, watch))
         }
         Err(_) => {
@@ -125,7 +127,8 @@ fn opening(
 
 // At a revision.
 #[tactic(auto, using(crate::proofs::CallLemmas::knew))]
-fn begin_from<N: LogFacts, C: Caches<N>>(
+fn begin_from<N: LogFacts, C: Watches<N>>(
+    alloc: Global,
     caches: &mut C,
     told: &mut Pass<N>,
     wanted: &Selection,
@@ -146,8 +149,8 @@ fn begin_from<N: LogFacts, C: Caches<N>>(
     let _known = told.shown();
     match started {
         Ok(lane) => {
-            let watch = watch_at(caches, wanted, position, lane)?;
-            Ok((bare(caches.alloc(), position), watch))
+            let watch = watch_at(alloc, caches, wanted, position, lane)?;
+            Ok((bare(alloc, position), watch))
         }
         Err(CatchNo::Lost { at, floor }) => Err(ListNo::Expired { asked: at, floor }),
         Err(CatchNo::Memory) => Err(ListNo::Memory),
@@ -155,7 +158,8 @@ fn begin_from<N: LogFacts, C: Caches<N>>(
 }
 
 // A watch that stands at a revision. What the caches have of it is closed where there is no memory for the watch.
-fn watch_at<N: LogFacts, C: Caches<N>>(
+fn watch_at<N: LogFacts, C: Watches<N>>(
+    alloc: Global,
     caches: &C,
     wanted: &Selection,
     position: u64,
@@ -163,7 +167,7 @@ fn watch_at<N: LogFacts, C: Caches<N>>(
 ) -> Result<Watch<C::Lane>, Memory>
     ensures { IfOk result (λ watch. watch ≡ record { selection = wanted.now; position = position }) }
 {
-    match wanted.copy(caches.alloc()) {
+    match wanted.copy(alloc) {
         Ok(selection) => Ok(Watch {
             selection,
             position,
@@ -180,7 +184,7 @@ fn watch_at<N: LogFacts, C: Caches<N>>(
 /// loaded. Where it is at the watch's position the turn is quiet, if the watch may rest there; else the caches are
 /// asked.
 #[tactic(auto, using(crate::proofs::CallLemmas::loads_none, crate::proofs::CallLemmas::loads_on, crate::proofs::CallLemmas::knew, crate::proofs::CallLemmas::reads_since))]
-pub fn turn<N: LogFacts, C: Caches<N>>(
+pub fn turn<N: LogFacts, C: Watches<N>>(
     caches: &mut C,
     told: &mut Pass<N>,
     watch: &mut Watch<C::Lane>,
@@ -229,25 +233,17 @@ fn quiet<N: LogFacts>(told: &Pass<N>, position: u64) -> Took
     }
 }
 
-/// Closes what the caches have of a watch, if there is one.
-pub fn close<N: LogFacts, C: Caches<N>>(caches: &C, watch: Option<Watch<C::Lane>>) {
-    if let Some(watch) = watch {
-        let Watch {
-            selection: _,
-            position: _,
-            lane,
-        } = watch;
-        caches.close(lane);
-    }
-}
-
-/// Leaves the watch where a turn leaves it.
-pub fn stand<N: LogFacts, C: Caches<N>>(caches: &C, watch: &mut Option<Watch<C::Lane>>, took: &Took)
+/// Leaves the watch where a turn leaves it. A watch that is lost is given back: whoever has the caches closes what they
+/// have of it.
+pub fn stand<L>(watch: &mut Option<Watch<L>>, took: &Took) -> Option<Watch<L>>
     ensures { watch.new ≡ option_and_then (watch_after took.now) watch.old }
 {
     match took {
-        Took::Events { upto, .. } | Took::Quiet { upto, .. } => move_to(watch, *upto),
-        Took::Lost { .. } => close(caches, watch.take()),
+        Took::Events { upto, .. } | Took::Quiet { upto, .. } => {
+            move_to(watch, *upto);
+            None
+        }
+        Took::Lost { .. } => watch.take(),
     }
 }
 
