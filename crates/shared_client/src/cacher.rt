@@ -10,7 +10,7 @@ ghost use Rattle.up_api.specs.Settings.{AreInRange};
 use crate::client::SharedClient;
 use bells::Bell;
 use cached_client::{CacheState, OfConfigMaps, OfDeployments, OfPods, OfResource};
-use kube_meta::{Memory, Resource};
+use kube_meta::Memory;
 use std::alloc::Global;
 use std::sync::{Arc, Mutex, Wait};
 use up_api::{LogFacts, Pass, Settings};
@@ -40,17 +40,20 @@ impl<N: LogFacts, R: Wait + Copy> Cacher<N, R> {
         requires window { N.window ≡ settings.now.window }
     {
         let mut door = door;
-        let pods = locked(alloc, &mut door, settings)?;
-        let config_maps = locked(alloc, &mut door, settings)?;
-        let deployments = locked(alloc, &mut door, settings)?;
-        Ok(Cacher {
-            rt,
-            alloc,
-            door,
-            pods,
-            config_maps,
-            deployments,
-        })
+        let pods = locked(alloc, &mut door, settings);
+        let config_maps = locked(alloc, &mut door, settings);
+        let deployments = locked(alloc, &mut door, settings);
+        match (pods, config_maps, deployments) {
+            (Ok(pods), Ok(config_maps), Ok(deployments)) => Ok(Cacher {
+                rt,
+                alloc,
+                door,
+                pods,
+                config_maps,
+                deployments,
+            }),
+            _ => Err(Memory),
+        }
     }
 
     /// Lets the caches go, and with them the door to the log.
@@ -108,18 +111,17 @@ impl<N: LogFacts, R: Wait + Copy> Cacher<N, R> {
         ensures floor { IfOk result (λ floor. (told.old.floor ≤ floor) × (floor ≤ told.new.floor)) }
     {
         let mut door = self.door.again()?;
-        self.pods.lock(&self.rt).rebuild(&mut door, told)?;
-        self.config_maps.lock(&self.rt).rebuild(&mut door, told)?;
-        self.deployments.lock(&self.rt).rebuild(&mut door, told)
+        self.rebuild_each(&mut door, told)
     }
 
-    /// Closes a lane of a resource's cache, if it is open.
-    pub(crate) fn close_lane(&self, resource: Resource, id: u64) {
-        match resource {
-            Resource::Pods => self.pods.lock(&self.rt).close(id),
-            Resource::ConfigMaps => self.config_maps.lock(&self.rt).close(id),
-            Resource::Deployments => self.deployments.lock(&self.rt).close(id),
-        }
+    // The same, through this door.
+    fn rebuild_each(&self, door: &mut StoreDoor<N, R>, told: &mut Pass<N>) -> Result<u64, Memory>
+        ensures learns { Learns told.old told.new }
+        ensures floor { IfOk result (λ floor. (told.old.floor ≤ floor) × (floor ≤ told.new.floor)) }
+    {
+        self.pods.lock(&self.rt).rebuild(door, told)?;
+        self.config_maps.lock(&self.rt).rebuild(door, told)?;
+        self.deployments.lock(&self.rt).rebuild(door, told)
     }
 }
 

@@ -6,10 +6,9 @@ ghost use Rattle.rev_log.specs.Changes.{RevisionData};
 ghost use Rattle.rev_log.specs.Logs.{Fits};
 
 use crate::cacher::Cacher;
-use crate::lanes::WatchLane;
 use crate::shared::SharedCaches;
 use bells::Bell;
-use cached_client::{Watch, begin, close, get, list, measure, stand, turn};
+use cached_client::{Watch, WatchLane, begin, get, list, measure, stand, turn};
 use client_api::{Begun, Client, Got, ListNo, Listed, Took};
 use kube_meta::Memory;
 use list_rules::{GetAsk, ListAsk};
@@ -73,7 +72,7 @@ impl<N: LogFacts, R: Wait + Copy> Drop for SharedClient<'_, N, R> {
             watch,
             heard: _,
         } = self;
-        close(&caches, watch);
+        caches.end(watch);
     }
 }
 
@@ -113,12 +112,14 @@ impl<N: LogFacts, R: Wait + Copy> Client for SharedClient<'_, N, R> {
     }
 
     fn list(&mut self, ask: &ListAsk) -> Result<Listed, ListNo> {
-        list(&mut self.caches, &mut self.told, ask)
+        let alloc = self.caches.cacher.alloc;
+        list(alloc, &mut self.caches, &mut self.told, ask)
     }
 
     fn watch(&mut self, ask: &WatchAsk) -> Result<Begun, ListNo> {
-        let (begun, watch) = begin(&mut self.caches, &mut self.told, ask)?;
-        close(&self.caches, self.watch.replace(watch));
+        let alloc = self.caches.cacher.alloc;
+        let (begun, watch) = begin(alloc, &mut self.caches, &mut self.told, ask)?;
+        self.caches.end(self.watch.replace(watch));
         Ok(begun)
     }
 
@@ -127,32 +128,18 @@ impl<N: LogFacts, R: Wait + Copy> Client for SharedClient<'_, N, R> {
             unreachable!()
         };
         let took = turn(&mut self.caches, &mut self.told, watch, max, self.heard)?;
-        stand(&self.caches, &mut self.watch, &took);
+        self.caches.end(stand(&mut self.watch, &took));
         Ok(took)
     }
 
     fn end_watch(&mut self) {
-        close(&self.caches, self.watch.take());
+        self.caches.end(self.watch.take());
     }
 
     fn operate(&mut self, ask: Operate) -> Result<u64, OpNo> {
-        match ask {
-            Operate::Cut => {
-                let answer = self.caches.door.drop_feeds(&mut self.told);
-                let _known = self.told.shown();
-                answer
-            }
-            Operate::Compact { at } => {
-                let answer = self.caches.door.compact(at, &mut self.told);
-                let _known = self.told.shown();
-                answer
-            }
-            Operate::Restart => {
-                let answer = self.caches.cacher.restart(&mut self.told);
-                let _known = self.told.shown();
-                Ok(answer?)
-            }
-        }
+        let answer = self.caches.operate(ask, &mut self.told);
+        let _known = self.told.shown();
+        answer
     }
 
     fn metrics(&mut self) -> Result<Metrics, Memory> {

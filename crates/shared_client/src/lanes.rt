@@ -1,4 +1,4 @@
-//! The lanes of watches, and what comes by them.
+//! What comes by the lanes of watches.
 
 ghost use Rattle.std.specs.Prelude.{◌≡◌, ℕ, IfOk, IfSome};
 ghost use Rattle.rev_front.specs.Passes.{IsPass, Pass as PassData};
@@ -9,7 +9,7 @@ ghost use Rattle.watch_lane.specs.Batches.{IsBatch};
 ghost use Rattle.client_api.specs.Turns.{IsWatchTurn};
 
 use client_api::Took;
-use kube_meta::{Memory, Resource};
+use kube_meta::Memory;
 use select_all::Selection;
 use std::alloc::Global;
 use up_api::{LogFacts, Pass};
@@ -17,13 +17,6 @@ use watch_lane::{Batch, LaneOut, lines_of};
 
 // The most batches that wait in one lane.
 const MOST_BATCHES: usize = 1_024;
-
-/// The lane of a watch. It can't be dropped: whoever ends the watch closes it.
-pub struct WatchLane<N: LogFacts> {
-    pub(crate) resource: Resource,
-    pub(crate) id: u64,
-    pub(crate) out: LaneOut<N>,
-}
 
 /// The next batch of a lane that goes on from the watch's position. Others were told from the ring already, and are
 /// dropped. It takes no lock.

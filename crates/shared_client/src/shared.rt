@@ -2,14 +2,17 @@
 
 ghost use Rattle.std.specs.Prelude.{◌≡◌, ◌≤◌, IfOk, IfErr, IfSome};
 ghost use Rattle.up_api.specs.Sections.{Learns};
+ghost use Rattle.up_store.specs.Replies.{IsOperationReply};
 ghost use Rattle.select_all.specs.declared.selection.Selection.{Selection as SelectionData};
 ghost use Rattle.cached_client.specs.Watching.{IsLoadedTurn, IsLostAt, IsTold};
 
 use crate::cacher::Cacher;
-use crate::lanes::{WatchLane, next_batch, received};
+use crate::lanes::{next_batch, received};
 use bells::Bell;
 use cache_hub::{CatchNo, Caught};
-use cached_client::{Caches, Found, Turn, heard, see_from, turn_of};
+use cached_client::{
+    Caches, Found, Measures, Reads, Turn, Watch, WatchLane, Watches, heard, see_from, turn_of,
+};
 use client_api::{ListNo, Took};
 use kube_meta::{Memory, Resource};
 use metrics::CacheMetrics;
@@ -18,8 +21,18 @@ use select_all::{Meaning, Selection};
 use std::alloc::Global;
 use std::sync::{Arc, Wait};
 use up_api::{LogFacts, Pass, UpNo};
-use up_store::StoreDoor;
-use watch_lane::LaneOut;
+use up_store::{OpNo, Operate, StoreDoor};
+
+// Calls this of the cache of a resource, which is locked meanwhile.
+macro_rules! with_cache {
+    ($cacher:expr, $resource:expr, $call:ident($($given:expr),*)) => {
+        match $resource {
+            Resource::Pods => $cacher.pods.lock(&$cacher.rt).$call($($given),*),
+            Resource::ConfigMaps => $cacher.config_maps.lock(&$cacher.rt).$call($($given),*),
+            Resource::Deployments => $cacher.deployments.lock(&$cacher.rt).$call($($given),*),
+        }
+    };
+}
 
 /// The caches of a `Cacher` as one client has them, with a door to the store of its own, and the bell that ends the
 /// rests of its watches, if there is one.
@@ -36,6 +49,31 @@ impl<N: LogFacts, R: Wait + Copy> SharedCaches<'_, N, R> {
         self.bell = bell;
     }
 
+    /// Closes the lane of a watch, if there is one.
+    pub fn end(&self, watch: Option<Watch<WatchLane<N>>>) {
+        if let Some(watch) = watch {
+            let Watch {
+                selection: _,
+                position: _,
+                lane,
+            } = watch;
+            self.close(lane);
+        }
+    }
+
+    /// Does an operation. Where all open watches are to end, that is up to whoever serves them.
+    pub fn operate(&mut self, ask: Operate, told: &mut Pass<N>) -> Result<u64, OpNo>
+        ensures learns { Learns told.old told.new }
+        ensures reply { IsOperationReply told.old ask result told.new }
+    {
+        match ask {
+            Operate::Cut => self.door.drop_feeds(told),
+            Operate::Compact { at } => self.door.compact(at, told),
+            Operate::Restart => Ok(self.cacher.restart(told)?),
+            Operate::Disconnect => Ok(told.floor()),
+        }
+    }
+
     // What a watch of this selection is told at a turn: `None` where a batch lies in its lane.
     fn ask_cache(
         &mut self,
@@ -49,12 +87,7 @@ impl<N: LogFacts, R: Wait + Copy> SharedCaches<'_, N, R> {
         ensures lost { IfErr result (IsLostAt N.base N.window wanted.now turn.at told.new) }
     {
         let (cacher, door) = (self.cacher, &mut self.door);
-        let rt = &cacher.rt;
-        match wanted.resource {
-            Resource::Pods => cacher.pods.lock(rt).turn(door, told, wanted, turn),
-            Resource::ConfigMaps => cacher.config_maps.lock(rt).turn(door, told, wanted, turn),
-            Resource::Deployments => cacher.deployments.lock(rt).turn(door, told, wanted, turn),
-        }
+        with_cache!(cacher, wanted.resource, turn(door, told, wanted, turn))
     }
 
     // The same from the ring alone.
@@ -70,21 +103,11 @@ impl<N: LogFacts, R: Wait + Copy> SharedCaches<'_, N, R> {
         ensures lost { IfErr result (IsLostAt N.base N.window selection.now turn.at told.new) }
     {
         let (cacher, door) = (self.cacher, &mut self.door);
-        let rt = &cacher.rt;
-        match selection.resource {
-            Resource::Pods => cacher
-                .pods
-                .lock(rt)
-                .turn_by_ring(door, told, selection, turn),
-            Resource::ConfigMaps => cacher
-                .config_maps
-                .lock(rt)
-                .turn_by_ring(door, told, selection, turn),
-            Resource::Deployments => cacher
-                .deployments
-                .lock(rt)
-                .turn_by_ring(door, told, selection, turn),
-        }
+        with_cache!(
+            cacher,
+            selection.resource,
+            turn_by_ring(door, told, selection, turn)
+        )
     }
 
     // A turn at which a batch came into the lane since the lane was asked. It was pushed under the lock, so it is
@@ -111,24 +134,8 @@ impl<N: LogFacts, R: Wait + Copy> SharedCaches<'_, N, R> {
     }
 }
 
-// A lane that was opened.
-fn opened<N: LogFacts>(resource: Resource, lane: (u64, LaneOut<N>)) -> WatchLane<N> {
-    let (id, out) = lane;
-    WatchLane { resource, id, out }
-}
-
-// The same bell once more.
-fn shared(bell: &Option<Arc<Bell>>) -> Result<Option<Arc<Bell>>, Memory> {
-    match bell {
-        Some(bell) => Ok(Some(Arc::try_clone(bell)?)),
-        None => Ok(None),
-    }
-}
-
 impl<N: LogFacts, R: Wait + Copy> Caches<N> for SharedCaches<'_, N, R> {
     ghost use Rattle.std.specs.Prelude.{None};
-
-    type Lane = WatchLane<N>;
 
     // others hold the log too
     ghost alone = { ⊥ };
@@ -144,14 +151,12 @@ impl<N: LogFacts, R: Wait + Copy> Caches<N> for SharedCaches<'_, N, R> {
 
     ghost cached = { λ _. record { reads = None; ends = λ _. 0 } };
 
-    fn alloc(&self) -> Global {
-        self.cacher.alloc
-    }
-
     fn meet(&mut self, _told: &mut Pass<N>) {}
 
     fn settle(&mut self, _told: &mut Pass<N>) {}
+}
 
+impl<N: LogFacts, R: Wait + Copy> Reads<N> for SharedCaches<'_, N, R> {
     fn find(
         &mut self,
         resource: Resource,
@@ -159,12 +164,7 @@ impl<N: LogFacts, R: Wait + Copy> Caches<N> for SharedCaches<'_, N, R> {
         meaning: Meaning,
     ) -> Result<Found, ListNo> {
         let (cacher, door) = (self.cacher, &mut self.door);
-        let rt = &cacher.rt;
-        match resource {
-            Resource::Pods => cacher.pods.lock(rt).find(door, told, meaning),
-            Resource::ConfigMaps => cacher.config_maps.lock(rt).find(door, told, meaning),
-            Resource::Deployments => cacher.deployments.lock(rt).find(door, told, meaning),
-        }
+        with_cache!(cacher, resource, find(door, told, meaning))
     }
 
     // No cache is locked meanwhile, so that nobody waits for an older state that is made of the log; no clause says
@@ -182,40 +182,22 @@ impl<N: LogFacts, R: Wait + Copy> Caches<N> for SharedCaches<'_, N, R> {
             Err(UpNo::Future { .. } | UpNo::Cut { .. }) => unreachable!(),
         }
     }
+}
+
+impl<N: LogFacts, R: Wait + Copy> Watches<N> for SharedCaches<'_, N, R> {
+    type Lane = WatchLane<N>;
 
     fn start_at_end(
         &mut self,
         told: &mut Pass<N>,
         selection: &Selection,
     ) -> Result<(u64, Snapshot, WatchLane<N>), ListNo> {
-        let bell = shared(&self.bell)?;
-        let cacher = self.cacher;
-        match selection.resource {
-            Resource::Pods => {
-                let started = cacher
-                    .pods
-                    .lock(&cacher.rt)
-                    .start_at_end(&mut self.door, told, selection, bell);
-                let (at, state, lane) = started?;
-                Ok((at, state, opened(Resource::Pods, lane)))
-            }
-            Resource::ConfigMaps => {
-                let started = cacher
-                    .config_maps
-                    .lock(&cacher.rt)
-                    .start_at_end(&mut self.door, told, selection, bell);
-                let (at, state, lane) = started?;
-                Ok((at, state, opened(Resource::ConfigMaps, lane)))
-            }
-            Resource::Deployments => {
-                let started = cacher
-                    .deployments
-                    .lock(&cacher.rt)
-                    .start_at_end(&mut self.door, told, selection, bell);
-                let (at, state, lane) = started?;
-                Ok((at, state, opened(Resource::Deployments, lane)))
-            }
-        }
+        let (cacher, door, bell) = (self.cacher, &mut self.door, &self.bell);
+        with_cache!(
+            cacher,
+            selection.resource,
+            start_at_end(door, told, selection, bell)
+        )
     }
 
     fn start_from(
@@ -224,31 +206,12 @@ impl<N: LogFacts, R: Wait + Copy> Caches<N> for SharedCaches<'_, N, R> {
         selection: &Selection,
         at: u64,
     ) -> Result<WatchLane<N>, CatchNo> {
-        let bell = shared(&self.bell)?;
-        let cacher = self.cacher;
-        match selection.resource {
-            Resource::Pods => {
-                let started = cacher
-                    .pods
-                    .lock(&cacher.rt)
-                    .start_from(&mut self.door, told, selection, at, bell);
-                Ok(opened(Resource::Pods, started?))
-            }
-            Resource::ConfigMaps => {
-                let started = cacher
-                    .config_maps
-                    .lock(&cacher.rt)
-                    .start_from(&mut self.door, told, selection, at, bell);
-                Ok(opened(Resource::ConfigMaps, started?))
-            }
-            Resource::Deployments => {
-                let started = cacher
-                    .deployments
-                    .lock(&cacher.rt)
-                    .start_from(&mut self.door, told, selection, at, bell);
-                Ok(opened(Resource::Deployments, started?))
-            }
-        }
+        let (cacher, door, bell) = (self.cacher, &mut self.door, &self.bell);
+        with_cache!(
+            cacher,
+            selection.resource,
+            start_from(door, told, selection, at, bell)
+        )
     }
 
     fn sent(
@@ -277,7 +240,7 @@ impl<N: LogFacts, R: Wait + Copy> Caches<N> for SharedCaches<'_, N, R> {
             id,
             out: _,
         } = lane;
-        self.cacher.close_lane(resource, id);
+        with_cache!(self.cacher, resource, close(id))
     }
 
     fn turn(
@@ -302,14 +265,11 @@ impl<N: LogFacts, R: Wait + Copy> Caches<N> for SharedCaches<'_, N, R> {
             Err(CatchNo::Memory) => Err(Memory),
         }
     }
+}
 
+impl<N: LogFacts, R: Wait + Copy> Measures<N> for SharedCaches<'_, N, R> {
     fn metrics(&mut self, resource: Resource, told: &mut Pass<N>) -> CacheMetrics {
-        let cacher = self.cacher;
-        match resource {
-            Resource::Pods => cacher.pods.lock(&cacher.rt).metrics(told),
-            Resource::ConfigMaps => cacher.config_maps.lock(&cacher.rt).metrics(told),
-            Resource::Deployments => cacher.deployments.lock(&cacher.rt).metrics(told),
-        }
+        with_cache!(self.cacher, resource, metrics(told))
     }
 
     fn see(&mut self, told: &mut Pass<N>, reached: u64) -> Result<u64, Memory> {

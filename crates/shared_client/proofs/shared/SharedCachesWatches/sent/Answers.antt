@@ -1,6 +1,6 @@
 use Rattle.client_api.specs.Facts.{Watched}
 use Rattle.shared_client.proofs.LaneLemmas.{received_as}
-use Rattle.shared_client.proofs.shared.SharedCachesCaches.sent.Goals as goal
+use Rattle.shared_client.proofs.shared.SharedCachesWatches.sent.Goals as goal
 
 pub returns-in-Some-clause-turn : goal.returns-in-Some-clause-turn
 returns-in-Some-clause-turn g c =
