@@ -6,7 +6,6 @@ ghost use Rattle.local_client.specs.CachedLogs.{IsNewLog, known_log};
 
 use crate::making::new_caches;
 use crate::sole::SoleCaches;
-use crate::telling::NoLane;
 use cached_client::{Watch, begin, get, list, measure, stand, turn};
 use client_api::{Begun, Client, Got, ListNo, Listed, Took};
 use kube_meta::Memory;
@@ -24,7 +23,7 @@ use watch_rules::WatchAsk;
 pub struct LocalClient<N: LogFacts> {
     caches: SoleCaches<N>,
     told: Pass<N>,
-    watch: Option<Watch<NoLane>>,
+    watch: Option<Watch<()>>,
     heard: u64,
 }
 
@@ -97,12 +96,12 @@ impl<N: LogFacts> Client for LocalClient<N> {
 
     fn list(&mut self, ask: &ListAsk) -> Result<Listed, ListNo> {
         let _reads = self.caches.reads();
-        list(&mut self.caches, &mut self.told, ask)
+        list(self.caches.alloc, &mut self.caches, &mut self.told, ask)
     }
 
     fn watch(&mut self, ask: &WatchAsk) -> Result<Begun, ListNo> {
         let _reads = self.caches.reads();
-        let (begun, watch) = begin(&mut self.caches, &mut self.told, ask)?;
+        let (begun, watch) = begin(self.caches.alloc, &mut self.caches, &mut self.told, ask)?;
         self.watch = Some(watch);
         Ok(begun)
     }
@@ -113,7 +112,7 @@ impl<N: LogFacts> Client for LocalClient<N> {
             unreachable!()
         };
         let took = turn(&mut self.caches, &mut self.told, watch, max, self.heard)?;
-        stand(&self.caches, &mut self.watch, &took);
+        let _lost = stand(&mut self.watch, &took);
         Ok(took)
     }
 

@@ -71,7 +71,7 @@ impl<N: LogFacts> SoleCaches<N> {
         answer
     }
 
-    /// Does an operation.
+    /// Does an operation. Where all open watches are to end, that is up to whoever serves them.
     pub fn operate(&mut self, ask: Operate, told: &mut Pass<N>) -> Result<u64, OpNo>
         ensures onward { IsOnward told.old told.new }
         ensures answer { IsOperationReply told.old ask result told.new }
@@ -94,6 +94,11 @@ impl<N: LogFacts> SoleCaches<N> {
                 answer
             }
             Operate::Restart => self.restart(told),
+            Operate::Disconnect => {
+                self.store.tell(told);
+                let _known = told.shown();
+                Ok(told.floor())
+            }
         }
     }
 

@@ -3,8 +3,8 @@ use Rattle.std.specs.Prelude.{IfOk}
 use Rattle.select_all.specs.declared.selection.Meaning.TheVariants.{Exact}
 use Rattle.up_api.specs.Sections.{log_of}
 use Rattle.cached_client.specs.Serving.{IsServed}
-use Rattle.local_client.proofs.telling.SoleCachesCaches.older.Goals as goal
-use Rattle.local_client.proofs.telling.SoleCachesCaches.older.Goals.{in-Ok+in_ok-made-in-Ok, in-Err-Compacted, in-Err-Memory}
+use Rattle.local_client.proofs.telling.SoleCachesReads.older.Goals as goal
+use Rattle.local_client.proofs.telling.SoleCachesReads.older.Goals.{in-Ok+in_ok-made-in-Ok, in-Err-Compacted, in-Err-Memory}
 
 pub returns-clause-served : goal.returns-clause-served
 returns-clause-served g c =
