@@ -587,8 +587,8 @@ impl<N: LogFacts, One: OfResource, W: Window> CacheState<N, One, W> {
         }
     }
 
-    // The lane of a watch, which was just opened, and whose watcher is rung by this bell. Between the two the cache stays
-    // locked, so that nothing comes to the lane before it has its bell.
+    // The lane of a watch, which was just opened, and whose watcher is rung by this bell. Between the two the cache
+    // stays locked, so that nothing comes to the lane before it has its bell.
     fn rung(&mut self, lane: (u64, LaneOut<N>), bell: Option<Arc<Bell>>) -> WatchLane<N>
         ensures { self.new ≡ self.old }
     {
