@@ -10,7 +10,7 @@ use Rattle.httparse.specs.Grammar.{AllPass, is_token_byte, is_value_byte, is_ows
 use Rattle.httparse.proofs.TrimLemmas.{skip_ows_no, AllPass-reverse, trim_ows_space}
 use Rattle.http_send.specs.Replies.{text_where, content_type_line}
 use Rattle.http_send.specs.declared.replies.ContentType.{ContentType}
-use Rattle.http_send.specs.declared.replies.ContentType.TheVariants.{Json, PlainText, MetricsText}
+use Rattle.http_send.specs.declared.replies.ContentType.TheVariants.{Json, PlainText, MetricsText, OpenApi}
 use Rattle.load_gen.specs.Heads.{field, further, type_of, head_with}
 
 -- ---- digits
@@ -68,6 +68,7 @@ abbrev middle : ContentType → List ℕ → List ℕ
 middle Json text = codes "Content-Type: application/json\r\nContent-Length: " ++ text
 middle PlainText text = codes "Content-Type: text/plain; charset=utf-8\r\nContent-Length: " ++ text
 middle MetricsText text = codes "Content-Type: text/plain; version=0.0.4; charset=utf-8\r\nContent-Length: " ++ text
+middle OpenApi text = codes "Content-Type: application/com.github.proto-openapi.spec.v2.v1.0+protobuf\r\nContent-Length: " ++ text
 
 seam : (code reason text : List ℕ) → ((code ++ (32 ∷ reason)) ++ ending) ++ text ≡ code ++ (32 ∷ (reason ++ (13 ∷ 10 ∷ text)))
 seam code reason text = append_assoc (code ++ (32 ∷ reason)) ending text ∙ append_assoc code (32 ∷ reason) (ending ++ text)
@@ -96,6 +97,10 @@ printed MetricsText code reason size true true = joined MetricsText code reason 
 printed MetricsText code reason size true false = joined MetricsText code reason size (flat_map print_field (further true false))
 printed MetricsText code reason size false true = joined MetricsText code reason size (flat_map print_field (further false true))
 printed MetricsText code reason size false false = joined MetricsText code reason size (flat_map print_field (further false false))
+printed OpenApi code reason size true true = joined OpenApi code reason size (flat_map print_field (further true true))
+printed OpenApi code reason size true false = joined OpenApi code reason size (flat_map print_field (further true false))
+printed OpenApi code reason size false true = joined OpenApi code reason size (flat_map print_field (further false true))
+printed OpenApi code reason size false false = joined OpenApi code reason size (flat_map print_field (further false false))
 
 token : (name : List ℕ) → list_all is_token_byte name ≡ true → AllPass is_token_byte name
 token name pass = AllPass-from_list_all is_token_byte name pass
@@ -111,6 +116,8 @@ type_field PlainText =
     record { name = (search arith, token (codes "Content-Type") refl); raw = value_of (codes " text/plain; charset=utf-8") refl }
 type_field MetricsText =
     record { name = (search arith, token (codes "Content-Type") refl); raw = value_of (codes " text/plain; version=0.0.4; charset=utf-8") refl }
+type_field OpenApi =
+    record { name = (search arith, token (codes "Content-Type") refl); raw = value_of (codes " application/com.github.proto-openapi.spec.v2.v1.0+protobuf") refl }
 
 retry_field : IsField (field (codes "Retry-After") (codes "1"))
 unfolding is_token_byte

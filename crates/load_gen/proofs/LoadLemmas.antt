@@ -104,7 +104,7 @@ known_code form (operated ask (Ok value)) c e = of_said 200 Json _ c is_accepted
 known_code form (operated ask (Err fault)) c e = of_told _ c e
 known_code form (described document) c e = of_said 200 (content_type_of document) _ c is_accepted e
 known_code form (metered told) c e = of_said 200 MetricsText _ c is_accepted e
-known_code form unready c e = of_content (record { code = 503; retry = true; kind = PlainText; text = _ }) c (inr (inr (inl refl))) e
+known_code form (unready probe) c e = of_content (record { code = 503; retry = true; kind = PlainText; text = _ }) c (inr (inr (inl refl))) e
 known_code form (unwatched ask fault) c e = of_told _ c e
 known_code form (bad_upgrade ask) c e = of_told (Some errors.bad_upgrade) c e
 

@@ -8,7 +8,7 @@ use Rattle.std.proofs.lemmas.Fmt.{decimal_digit, decimal_step, decimal_is_IsNume
 use Rattle.std.proofs.lemmas.List.Sums.{AllPass-from_list_all}
 use Rattle.api_errors.specs.Reasons.{code_of as reason_code}
 use Rattle.api_errors.specs.declared.reasons.Reason.{Reason}
-use Rattle.api_errors.specs.declared.reasons.Reason.TheVariants.{BadRequest, Forbidden, NotFound, MethodNotAllowed, AlreadyExists, Conflict, Expired, LengthRequired, RequestEntityTooLarge, Invalid, InternalError, Timeout}
+use Rattle.api_errors.specs.declared.reasons.Reason.TheVariants.{BadRequest, Forbidden, NotFound, MethodNotAllowed, AlreadyExists, Conflict, Expired, LengthRequired, RequestEntityTooLarge, UnsupportedMediaType, Invalid, InternalError, Timeout}
 use Rattle.http_send.specs.Replies.{phrase, typed_reply_text, typed_head_text}
 use Rattle.http_send.specs.declared.replies.ContentType.{ContentType}
 use Rattle.httparse.specs.Grammar.{AllPass, is_value_byte, print_response, ReadsResponse}
@@ -47,6 +47,7 @@ of_reason Conflict = facts_at 409 (omega arith) (omega arith) refl
 of_reason Expired = facts_at 410 (omega arith) (omega arith) refl
 of_reason LengthRequired = facts_at 411 (omega arith) (omega arith) refl
 of_reason RequestEntityTooLarge = facts_at 413 (omega arith) (omega arith) refl
+of_reason UnsupportedMediaType = facts_at 415 (omega arith) (omega arith) refl
 of_reason Invalid = facts_at 422 (omega arith) (omega arith) refl
 of_reason InternalError = facts_at 500 (omega arith) (omega arith) refl
 of_reason Timeout = facts_at 504 (omega arith) (omega arith) refl

@@ -2,7 +2,7 @@
 use Rattle.std.specs.Prelude.{ℕ, List, [], ◌∷◌, length, Bool, true, false, Some, codes, decimal}
 use Rattle.http_send.specs.Replies.{phrase}
 use Rattle.http_send.specs.declared.replies.ContentType.{ContentType}
-use Rattle.http_send.specs.declared.replies.ContentType.TheVariants.{Json, PlainText, MetricsText}
+use Rattle.http_send.specs.declared.replies.ContentType.TheVariants.{Json, PlainText, MetricsText, OpenApi}
 use Rattle.httparse.specs.Grammar.{crlf, Field, ResponseHead}
 
 -- a field with a blank before its value
@@ -21,6 +21,7 @@ abbrev pub type_of : ContentType → List ℕ
 type_of Json = codes "application/json"
 type_of PlainText = codes "text/plain; charset=utf-8"
 type_of MetricsText = codes "text/plain; version=0.0.4; charset=utf-8"
+type_of OpenApi = codes "application/com.github.proto-openapi.spec.v2.v1.0+protobuf"
 
 -- a head with what its body is, these digits of its code, this reason, and these digits of its body's length
 abbrev pub head_with : ContentType → List ℕ → List ℕ → List ℕ → Bool → Bool → ResponseHead
