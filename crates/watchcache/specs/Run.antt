@@ -284,7 +284,7 @@ Does (Ok (Load options)) ends net status = IsUnused net × IsIdle ends × TellsL
 Does (Ok Check) ends net status =
     IsUnused net × (ends.readings_new ≡ ends.readings_old)
     × ChecksSource ends.left_old ends.left_new ends.read_fault ends.sent status
-Does (Err Bad) ends net status = IsUnused net × IsIdle ends × IsTold bad_line 2 ends.sent status
+Does (Err (Bad fault)) ends net status = IsUnused net × IsIdle ends × IsTold bad_line 2 ends.sent status
 Does (Err Memory) ends net status = IsUnused net × IsUnserved ends status
 
 -- what the program does: the words are read as clap reads them, and what they ask for is done

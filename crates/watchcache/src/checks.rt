@@ -7,6 +7,7 @@ ghost use Rattle.watchcache.specs.Run.{ChecksBytes, ChecksSource, IsSaid, IsTold
 ghost use Rattle.watchcache.specs.Texts as texts;
 ghost use Rattle.watchcache.specs.Texts.{verdict};
 
+use crate::advice::say_no_record;
 use crate::inputs::{InputNo, read_all};
 use crate::statuses::{DONE, NO_RECORD, OUT_OF_MEMORY, READ_FAULT, UNLAWFUL};
 use crate::telling::tell;
@@ -14,30 +15,40 @@ use body_check::{Checked, check};
 use edge_io::{Sink, Source};
 use itoa::Buffer;
 use std::alloc::Global;
+use std::io::Eprint;
 use watch_record::{RecordNo, read_record};
 
 /// The bytes of a record are at most so many.
 const MOST: usize = 67_108_864;
 
-/// Reads a record from `source`, judges its body and tells the judgement. Answers the status.
-pub fn check_record<S: Source, K: Sink>(alloc: Global, source: &mut S, sink: &mut K) -> u8
+/// Reads a record from `source`, judges its body and tells the judgement. Standard error
+/// has why there is none. Answers the status.
+pub fn check_record<R: Eprint + Copy, S: Source, K: Sink>(
+    rt: R,
+    alloc: Global,
+    source: &mut S,
+    sink: &mut K,
+) -> u8
     ensures { ChecksSource (S.left source.old) (S.left source.new) (Rose (S.faults source.old) (S.faults source.new))
         (sent_through K.written K.settled K.faults sink.old sink.new) result }
 {
     match read_all(alloc, source, MOST) {
-        Ok(bytes) => check_bytes(alloc, &bytes, sink),
+        Ok(bytes) => check_bytes(rt, alloc, &bytes, sink),
         Err(InputNo::Fault) => READ_FAULT,
         Err(InputNo::Memory) => OUT_OF_MEMORY,
     }
 }
 
 // Judges these bytes and tells the judgement.
-fn check_bytes<K: Sink>(alloc: Global, bytes: &[u8], sink: &mut K) -> u8
+fn check_bytes<R: Eprint + Copy, K: Sink>(rt: R, alloc: Global, bytes: &[u8], sink: &mut K) -> u8
     ensures { ChecksBytes bytes.now (sent_through K.written K.settled K.faults sink.old sink.new) result }
 {
     match judge(alloc, bytes) {
         Err(RecordNo::Memory) => OUT_OF_MEMORY,
-        judged => write_verdict(judged, sink),
+        judged => {
+            advise(rt, judged);
+            write_verdict(judged, sink)
+        }
     }
 }
 
@@ -47,6 +58,13 @@ fn judge(alloc: Global, bytes: &[u8]) -> Result<Checked, RecordNo>
 {
     let case = read_record(alloc, bytes)?;
     Ok(check(alloc, &case)?)
+}
+
+// Says what is wrong with bytes that are no record.
+fn advise<R: Eprint + Copy>(rt: R, judged: Result<Checked, RecordNo>) {
+    if let Err(why) = judged {
+        say_no_record(rt, why);
+    }
 }
 
 // Tells a judgement.

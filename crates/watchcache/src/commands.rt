@@ -8,6 +8,7 @@ ghost use Rattle.watchcache.specs.Run.{Does, ends_of, use_of};
 use crate::checks::check_record;
 use crate::loads::load;
 use crate::peer::serve_any;
+use crate::server::Setup;
 use crate::session::run_session;
 use crate::statuses::OUT_OF_MEMORY;
 use crate::texts::{write_bad_line, write_help, write_version};
@@ -41,10 +42,12 @@ where
         Ok(Asked::Help) => write_help(sink),
         Ok(Asked::Version) => write_version(sink),
         Ok(Asked::Session(settings)) => run_session(alloc, &settings, source, sink, clock),
-        Ok(Asked::Serve(options)) => serve_any(rt, alloc, options, sink, clock, net, redial),
+        Ok(Asked::Serve(options)) => {
+            serve_any(Setup { rt, alloc, options }, sink, clock, net, redial)
+        }
         Ok(Asked::Load(options)) => load(alloc, options, sink),
-        Ok(Asked::Check) => check_record(alloc, source, sink),
-        Err(WordsNo::Bad) => write_bad_line(sink),
+        Ok(Asked::Check) => check_record(rt, alloc, source, sink),
+        Err(WordsNo::Bad(_)) => write_bad_line(sink),
         Err(WordsNo::Memory) => OUT_OF_MEMORY,
     }
 }

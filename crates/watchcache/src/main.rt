@@ -6,6 +6,7 @@
 //! `watchcache --help` says which options they have.
 #![tactic(auto)]
 
+mod advice;
 mod checks;
 mod commands;
 mod inputs;
@@ -22,16 +23,17 @@ ghost use Rattle.edge_io.specs.Sent.{sent_through};
 ghost use Rattle.std.specs.Prelude.{◌≡◌, ◌<◌, ◌^◌, map, string_bytes};
 ghost use Rattle.watchcache.specs.Run.{IsRun, ends_of, use_of};
 
+use advice::say_fault;
 use bells::Rung;
-use command_line::read_words;
+use command_line::{WordsNo, read_words};
 use commands::perform;
 use edge_io::{Clock, Listener, Net, ReadEnd, Sink, Source, StepClock, SystemClock, WriteEnd};
 use net_front::{Host, Redial};
 use redial::LoopbackRedial;
-use statuses::OUT_OF_MEMORY;
+use statuses::{BAD_WORDS, OUT_OF_MEMORY};
 use std::alloc::{AllocError, Global};
 use std::env::{self, Env};
-use std::io::ErrorKind;
+use std::io::{Eprint, ErrorKind};
 use std::process::ExitCode;
 use tcp_net::LoopbackNet;
 
@@ -104,7 +106,17 @@ fn main(rt: HostRuntime) -> ExitCode {
             &mut redial,
         )
     };
+    if status == BAD_WORDS {
+        explain(rt, alloc, &words);
+    }
     ExitCode::from(status)
+}
+
+// Says what is wrong with words that ask for nothing.
+fn explain<R: Eprint + Copy>(rt: R, alloc: Global, words: &[String]) {
+    if let Err(WordsNo::Bad(fault)) = read_words(alloc, words) {
+        say_fault(rt, alloc, words, fault);
+    }
 }
 
 /// The words of the command line behind the program's name. No word stands for words that can't be read, as one that

@@ -1,8 +1,9 @@
-//! A server of many connections.
+//! A server of many connections, over one log.
 
-ghost use Rattle.std.specs.Prelude.{◌≡◌, ◌<◌, ◌^◌, ◌↔◌, [], false, IsTrue};
+ghost use Rattle.std.specs.Prelude.{◌≡◌, ◌<◌, ◌≤◌, ◌^◌, ◌↔◌, [], IfOk, IfSome, IsTrue, false, true};
 ghost use Rattle.command_line.specs.Words.{AreServed};
 ghost use Rattle.edge_io.specs.Sent.{sent_through};
+ghost use Rattle.net_front.specs.Ends.{MayEnd, most_connections};
 ghost use Rattle.up_api.specs.Settings.{AreInRange};
 ghost use Rattle.watchcache.specs.Run.{IsTold, RunsServer, TellsSessions, use_of};
 ghost use Rattle.watchcache.specs.Texts.{sessions};
@@ -11,10 +12,12 @@ use crate::statuses::{DONE, NET_FAULT, OUT_OF_MEMORY};
 use crate::telling::tell;
 use bells::Rung;
 use command_line::ServeOptions;
-use edge_io::{Clock, Listener, Net, Sink};
+use edge_io::{Clock, Listener, Net, Sink, Source};
 use itoa::Buffer;
 use kube_meta::Memory;
-use net_front::{Host, Served, serve_open};
+use mirror_link::Mirror;
+use mirror_opening::Opening;
+use net_front::{Host, Redial, Served, serve_mirror, serve_open};
 use rev_front::{Blank, blank};
 use rev_log::Revision;
 use shared_client::Cacher;
@@ -24,121 +27,226 @@ use std::sync::Wait;
 use up_api::{LogFacts, Settings};
 use up_store::{Store, StoreDoor};
 
-/// The first revision of a new log.
-const FIRST: u64 = 1;
+/// What a server has from the start: the runtime, memory, and how it is set.
+#[derive(Clone, Copy)]
+pub struct Setup<R> {
+    pub rt: R,
+    pub alloc: Global,
+    pub options: ServeOptions,
+}
 
-/// Serves the connections to a port, over caches of one new log, and tells how many there were. Answers the status.
-pub fn serve<R: Host, K: Sink, T: Clock + Send, N: Net>(
-    rt: R,
-    alloc: Global,
-    options: ServeOptions,
+/// How a log begins: empty at its first revision, or with the pods that a peer had there.
+#[derive(Drop)]
+pub struct Beginning<S> {
+    pub first: u64,
+    pub peer: Option<Peer<S>>,
+}
+
+/// A peer whose pods were read: these, what comes from it behind them, and its port.
+#[derive(Drop)]
+pub struct Peer<S> {
+    pub opening: Opening,
+    pub source: S,
+    pub port: u16,
+}
+
+/// Serves the connections to a port, over caches of one log that begins so, and tells how many there were. A peer with
+/// whose pods it begins is followed, by `redial` too. Answers the status.
+pub fn serve_log<R, S, K, T, N, D>(
+    setup: Setup<R>,
+    beginning: Beginning<S>,
     sink: &mut K,
     clock: &mut T,
     net: &mut N,
+    redial: &mut D,
 ) -> u8
 where
+    R: Host,
+    S: Source + Send + Drop,
+    K: Sink,
+    T: Clock + Send,
+    N: Net,
+    D: Redial + Send,
     <N::L as Listener>::T: Rung,
-    requires range { AreServed options }
+    requires range { AreServed setup.options }
+    requires first { (1 ≤ beginning.first) × (beginning.first ≤ 2 ^ 62) }
+    requires opened { IfSome beginning.peer (λ peer. beginning.first ≡ peer.opening.base) }
     requires few_faults { N.faults net.old < 2 ^ 62 }
-    ensures { RunsServer options (use_of N.faults N.served N.ended N.peer net.old net.new)
+    ensures { RunsServer setup.options (use_of N.faults N.served N.ended N.peer net.old net.new)
         (sent_through K.written K.settled K.faults sink.old sink.new) result }
 {
-    match blank(alloc, FIRST) {
-        Ok(made) => serve_log::<Brand, R, K, T, N>(rt, alloc, made, options, sink, clock, net),
+    let Ok(listener) = net.listen(setup.options.port) else {
+        return NET_FAULT;
+    };
+    match serve_port(setup, beginning, listener, clock, redial) {
+        Ok(served) => finish(served, sink, net),
         Err(_) => OUT_OF_MEMORY,
     }
 }
 
-// The same, over the log whose table was just made.
-fn serve_log<L: LogFacts + Send + Sync, R: Host, K: Sink, T: Clock + Send, N: Net>(
-    rt: R,
-    alloc: Global,
+// Serves what a listener gives, over a new log.
+fn serve_port<R, S, L, T, D>(
+    setup: Setup<R>,
+    beginning: Beginning<S>,
+    listener: L,
+    clock: &mut T,
+    redial: &mut D,
+) -> Result<Served<L>, Memory>
+where
+    R: Host,
+    S: Source + Send + Drop,
+    L: Listener + Send + Drop,
+    T: Clock + Send,
+    D: Redial + Send,
+    L::T: Rung,
+    requires range { AreServed setup.options }
+    requires first { (1 ≤ beginning.first) × (beginning.first ≤ 2 ^ 62) }
+    requires opened { IfSome beginning.peer (λ peer. beginning.first ≡ peer.opening.base) }
+    requires fresh { (L.given listener ≡ 0) × (L.faults listener ≡ 0) }
+    ensures accepted { IfOk result (λ served. served.accepted ≡ L.given served.listener) }
+    ensures faulted { IfOk result (λ served. IsTrue served.faulted ↔ (0 < L.faults served.listener)) }
+    ensures ended { IfOk result
+        (λ served. MayEnd (L.over served.listener) (L.faults served.listener) served.accepted (most_connections setup.options.connections)) }
+{
+    let Beginning { first, peer } = beginning;
+    let made = blank(setup.alloc, first)?;
+    match peer {
+        None => serve_empty::<Brand, R, L, T>(setup, made, listener, clock),
+        Some(opened) => serve_mirrored::<Brand, R, S, L, T, D>(
+            setup, made, opened, listener, clock, redial,
+        ),
+    }
+}
+
+// Over the log whose table was just made, and which is empty.
+fn serve_empty<F, R, L, T>(
+    setup: Setup<R>,
     made: Blank<Revision>,
-    options: ServeOptions,
-    sink: &mut K,
+    listener: L,
     clock: &mut T,
-    net: &mut N,
-) -> u8
+) -> Result<Served<L>, Memory>
 where
-    <N::L as Listener>::T: Rung,
-    requires name { made ≡ L.log }
-    requires base { L.base ≡ [] }
-    requires own { L.mirror ≡ false }
-    requires window { L.window ≡ options.settings.window }
-    requires range { AreServed options }
-    requires few_faults { N.faults net.old < 2 ^ 62 }
-    ensures { RunsServer options (use_of N.faults N.served N.ended N.peer net.old net.new)
-        (sent_through K.written K.settled K.faults sink.old sink.new) result }
+    F: LogFacts + Send + Sync,
+    R: Host,
+    L: Listener + Send + Drop,
+    T: Clock + Send,
+    L::T: Rung,
+    requires name { made ≡ F.log }
+    requires base { F.base ≡ [] }
+    requires own { F.mirror ≡ false }
+    requires window { F.window ≡ setup.options.settings.window }
+    requires range { AreServed setup.options }
+    requires fresh { (L.given listener ≡ 0) × (L.faults listener ≡ 0) }
+    ensures accepted { IfOk result (λ served. served.accepted ≡ L.given served.listener) }
+    ensures faulted { IfOk result (λ served. IsTrue served.faulted ↔ (0 < L.faults served.listener)) }
+    ensures ended { IfOk result
+        (λ served. MayEnd (L.over served.listener) (L.faults served.listener) served.accepted (most_connections setup.options.connections)) }
 {
-    match cacher_of::<L, R>(rt, alloc, made, &options.settings) {
+    let Setup { rt, alloc, options } = setup;
+    match cacher_of::<F, R>(rt, alloc, made, &options.settings) {
         Ok(cacher) => {
-            let status = serve_port(rt, alloc, &cacher, options, sink, clock, net);
+            let served = serve_open(
+                &rt,
+                alloc,
+                listener,
+                &cacher,
+                clock,
+                options.workers,
+                options.open,
+                options.connections,
+                &options.settings,
+            );
             cacher.close();
-            status
+            served
         }
-        Err(_) => OUT_OF_MEMORY,
+        Err(no) => Err(no),
     }
 }
 
-// The caches of a new log, behind their locks.
-fn cacher_of<L, R>(
+// The caches of an empty log, behind their locks.
+fn cacher_of<F, R>(
     rt: R,
     alloc: Global,
     made: Blank<Revision>,
     settings: &Settings,
-) -> Result<Cacher<L, R>, Memory>
+) -> Result<Cacher<F, R>, Memory>
 where
-    L: LogFacts,
+    F: LogFacts,
     R: Wait + Copy,
-    requires name { made ≡ L.log }
-    requires base { L.base ≡ [] }
-    requires own { L.mirror ≡ false }
-    requires window { L.window ≡ settings.now.window }
+    requires name { made ≡ F.log }
+    requires base { F.base ≡ [] }
+    requires own { F.mirror ≡ false }
+    requires window { F.window ≡ settings.now.window }
     requires settings { AreInRange settings.now }
 {
     let store = Store::new(alloc, made, settings.history)?;
     Cacher::new(rt, alloc, StoreDoor::new(rt, store)?, settings)
 }
 
-// Listens, serves and tells how many sessions there were.
-fn serve_port<L: LogFacts + Send + Sync, R: Host, K: Sink, T: Clock + Send, N: Net>(
-    rt: R,
-    alloc: Global,
-    cacher: &Cacher<L, R>,
-    options: ServeOptions,
-    sink: &mut K,
+// Over the log whose table was just made, and which begins with a peer's pods.
+fn serve_mirrored<F, R, S, L, T, D>(
+    setup: Setup<R>,
+    made: Blank<Revision>,
+    peer: Peer<S>,
+    listener: L,
     clock: &mut T,
-    net: &mut N,
-) -> u8
+    redial: &mut D,
+) -> Result<Served<L>, Memory>
 where
-    <N::L as Listener>::T: Rung,
-    requires range { AreServed options }
-    requires few_faults { N.faults net.old < 2 ^ 62 }
-    ensures { RunsServer options (use_of N.faults N.served N.ended N.peer net.old net.new)
-        (sent_through K.written K.settled K.faults sink.old sink.new) result }
+    F: LogFacts + Send + Sync,
+    R: Host,
+    S: Source + Send + Drop,
+    L: Listener + Send + Drop,
+    T: Clock + Send,
+    D: Redial + Send,
+    L::T: Rung,
+    requires name { made ≡ F.log }
+    requires first { made.first ≡ peer.opening.base }
+    requires base { F.base ≡ peer.opening.rows }
+    requires mirror { F.mirror ≡ true }
+    requires window { F.window ≡ setup.options.settings.window }
+    requires range { AreServed setup.options }
+    requires fresh { (L.given listener ≡ 0) × (L.faults listener ≡ 0) }
+    ensures accepted { IfOk result (λ served. served.accepted ≡ L.given served.listener) }
+    ensures faulted { IfOk result (λ served. IsTrue served.faulted ↔ (0 < L.faults served.listener)) }
+    ensures ended { IfOk result
+        (λ served. MayEnd (L.over served.listener) (L.faults served.listener) served.accepted (most_connections setup.options.connections)) }
 {
-    let Ok(listener) = net.listen(options.port) else {
-        return NET_FAULT;
-    };
-    let (workers, connections) = (options.workers, options.connections);
-    match serve_open(
-        &rt,
-        alloc,
-        listener,
-        cacher,
-        clock,
-        workers,
-        options.open,
-        connections,
-        &options.settings,
-    ) {
-        Ok(served) => finish(served, sink, net),
-        Err(_) => OUT_OF_MEMORY,
+    let Setup { rt, alloc, options } = setup;
+    let Peer {
+        opening,
+        mut source,
+        port,
+    } = peer;
+    let history = options.settings.history;
+    let mut mirror = Mirror::<F, R>::new(rt, alloc, opening, made, history)?;
+    let door = mirror.door()?;
+    match Cacher::new(rt, alloc, door, &options.settings) {
+        Ok(cacher) => {
+            let served = serve_mirror(
+                &rt,
+                alloc,
+                listener,
+                &cacher,
+                &mut mirror,
+                &mut source,
+                redial,
+                port,
+                clock,
+                options.workers,
+                options.open,
+                options.connections,
+                &options.settings,
+            );
+            cacher.close();
+            served
+        }
+        Err(no) => Err(no),
     }
 }
 
-/// Shuts the listener, and tells how many sessions it gave. That the net failed goes before a failed write.
-pub fn finish<K: Sink, N: Net>(served: Served<N::L>, sink: &mut K, net: &mut N) -> u8
+// Shuts the listener, and tells how many sessions it gave. That the net failed goes before a failed write.
+fn finish<K: Sink, N: Net>(served: Served<N::L>, sink: &mut K, net: &mut N) -> u8
     requires accepted { served.accepted ≡ N.L.given served.listener }
     requires faulted { IsTrue served.faulted ↔ (0 < N.L.faults served.listener) }
     requires few_faults { N.faults net.old < 2 ^ 62 }

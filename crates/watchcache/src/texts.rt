@@ -17,7 +17,7 @@ usage:
   watchcache serve [OPTION]..     serve connections to a port of 127.0.0.1, until it is told to end
   watchcache load [OPTION]..      serve a session of drawn requests in memory, and write five lines of what came of it
   watchcache check                judge the record of a log and of a watch's body on standard input
-  watchcache --help               write this text
+  watchcache --help, -h           write this text
   watchcache --version            write the version
 
 options, each at most once, as --window 50 or --window=50; those of session and serve:
@@ -36,6 +36,7 @@ and of serve:
   --open N          connections that are served side by side, by threads that come as they are wanted: 1 to 65536, default 16384
   --connections N   connections that are accepted before it ends: 0 to 4611686018427387904, default 0, which is all
   --peer N          the port of a server whose pods it mirrors: 1 to 65535, default none
+  --first-revision N  the revision of its empty log, unless it mirrors a peer: 1 to 4611686018427387904, default 1
 
 those of load:
   --from N          what the requests are drawn from: 0 to 4611686018427387904, default 1

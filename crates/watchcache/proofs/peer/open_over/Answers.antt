@@ -4,7 +4,7 @@ use Rattle.watchcache.proofs.peer.open_over.Goals as goal
 
 pub returns-in-Ok : goal.returns-in-Ok
 returns-in-Ok g c =
-    opened c.args.options (sent_through g.K.Sink.written g.K.Sink.settled g.K.Sink.faults c.args.sink.now c.serve_opening.new.sink) c.serve_opening.result
-    (g.N.Net.faults c.args.net.now) (g.N.Net.faults c.serve_opening.new.net) (g.N.Net.served c.args.net.now) (g.N.Net.served c.serve_opening.new.net)
-    (∥ g.N.Net.ended c.serve_opening.new.net ∥₁) (g.N.L.S.Source.left c.args.source) (g.N.Net.peer c.args.net.now)
-    (c.in-Ok.ensures.opens c.serve_opening.ensures.lawful) c.serve_opening.ensures.runs
+    opened c.args.setup.options (sent_through g.K.Sink.written g.K.Sink.settled g.K.Sink.faults c.args.sink.now c.serve_log.new.sink) c.serve_log.result
+    (g.N.Net.faults c.args.net.now) (g.N.Net.faults c.serve_log.new.net) (g.N.Net.served c.args.net.now) (g.N.Net.served c.serve_log.new.net)
+    (∥ g.N.Net.ended c.serve_log.new.net ∥₁) (g.N.L.S.Source.left c.args.source) (g.N.Net.peer c.args.net.now)
+    (c.in-Ok.ensures.opens c.base-first.ensures.lawful) c.serve_log.ensures

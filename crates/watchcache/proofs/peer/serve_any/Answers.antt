@@ -5,7 +5,7 @@ use Rattle.watchcache.proofs.peer.serve_any.Goals as goal
 
 pub returns-in-Some : goal.returns-in-Some
 returns-in-Some g c =
-    subst (λ (p : Option ℕ). RunsEither p c.args.options
+    subst (λ (p : Option ℕ). RunsEither p c.args.setup.options
     (use_of g.N.Net.faults g.N.Net.served g.N.Net.ended g.N.Net.peer c.args.net.now c.serve_peer.new.net)
     (sent_through g.K.Sink.written g.K.Sink.settled g.K.Sink.faults c.args.sink.now c.serve_peer.new.sink) c.serve_peer.result)
     (sym c.in-Some.is) c.serve_peer.ensures
