@@ -1,6 +1,6 @@
 //! A server of many connections, over one log.
 
-ghost use Rattle.std.specs.Prelude.{◌≡◌, ◌<◌, ◌≤◌, ◌^◌, ◌↔◌, [], IfOk, IfSome, IsTrue, false, true};
+ghost use Rattle.std.specs.Prelude.{◌≡◌, ◌<◌, ◌≤◌, ◌^◌, ◌↔◌, [], IfNone, IfOk, IfSome, IsTrue, false, true};
 ghost use Rattle.command_line.specs.Words.{AreServed};
 ghost use Rattle.edge_io.specs.Sent.{sent_through};
 ghost use Rattle.net_front.specs.Ends.{MayEnd, most_connections};
@@ -70,6 +70,7 @@ where
     <N::L as Listener>::T: Rung,
     requires range { AreServed setup.options }
     requires first { (1 ≤ beginning.first) × (beginning.first ≤ 2 ^ 62) }
+    requires empty { IfNone beginning.peer (beginning.first ≡ setup.options.first) }
     requires opened { IfSome beginning.peer (λ peer. beginning.first ≡ peer.opening.base) }
     requires few_faults { N.faults net.old < 2 ^ 62 }
     ensures { RunsServer setup.options (use_of N.faults N.served N.ended N.peer net.old net.new)
@@ -101,6 +102,7 @@ where
     L::T: Rung,
     requires range { AreServed setup.options }
     requires first { (1 ≤ beginning.first) × (beginning.first ≤ 2 ^ 62) }
+    requires empty { IfNone beginning.peer (beginning.first ≡ setup.options.first) }
     requires opened { IfSome beginning.peer (λ peer. beginning.first ≡ peer.opening.base) }
     requires fresh { (L.given listener ≡ 0) × (L.faults listener ≡ 0) }
     ensures accepted { IfOk result (λ served. served.accepted ≡ L.given served.listener) }
@@ -132,6 +134,7 @@ where
     T: Clock + Send,
     L::T: Rung,
     requires name { made ≡ F.log }
+    requires first { made.first ≡ setup.options.first }
     requires base { F.base ≡ [] }
     requires own { F.mirror ≡ false }
     requires window { F.window ≡ setup.options.settings.window }
