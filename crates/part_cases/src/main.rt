@@ -1,4 +1,4 @@
-//! Cases of the parts, as data: readers, ends, logs and their passes, rings, trees, lanes; scripts of a store, of a
+//! Cases of the parts, as data: texts, logs and their passes, rings, trees, lanes; scripts of a store, of a
 //! cache that follows it, and of its watches (`scripts/`).
 //!
 //! Each file that the command line names has rows, each a step and the answer that is wanted, and the file's name says

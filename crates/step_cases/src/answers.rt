@@ -19,8 +19,3 @@ pub fn tell_next(place: usize, number: u64, told: &mut Wording) {
     }
     told.show(&number);
 }
-
-/// Tells bytes as a text between quotation marks, with `\r`, `\n` and `\0` for those.
-pub fn tell_bytes(bytes: &[u8], told: &mut Wording) {
-    told.debug(&str::from_utf8(bytes).unwrap_or("no text"));
-}

@@ -1,28 +1,26 @@
-//! Steps on one part: readers of texts, ends and replies, logs and their passes, rings, trees, lanes.
+//! Steps on one part: texts that are read, logs and their passes, rings, trees, lanes.
 //!
 //! `part_cases` reads the rows. They stand apart from it, since they need few crates, and so are proved sooner.
 #![tactic(auto)]
 
 mod answers;
-mod ends;
 mod fronts;
 mod lanes;
 mod logs;
-mod readers;
 mod rings;
+mod texts;
 mod things;
 mod trees;
 
 use case_rows::{Lines, Steps, Tally, run_rows};
-use ends::Ends;
 pub use fronts::run_passes;
 use lanes::Lanes;
 use logs::Logs;
-use readers::Readers;
 use rings::Rings;
 use std::alloc::Global;
 use std::io;
 use std::rt::Runtime;
+use texts::Texts;
 use trees::Trees;
 
 /// Makes the steps of a file on the part that its name says. One that names no part is a mismatch.
@@ -33,8 +31,7 @@ pub fn run_steps<R: Runtime>(
     tally: &mut Tally,
 ) -> io::Result<()> {
     match lines.file {
-        "readers.txt" => run_on(rt, alloc, lines, Readers, tally),
-        "ends.txt" => run_on(rt, alloc, lines, Ends, tally),
+        "texts.txt" => run_on(rt, alloc, lines, Texts, tally),
         "rings.txt" => run_on(rt, alloc, lines, Rings::new(alloc)?, tally),
         "trees.txt" => run_on(rt, alloc, lines, Trees::new(alloc)?, tally),
         "logs.txt" => run_on(rt, alloc, lines, Logs::new(alloc), tally),

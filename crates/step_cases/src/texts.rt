@@ -1,16 +1,18 @@
-//! Readers of texts: revisions, keys, selectors.
+//! Texts that are read: revisions, keys, selectors; and one that is written.
 
 use case_rows::{NO_STEP, Steps, Wording, plain, split};
+use edge_io::MemSink;
 use field_select::FieldSel;
+use http_send::{begin_chunk, end_chunk, part};
 use kube_meta::{Key, KeyNo, Memory, Resource, Rev, Text};
 use label_select::LabelSel;
 use std::alloc::Global;
 
-/// Readers need nothing that stands from step to step.
+/// Texts need nothing that stands from step to step.
 #[derive(Clone, Copy)]
-pub struct Readers;
+pub struct Texts;
 
-impl Steps for Readers {
+impl Steps for Texts {
     fn answer(&mut self, alloc: Global, step: &str, told: &mut Wording) -> Result<(), Memory> {
         tell(alloc, plain(alloc, step)?.as_str(), told);
         Ok(())
@@ -25,6 +27,7 @@ fn tell(alloc: Global, step: &str, told: &mut Wording) {
         "key" => told.debug(&key_fault(alloc, text)),
         "labels" => told.debug(&LabelSel::read(alloc, text).err()),
         "fields" => told.debug(&FieldSel::read(alloc, text, Resource::Pods).err()),
+        "chunk" => chunk(alloc, told),
         _ => told.add(NO_STEP),
     }
 }
@@ -33,4 +36,20 @@ fn tell(alloc: Global, step: &str, told: &mut Wording) {
 fn key_fault(alloc: Global, text: &str) -> Result<Option<KeyNo>, Memory> {
     let (ns, name) = split(text);
     Ok(Key::new(Text::new(alloc, ns)?, Text::new(alloc, name)?).err())
+}
+
+/// A chunk of one byte, in parts of none, of that byte and of none: whether it was written, and its text.
+fn chunk(alloc: Global, told: &mut Wording) {
+    let mut sink = MemSink::new(usize::MAX, Vec::new(alloc));
+    told.show(&write_chunk(&mut sink));
+    told.add(" ");
+    told.debug(&str::from_utf8(sink.bytes()).unwrap_or("no text"));
+}
+
+fn write_chunk(sink: &mut MemSink) -> bool {
+    begin_chunk(sink, 1).is_ok()
+        & part(sink, b"").is_ok()
+        & part(sink, b"x").is_ok()
+        & part(sink, b"").is_ok()
+        & end_chunk(sink).is_ok()
 }
