@@ -2,22 +2,23 @@
 
 ghost use Rattle.std.specs.Prelude.{◌≡◌, true};
 
-use crate::asks::tell_written;
-use crate::logs::{HISTORY, list};
-use crate::openings::opening_of;
-use crate::whose::Whose;
-use crate::words::bytes_of;
-use case_rows::{Steps, Wording};
+use crate::whose::{Whose, opening_of, tell_rows, tell_why};
+use crate::words::text_of;
+use case_rows::{Steps, Wording, number};
 use edge_io::{MemSink, MemSource};
-use kube_meta::Memory;
+use kube_meta::{Memory, Resource};
 use mirror_link::{Heard, Mirror};
-use mirror_opening::{LinkNo, Opening};
+use mirror_opening::Opening;
 use rev_front::{Blank, blank};
 use rev_log::Revision;
 use std::alloc::Global;
 use std::marker::Brand;
 use std::sync::Wait;
-use up_api::LogFacts;
+use up_api::{LogFacts, Pass, Upstream};
+use up_store::StoreDoor;
+
+/// How many revisions the store of a mirror keeps.
+const HISTORY: u64 = 1000;
 
 /// Mirrors that follow a peer.
 #[derive(Drop)]
@@ -30,7 +31,8 @@ impl<'a, R: Wait> Steps for Links<'a, R> {
     fn answer(&mut self, alloc: Global, step: &str, told: &mut Wording) -> Result<(), Memory> {
         let (whose, rest) = Whose::split(step);
         let (first, others) = rest.split_once(" | ").unwrap_or((rest, ""));
-        let (mut source, mut sink) = ends_of(alloc, first)?;
+        let mut source = source_of(alloc, first)?;
+        let mut sink = MemSink::new(65536, Vec::new(alloc));
         match opening_of(alloc, whose, &mut source, &mut sink, told)? {
             Some(opening) => begin(self.rt, alloc, opening, &mut source, others, told),
             None => Ok(()),
@@ -38,12 +40,10 @@ impl<'a, R: Wait> Steps for Links<'a, R> {
     }
 }
 
-// A connection that gives the bytes of words, and the sink beside it.
-fn ends_of(alloc: Global, words: &str) -> Result<(MemSource, MemSink), Memory> {
-    Ok((
-        MemSource::new(bytes_of(alloc, words)?, 65536, Vec::new(alloc)),
-        MemSink::new(65536, Vec::new(alloc)),
-    ))
+// A connection that gives the text of words.
+fn source_of(alloc: Global, words: &str) -> Result<MemSource, Memory> {
+    let bytes = text_of(alloc, words)?.as_bytes().to_vec(alloc)?;
+    Ok(MemSource::new(bytes, 65536, Vec::new(alloc)))
 }
 
 // Begins the log of an opening.
@@ -56,7 +56,6 @@ fn begin<R: Wait>(
     told: &mut Wording,
 ) -> Result<(), Memory> {
     let made = blank(alloc, opening.base())?;
-    let others = String::from_str(alloc, others)?;
     follow::<Brand, R>(rt, alloc, opening, made, source, others, told)
 }
 
@@ -67,7 +66,7 @@ fn follow<N: LogFacts, R: Wait>(
     opening: Opening,
     made: Blank<Revision>,
     source: &mut MemSource,
-    others: String,
+    others: &str,
     told: &mut Wording,
 ) -> Result<(), Memory>
     requires name { made ≡ N.log }
@@ -77,22 +76,54 @@ fn follow<N: LogFacts, R: Wait>(
 {
     let mut mirror: Mirror<N, &R> = Mirror::new(rt, alloc, opening, made, HISTORY)?;
     hear(&mut mirror, source, told)?;
-    for words in others.as_str().split(" | ") {
+    for words in others.split(" | ") {
         if !words.is_empty() {
             told.add(" | ");
-            connect(alloc, &mut mirror, words, told)?;
+            go_on(alloc, &mut mirror, words, told)?;
         }
     }
     told.add("; ");
-    stand(&mirror, told)
+    list(&mirror, mirror.to(), told)
 }
 
-// The pods that stand at a mirror's end.
-fn stand<N: LogFacts, R: Wait>(mirror: &Mirror<N, &R>, told: &mut Wording) -> Result<(), Memory> {
+// Lists the store of a mirror at a revision; or goes on over another connection, or begins anew there.
+fn go_on<N: LogFacts, R: Wait>(
+    alloc: Global,
+    mirror: &mut Mirror<N, &R>,
+    words: &str,
+    told: &mut Wording,
+) -> Result<(), Memory> {
+    match words.strip_prefix("LIST:") {
+        Some(at) => list(mirror, number(at), told),
+        None => connect(alloc, mirror, words, told),
+    }
+}
+
+// The pods that stand at a revision.
+fn list<N: LogFacts, R: Wait>(
+    mirror: &Mirror<N, &R>,
+    at: u64,
+    told: &mut Wording,
+) -> Result<(), Memory> {
     let mut door = mirror.door()?;
     let mut pass = door.pass()?;
-    list(&mut door, &mut pass, mirror.to(), told);
+    tell_list(&mut door, &mut pass, at, told);
     Ok(())
+}
+
+fn tell_list<N: LogFacts, R: Wait>(
+    door: &mut StoreDoor<N, &R>,
+    pass: &mut Pass<N>,
+    at: u64,
+    told: &mut Wording,
+) {
+    match door.list_at(Resource::Pods, at, pass) {
+        Ok(rows) => {
+            told.show(&format_args!("at {at}"));
+            tell_rows(&rows, told);
+        }
+        Err(no) => told.debug(&no),
+    }
 }
 
 // What is written to go on over another connection, or to begin anew over it, and what is heard there.
@@ -102,22 +133,28 @@ fn connect<N: LogFacts, R: Wait>(
     words: &str,
     told: &mut Wording,
 ) -> Result<(), Memory> {
-    let (anew, words) = match words.strip_prefix("ANEW ") {
-        Some(words) => (true, words),
-        None => (false, words),
-    };
-    let (mut source, mut sink) = ends_of(alloc, words)?;
-    let asked = if anew {
+    let anew = words.strip_prefix("ANEW ");
+    let mut source = source_of(alloc, anew.unwrap_or(words))?;
+    let mut sink = MemSink::new(65536, Vec::new(alloc));
+    let asked = if anew.is_some() {
         mirror.reopen(&mut source, &mut sink)
     } else {
         mirror.resume(&mut source, &mut sink)
     };
     tell_written(sink.bytes(), told);
-    told.add(" ");
     match asked {
         Ok(()) => hear(mirror, &mut source, told),
         Err(why) => tell_why(why, told),
     }
+}
+
+// The lines that were written.
+fn tell_written(bytes: &[u8], told: &mut Wording) {
+    let text = str::from_utf8(bytes).unwrap_or("(no UTF-8)");
+    for line in text.lines() {
+        told.show(&format_args!("{line}<CRLF>"));
+    }
+    told.add(" ");
 }
 
 // What a mirror hears, up to where nothing more comes.
@@ -137,14 +174,4 @@ fn hear<N: LogFacts, R: Wait>(
         }
     }
     Ok(())
-}
-
-fn tell_why(why: LinkNo, told: &mut Wording) -> Result<(), Memory> {
-    match why {
-        LinkNo::Memory => Err(Memory),
-        _ => {
-            told.debug(&why);
-            Ok(())
-        }
-    }
 }

@@ -1,28 +1,22 @@
-//! Cases of mirrors, as data: texts that are read as lines of a peer's watch, streams of bytes that are read as lines,
-//! requests, openings, logs that hear lines, and mirrors over connections. Each file that the command line names has
-//! rows, each a step and the answer that is wanted. How they are written stands in `data/README.txt`.
+//! Cases of mirrors, as data: streams of bytes that are read as lines of a peer's watch, openings, and mirrors over
+//! connections. Each file that the command line names has rows, each a step and the answer that is wanted. How they are
+//! written stands in `data/README.txt`.
 #![tactic(auto)]
 
-mod asks;
 mod links;
-mod logs;
 mod openings;
 mod streams;
-mod texts;
 mod whose;
 mod words;
 
-use asks::Asks;
 use case_rows::{Lines, Tally, run_rows};
 use links::Links;
-use logs::Logs;
 use openings::Openings;
 use std::alloc::Global;
 use std::rt::Runtime;
 use std::sync::Wait;
 use std::{env, fs, io};
 use streams::Streams;
-use texts::Texts;
 
 fn main(rt: HostRuntime) -> io::Result<()> {
     let mut tally = Tally::new();
@@ -46,12 +40,9 @@ fn run_file<R: Runtime + Wait>(
     tally: &mut Tally,
 ) -> io::Result<()> {
     match lines.file {
-        "lines.txt" => run_rows(rt, alloc, lines, &mut Texts, tally),
-        "asks.txt" => run_rows(rt, alloc, lines, &mut Asks, tally),
-        "openings.txt" => run_rows(rt, alloc, lines, &mut Openings, tally),
-        "logs.txt" => run_rows(rt, alloc, lines, &mut Logs { rt }, tally),
-        "links.txt" => run_rows(rt, alloc, lines, &mut Links { rt }, tally),
         "streams.txt" => run_rows(rt, alloc, lines, &mut Streams, tally),
+        "openings.txt" => run_rows(rt, alloc, lines, &mut Openings, tally),
+        "links.txt" | "logs.txt" => run_rows(rt, alloc, lines, &mut Links { rt }, tally),
         _ => {
             tally.count(false);
             Ok(())

@@ -2,15 +2,12 @@
 
 ghost use Rattle.std.specs.Prelude.{◌≤◌, length};
 
-use crate::asks::fails_of;
 use crate::streams::tell_both;
-use crate::whose::{Whose, namespace_of, selector_of};
-use crate::words::bytes_of;
-use case_rows::{Steps, Wording, split, tell_row};
+use crate::whose::{Whose, opening_of, tell_rows};
+use crate::words::text_of;
+use case_rows::{Steps, Wording, split};
 use edge_io::{MemSink, MemSource};
-use kube_meta::{Memory, Resource, Row};
-use mirror_opening::{LinkNo, Opening};
-use select_all::Selection;
+use kube_meta::Memory;
 use std::alloc::Global;
 
 /// Peers that are asked for their pods.
@@ -20,12 +17,13 @@ pub struct Openings;
 impl Steps for Openings {
     fn answer(&mut self, alloc: Global, step: &str, told: &mut Wording) -> Result<(), Memory> {
         let (how, rest) = split(step);
-        if how == "CUT" || how == "READ" || how == "WRITE" {
-            let (whose, words) = Whose::split(rest);
-            return sweep(alloc, whose, how, &bytes_of(alloc, words)?, told);
+        let sweeps = how == "CUT" || how == "READ" || how == "WRITE";
+        let (whose, words) = Whose::split(if sweeps { rest } else { step });
+        let text = text_of(alloc, words)?;
+        if sweeps {
+            return sweep(alloc, whose, how, text.as_bytes(), told);
         }
-        let (whose, words) = Whose::split(step);
-        open_both(alloc, whose, &bytes_of(alloc, words)?, told)
+        open_both(alloc, whose, text.as_bytes(), told)
     }
 }
 
@@ -42,50 +40,8 @@ fn open_both(
     Ok(())
 }
 
-/// An opening over these ends. Where there is none, it tells why.
-pub fn opening_of(
-    alloc: Global,
-    whose: Whose<'_>,
-    source: &mut MemSource,
-    sink: &mut MemSink,
-    told: &mut Wording,
-) -> Result<Option<Opening>, Memory> {
-    let ns = namespace_of(alloc, whose.ns)?;
-    let label = selector_of(alloc, whose.label)?;
-    let field = selector_of(alloc, whose.field)?;
-    let (label, field) = (label.as_str(), field.as_str());
-    match Selection::read(alloc, Resource::Pods, ns, label, field) {
-        Ok(selection) => read(
-            Opening::read(alloc, selection, label, field, source, sink),
-            told,
-        ),
-        Err(_) => {
-            told.add("no selection");
-            Ok(None)
-        }
-    }
-}
-
-fn read(read: Result<Opening, LinkNo>, told: &mut Wording) -> Result<Option<Opening>, Memory> {
-    match read {
-        Ok(opening) => Ok(Some(opening)),
-        Err(LinkNo::Memory) => Err(Memory),
-        Err(why) => {
-            told.debug(&why);
-            Ok(None)
-        }
-    }
-}
-
-/// Rows in words, each behind a blank.
-pub fn tell_rows(rows: &[Row], told: &mut Wording) {
-    for row in rows {
-        told.add(" ");
-        tell_row(row, told);
-    }
-}
-
-// The base and the rows of the opening over a connection that breaks at a place, or why there is none.
+// The base and the rows of the opening over a connection that breaks at a place, or why there is none: the source's
+// bytes are cut off, or its call there fails, or the sink's does. A call takes one byte, unless the bytes are cut off.
 fn broken_at(
     alloc: Global,
     whose: Whose<'_>,
@@ -95,31 +51,25 @@ fn broken_at(
 ) -> Result<String, Memory>
     requires { at ≤ length bytes.now }
 {
-    let mut told = Wording::new(alloc);
-    tell_broken(alloc, whose, how, bytes, at, &mut told)?;
-    told.whole()
-}
-
-// Tells of the opening over a connection that breaks at a place: the source's bytes are cut off, or its call there
-// fails, or the sink's does. A call takes one byte, unless the bytes are cut off.
-fn tell_broken(
-    alloc: Global,
-    whose: Whose<'_>,
-    how: &str,
-    bytes: &[u8],
-    at: usize,
-    told: &mut Wording,
-) -> Result<(), Memory>
-    requires { at ≤ length bytes.now }
-{
     let (bytes, step) = match how {
         "CUT" => (&bytes[..at], 65536),
         _ => (bytes, 1),
     };
     let fails = fails_of(alloc, how == "READ", at as u64)?;
     let mut source = MemSource::new(bytes.to_vec(alloc)?, step, fails);
-    let fails = fails_of(alloc, how == "WRITE", at as u64)?;
-    tell_opening(alloc, whose, &mut source, &mut MemSink::new(1, fails), told)
+    let mut sink = MemSink::new(1, fails_of(alloc, how == "WRITE", at as u64)?);
+    let mut told = Wording::new(alloc);
+    tell_opening(alloc, whose, &mut source, &mut sink, &mut told)?;
+    told.whole()
+}
+
+// The calls that fail: this one, if any does.
+fn fails_of(alloc: Global, fails: bool, call: u64) -> Result<Vec<u64>, Memory> {
+    let mut calls = Vec::new(alloc);
+    if fails {
+        calls.push(call)?;
+    }
+    Ok(calls)
 }
 
 fn tell_opening(
@@ -136,7 +86,7 @@ fn tell_opening(
     Ok(())
 }
 
-// How the openings end whose connections break at each place in turn: so many by the refusal, then so many not at all.
+// How the openings end whose connections break at each place in turn: how often each answer comes, in order.
 fn sweep(
     alloc: Global,
     whose: Whose<'_>,

@@ -2,13 +2,13 @@
 
 ghost use Rattle.std.specs.Prelude.{◌<◌};
 
-use crate::texts::tell_text;
-use crate::words::bytes_of;
+use crate::words::text_of;
 use case_rows::{Steps, Wording};
 use edge_io::MemSource;
 use kube_meta::{Memory, Resource};
 use line_stream::{LineReader, Step};
 use std::alloc::Global;
+use watch_read::{PeerLine, read_line};
 
 /// How much data is read where a row doesn't say it.
 const ROOM: u64 = 1 << 30;
@@ -20,25 +20,10 @@ pub struct Streams;
 impl Steps for Streams {
     fn answer(&mut self, alloc: Global, step: &str, told: &mut Wording) -> Result<(), Memory> {
         if let Some(words) = step.strip_prefix("CUT ") {
-            return cut(alloc, &bytes_of(alloc, words)?, told);
+            return cut(alloc, text_of(alloc, words)?.as_bytes(), told);
         }
         let (room, words) = room_of(step);
-        read_both(alloc, &bytes_of(alloc, words)?, room, told)
-    }
-}
-
-// The lines of some bytes that come at once; and of the same that come one by one, where these are others.
-fn read_both(alloc: Global, bytes: &[u8], room: u64, told: &mut Wording) -> Result<(), Memory> {
-    let fast = read(alloc, bytes, room, 65536)?;
-    tell_both(fast.as_str(), read(alloc, bytes, room, 1)?.as_str(), told);
-    Ok(())
-}
-
-/// Tells what was read at once, and byte by byte where that is something else.
-pub fn tell_both(fast: &str, slow: &str, told: &mut Wording) {
-    told.add(fast);
-    if slow != fast {
-        told.show(&format_args!(", and byte by byte {slow}"));
+        read_both(alloc, text_of(alloc, words)?.as_bytes(), room, told)
     }
 }
 
@@ -50,6 +35,22 @@ fn room_of(step: &str) -> (u64, &str) {
         }
     }
     (ROOM, step)
+}
+
+// The lines of some bytes that come at once; and of the same that come one by one, where these are others.
+fn read_both(alloc: Global, bytes: &[u8], room: u64, told: &mut Wording) -> Result<(), Memory> {
+    let fast = read(alloc, bytes, room, 65536)?;
+    let slow = read(alloc, bytes, room, 1)?;
+    tell_both(fast.as_str(), slow.as_str(), told);
+    Ok(())
+}
+
+/// Tells what was read at once, and byte by byte where that is something else.
+pub fn tell_both(fast: &str, slow: &str, told: &mut Wording) {
+    told.add(fast);
+    if slow != fast {
+        told.show(&format_args!(", and byte by byte {slow}"));
+    }
 }
 
 // The lines of some bytes, and how they end.
@@ -75,10 +76,7 @@ fn tell_lines(
 ) -> Result<(), Memory> {
     for _ in 0..most {
         match reader.next_line(source) {
-            Ok(Step::Line) => {
-                tell_text(alloc, Resource::Pods, reader.line(), told)?;
-                told.add("; ");
-            }
+            Ok(Step::Line) => tell_line(&read_line(alloc, Resource::Pods, reader.line())?, told),
             Ok(Step::Over) => {
                 told.add("Over");
                 return Ok(());
@@ -92,15 +90,28 @@ fn tell_lines(
     Ok(())
 }
 
+// What a text is read as.
+fn tell_line(line: &Option<PeerLine>, told: &mut Wording) {
+    match line {
+        Some(PeerLine::Told { kind, obj, rev }) => {
+            told.show(&format_args!("{kind:?} {} {rev}; ", obj.key.as_str()));
+        }
+        Some(PeerLine::Bookmark { at, closing }) => {
+            let name = if *closing { "Closing" } else { "Bookmark" };
+            told.show(&format_args!("{name} {at}; "));
+        }
+        Some(PeerLine::Error { code }) => told.show(&format_args!("Error {code}; ")),
+        None => told.add("none; "),
+    }
+}
+
 // How often the bytes, cut somewhere, aren't read as a beginning of their lines, and then as cut short.
 fn cut(alloc: Global, bytes: &[u8], told: &mut Wording) -> Result<(), Memory> {
     let whole = read(alloc, bytes, ROOM, 65536)?;
     let mut others = 0u64;
     for n in 0..bytes.len() {
-        if !begins(
-            whole.as_str(),
-            read(alloc, &bytes[..n], ROOM, 65536)?.as_str(),
-        ) {
+        let part = read(alloc, &bytes[..n], ROOM, 65536)?;
+        if !begins(whole.as_str(), part.as_str()) {
             others = others.saturating_add(1);
         }
     }
