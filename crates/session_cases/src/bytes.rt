@@ -1,12 +1,13 @@
 //! Bytes that are put one behind the other.
 
-use itoa::Buffer;
 use std::alloc::{AllocError, Global};
+use std::fmt::Display;
 
 /// Bytes that are put one behind the other, as long as there is memory. That it was lacking is told at the end alone,
 /// so that who puts something has no way out in between.
 #[derive(Drop)]
 pub struct Bytes {
+    alloc: Global,
     bytes: Vec<u8>,
     failed: bool,
 }
@@ -15,6 +16,7 @@ impl Bytes {
     /// No bytes yet.
     pub fn none(alloc: Global) -> Bytes {
         Bytes {
+            alloc,
             bytes: Vec::new(alloc),
             failed: false,
         }
@@ -27,35 +29,18 @@ impl Bytes {
         }
     }
 
-    /// Puts a text.
-    pub fn add(&mut self, text: &str) {
-        self.put(text.as_bytes());
-    }
-
-    /// Puts texts, one after the other.
-    pub fn add_all(&mut self, texts: &[&str]) {
-        for text in texts {
-            self.add(text);
-        }
-    }
-
-    /// Puts a number.
-    pub fn number(&mut self, number: u64) {
-        let mut digits = Buffer::new();
-        self.put(digits.format(number).as_bytes());
+    /// Puts a value as it is displayed.
+    pub fn show<D: Display>(&mut self, value: &D) {
+        let text = format!(in self.alloc; "{value}");
+        self.put_made(&text);
     }
 
     /// Puts what there was memory for, or else notes that it was lacking.
-    pub fn add_made(&mut self, made: &Result<String, AllocError>) {
+    pub fn put_made(&mut self, made: &Result<String, AllocError>) {
         match made {
-            Ok(text) => self.add(text.as_str()),
+            Ok(text) => self.put(text.as_bytes()),
             Err(_) => self.failed = true,
         }
-    }
-
-    /// Takes all of them away.
-    pub fn clear(&mut self) {
-        self.bytes.clear();
     }
 
     /// The bytes so far.
@@ -63,9 +48,9 @@ impl Bytes {
         self.bytes.as_slice()
     }
 
-    /// How many they are.
-    pub fn len(&self) -> usize {
-        self.bytes.len()
+    /// Takes all of them away.
+    pub fn clear(&mut self) {
+        self.bytes.clear();
     }
 
     /// Whether there was memory for all of them.

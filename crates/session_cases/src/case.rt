@@ -1,103 +1,106 @@
 //! How a case is written, line by line.
 
-use crate::answer::Answer;
-use crate::faults::Breaks;
-use crate::load::Load;
-use crate::options::Options;
-use crate::request::Requests;
-use case_rows::{says_nothing, split};
-use std::alloc::{AllocError, Global};
+use crate::bytes::Bytes;
+use crate::wanted::{put_line, put_message, put_metrics, put_reply, put_socket, put_stream};
+use case_rows::{Wording, plain, says_nothing, split};
+use std::alloc::Global;
 
-/// What a client sends, how the server is set, and what is wanted to come back.
+/// What a client sends, and what is wanted to come back.
 #[derive(Drop)]
-pub struct Case {
-    pub options: Options,
-    pub requests: Requests,
-    /// The load that is made and served in place of requests.
-    pub load: Option<Load>,
-    /// What is to break off at each place in turn.
-    pub breaks: Vec<Breaks>,
-    pub answer: Answer,
-    // Where each request and its answer begin.
-    begins: Vec<Begin>,
+pub struct Case<'l> {
+    /// Its lines.
+    pub lines: &'l str,
+    pub sent: Bytes,
+    pub wanted: Bytes,
+    /// Where the messages of a WebSocket begin in what is wanted.
+    pub frames_at: Option<usize>,
+    // The fields of the next request.
+    fields: Bytes,
 }
 
-/// How much was sent and came back before a request.
-#[derive(Clone, Copy)]
-struct Begin {
-    sent: usize,
-    answered: usize,
-}
-
-impl Case {
-    /// A case of a client that sends nothing.
-    pub fn new(alloc: Global) -> Case {
-        Case {
-            options: Options::usual(),
-            requests: Requests::none(alloc),
-            load: None,
-            breaks: Vec::new(alloc),
-            answer: Answer::none(alloc),
-            begins: Vec::new(alloc),
-        }
-    }
-
-    /// How much is wanted back where so many bytes are sent, and whether no request is cut in two there.
-    pub fn answered(&self, answer: &Answer, sent: usize) -> (usize, bool) {
-        if sent >= self.requests.bytes.len() {
-            return (answer.bytes.len(), true);
-        }
-        let (mut length, mut is_between) = (0, false);
-        for begin in &self.begins {
-            if begin.sent <= sent {
-                length = begin.answered;
-                is_between = begin.sent == sent;
+impl<'l> Case<'l> {
+    /// Reads the lines of a case, and tells which are none.
+    pub fn read(alloc: Global, lines: &'l str, told: &mut Wording) -> Case<'l> {
+        let mut case = Case {
+            lines,
+            sent: Bytes::none(alloc),
+            wanted: Bytes::none(alloc),
+            frames_at: None,
+            fields: Bytes::none(alloc),
+        };
+        for line in lines.lines() {
+            if !case.take_line(alloc, line) {
+                told.show(&format_args!("    no line of a case: {line}\n"));
             }
         }
-        (length, is_between)
+        case
     }
 
-    /// Takes in a line, and answers whether it is one of a case, or says nothing.
-    pub fn take_line(&mut self, line: &str) -> Result<bool, AllocError> {
-        if says_nothing(line) {
-            return Ok(true);
-        }
+    /// Whether there was memory for all of it.
+    pub fn is_whole(&self) -> bool {
+        self.sent.is_whole() && self.wanted.is_whole() && self.fields.is_whole()
+    }
+
+    // Takes in a line, and answers whether it is one of a case, or says nothing.
+    fn take_line(&mut self, alloc: Global, line: &str) -> bool {
         let (word, text) = split(line);
         match word {
-            "settings" => Ok(self.options.take(text)),
-            "load" => Ok(self.make_load(text)),
-            "breaks" => self.break_off(text),
-            _ => self.take_text(word, text),
+            "settings" | "breaks" | "load" | "end" => {}
+            "field" => self.fields.show(&format_args!("{text}\r\n")),
+            "request" => self.put_request(text),
+            "bytes" => self.sent.put_made(&plain(alloc, text)),
+            "socket" => self.open_socket(text),
+            _ => return says_nothing(line) || take_wanted(&mut self.wanted, word, text),
         }
+        true
     }
 
-    // The load that is made.
-    fn make_load(&mut self, numbers: &str) -> bool {
-        self.load = Load::read(numbers);
-        self.load.is_some()
+    // The head of a WebSocket, behind which its messages begin.
+    fn open_socket(&mut self, accept: &str) {
+        put_socket(&mut self.wanted, accept);
+        self.frames_at = Some(self.wanted.as_slice().len());
     }
 
-    // What is to break off.
-    fn break_off(&mut self, words: &str) -> Result<bool, AllocError> {
-        let Some(breaks) = Breaks::read(words) else {
-            return Ok(false);
-        };
-        self.breaks.push(breaks)?;
-        Ok(true)
+    // A request: its method, its target, and its body, where it has one. A POST and a PUT tell the body's length.
+    fn put_request(&mut self, text: &str) {
+        let (method, rest) = split(text);
+        let (target, body) = split(rest);
+        self.sent
+            .show(&format_args!("{method} {target} HTTP/1.1\r\nHost: x\r\n"));
+        self.sent.put(self.fields.as_slice());
+        self.fields.clear();
+        if method == "POST" || method == "PUT" || !body.is_empty() {
+            self.sent
+                .show(&format_args!("Content-Length: {}\r\n", body.len()));
+        }
+        self.sent.show(&format_args!("\r\n{body}"));
     }
+}
 
-    // Takes in a line of what is sent or comes back.
-    fn take_text(&mut self, word: &str, text: &str) -> Result<bool, AllocError> {
-        let begin = Begin {
-            sent: self.requests.bytes.len(),
-            answered: self.answer.bytes.len(),
-        };
-        if !self.requests.take_line(word, text) {
-            return Ok(self.answer.take_line(word, text));
-        }
-        if word == "request" {
-            self.begins.push(begin)?;
-        }
-        Ok(true)
+// Takes in a line of what is wanted, and answers whether it is one.
+fn take_wanted(wanted: &mut Bytes, word: &str, text: &str) -> bool {
+    match word {
+        "reply" => put_reply(wanted, text, ""),
+        "closing" => put_reply(wanted, text, "Connection: close\r\n"),
+        "metrics" => put_metrics(wanted, text),
+        "text" => wanted.show(&format_args!("{text}\n")),
+        "stream" => put_stream(wanted),
+        "line" => put_line(wanted, text),
+        "stream-end" => wanted.put(b"0\r\n\r\n"),
+        "message" => put_message(wanted, text),
+        "socket-end" => wanted.put(&[136, 2, 3, 232]),
+        _ => return false,
     }
+    true
+}
+
+/// The words behind a word that begins a line; the first such line's.
+pub fn words_of<'a>(lines: &'a str, word: &str) -> Option<&'a str> {
+    for line in lines.lines() {
+        let (first, words) = split(line);
+        if first == word {
+            return Some(words);
+        }
+    }
+    None
 }

@@ -1,14 +1,12 @@
 //! One session, served from memory to memory.
 
-ghost use Rattle.std.specs.Prelude.{◌≡◌, [], false, None};
+ghost use Rattle.std.specs.Prelude.{◌≡◌, ◌≤◌, ◌^◌, [], false, None};
 ghost use Rattle.up_api.specs.Settings.{AreInRange};
 
 use crate::clock::CaseClock;
-use crate::kind::Kind;
-use crate::options::Options;
-use crate::sink::CaseSink;
+use crate::settings::{first_of, option, settings_of};
 use client_api::Client;
-use edge_io::MemSource;
+use edge_io::{MemSink, MemSource};
 use kube_meta::Memory;
 use local_client::LocalClient;
 use rev_front::{Blank, blank};
@@ -21,14 +19,33 @@ use std::sync::Wait;
 use up_api::{LogFacts, Settings};
 use up_store::{Store, StoreDoor};
 
+/// The clients that sessions are served with.
+#[derive(Clone, Copy)]
+pub enum Kind {
+    /// The one that answers from caches of its own.
+    Local,
+    /// One of many that answer from the caches of one log.
+    Shared,
+}
+
+impl Kind {
+    /// How it is named.
+    pub fn word(self) -> &'static str {
+        match self {
+            Kind::Local => "local",
+            Kind::Shared => "shared",
+        }
+    }
+}
+
 /// How a session goes through its ends: the most bytes that are read and written at once, and the calls, from 0, at
 /// which its source and its sink fail.
 #[derive(Clone, Copy)]
 pub struct Way {
     pub read: usize,
     pub write: usize,
-    pub read_fault: Option<usize>,
-    pub write_fault: Option<usize>,
+    pub read_fault: Option<u64>,
+    pub write_fault: Option<u64>,
 }
 
 impl Way {
@@ -41,32 +58,13 @@ impl Way {
             write_fault: None,
         }
     }
-
-    // The ends of a session with this input.
-    fn ends(self, alloc: Global, options: &Options, input: &[u8]) -> Result<Ends, Memory> {
-        let read_faults = calls(alloc, self.read_fault)?;
-        Ok(Ends {
-            source: MemSource::new(input.to_vec(alloc)?, self.read.max(1), read_faults),
-            sink: CaseSink::new(alloc, self.write, calls(alloc, self.write_fault)?),
-            clock: options.clock(),
-        })
-    }
 }
 
-// The number of a call, where there is one.
-fn calls(alloc: Global, call: Option<usize>) -> Result<Vec<u64>, Memory> {
-    let mut calls = Vec::new(alloc);
-    if let Some(call) = call {
-        calls.push(call as u64)?;
-    }
-    Ok(calls)
-}
-
-/// Where a session is read from, where it is written to, and by which clock it goes.
+/// Where a session is read from and written to, and by which clock it goes.
 #[derive(Drop)]
 struct Ends {
     source: MemSource,
-    sink: CaseSink,
+    sink: MemSink,
     clock: CaseClock,
 }
 
@@ -82,25 +80,38 @@ impl Outcome {
     pub fn bytes(&self) -> &[u8] {
         self.ends.sink.bytes()
     }
-
-    /// How much was written before each call of the sink.
-    pub fn before_calls(&self) -> &[usize] {
-        self.ends.sink.before_calls()
-    }
 }
 
-/// Serves a session with a client of this kind, of a new log.
+/// Serves a session with a client of this kind, of a new log, as the lines of its case say that its server is set.
 pub fn serve<R: Wait + Copy + Drop>(
     rt: R,
     alloc: Global,
     kind: Kind,
-    options: &Options,
+    lines: &str,
     input: &[u8],
     way: Way,
 ) -> Result<Outcome, Memory> {
-    let mut ends = way.ends(alloc, options, input)?;
-    let end = serve_through(rt, alloc, kind, options, &mut ends)?;
+    let mut ends = Ends {
+        source: MemSource::new(
+            input.to_vec(alloc)?,
+            way.read.max(1),
+            calls(alloc, way.read_fault)?,
+        ),
+        sink: MemSink::new(way.write.max(1), calls(alloc, way.write_fault)?),
+        clock: CaseClock::new(option(lines, "--stop", 0)),
+    };
+    let settings = settings_of(lines);
+    let end = serve_through(rt, alloc, kind, first_of(lines), &settings, &mut ends)?;
     Ok(Outcome { end, ends })
+}
+
+// The number of a call, where there is one.
+fn calls(alloc: Global, call: Option<u64>) -> Result<Vec<u64>, Memory> {
+    let mut calls = Vec::new(alloc);
+    if let Some(call) = call {
+        calls.push(call)?;
+    }
+    Ok(calls)
 }
 
 // Serves it through these ends.
@@ -108,16 +119,18 @@ fn serve_through<R: Wait + Copy + Drop>(
     rt: R,
     alloc: Global,
     kind: Kind,
-    options: &Options,
+    first: u64,
+    settings: &Settings,
     ends: &mut Ends,
-) -> Result<SessionEnd, Memory> {
-    let settings = options.settings();
-    let first = options.first_revision();
+) -> Result<SessionEnd, Memory>
+    requires low { 1 ≤ first }
+    requires high { first ≤ 2 ^ 62 }
+    requires settings { AreInRange settings.now }
+{
+    let made = blank(alloc, first)?;
     match kind {
-        Kind::Local => serve_local::<Brand>(alloc, blank(alloc, first)?, &settings, ends),
-        Kind::Shared => {
-            serve_shared::<Brand, R>(rt, alloc, blank(alloc, first)?, &settings, ends)
-        }
+        Kind::Local => serve_local::<Brand>(alloc, made, settings, ends),
+        Kind::Shared => serve_shared::<Brand, R>(rt, alloc, made, settings, ends),
     }
 }
 
@@ -133,10 +146,8 @@ fn serve_local<N: LogFacts>(
     requires own { N.mirror ≡ false }
     requires settings { AreInRange settings.now }
 {
-    let mut client: LocalClient<N> = LocalClient::new(alloc, made, settings)?;
-    let end = serve_with(alloc, &mut client, settings, ends);
-    client.close();
-    Ok(end)
+    let client: LocalClient<N> = LocalClient::new(alloc, made, settings)?;
+    Ok(serve_by(alloc, client, settings, ends))
 }
 
 // Serves it with a client that shares the caches of a server.
@@ -183,23 +194,10 @@ fn serve_by<C: Client + Drop>(
     requires settings { AreInRange settings.now }
 {
     let mut client = client;
-    serve_with(alloc, &mut client, settings, ends)
-}
-
-// Serves it with this client.
-fn serve_with<C: Client>(
-    alloc: Global,
-    client: &mut C,
-    settings: &Settings,
-    ends: &mut Ends,
-) -> SessionEnd
-    requires idle { (C.facts client.old).watching ≡ None }
-    requires settings { AreInRange settings.now }
-{
     let Ends {
         source,
         sink,
         clock,
     } = ends;
-    serve_session(alloc, client, source, sink, clock, settings)
+    serve_session(alloc, &mut client, source, sink, clock, settings)
 }

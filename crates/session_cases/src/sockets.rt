@@ -1,34 +1,20 @@
 //! What a WebSocket client reads of a session.
 
-use crate::answer::Answer;
 use std::alloc::Global;
 use tungstenite::{CloseCode, Duplex, Error, Message, NoMask, Role, WebSocket};
 
-/// Whether a client reads the messages that are wanted, and behind them a normal close. An answer without a WebSocket
-/// has none.
-pub fn reads_back(alloc: Global, answer: &Answer, output: &[u8]) -> bool {
-    let Some(at) = answer.socket_at else {
-        return true;
-    };
-    match (
-        output.split_at_checked(at),
-        str::from_utf8(answer.messages.as_slice()),
-    ) {
-        (Some((_head, frames)), Ok(messages)) => reads(alloc, frames, messages),
-        _ => false,
-    }
-}
-
-// Whether a client reads these messages, each of which a line feed ends, and behind them a normal close.
-fn reads(alloc: Global, frames: &[u8], messages: &str) -> bool {
+/// Whether a client reads the messages that the lines of a case name, and behind them a normal close.
+pub fn reads_back(alloc: Global, lines: &str, frames: &[u8]) -> bool {
     let stream = Duplex {
         reader: frames,
         writer: Vec::new(alloc),
     };
     let mut socket = WebSocket::from_raw_socket(alloc, stream, NoMask, Role::Client, None);
     let mut is_read = true;
-    for line in messages.lines() {
-        is_read = is_text(&socket.read(), line) && is_read;
+    for line in lines.lines() {
+        if let Some(text) = line.strip_prefix("message ") {
+            is_read = is_text(&socket.read(), text) && is_read;
+        }
     }
     is_normal_close(&socket.read()) && is_read
 }

@@ -1,188 +1,132 @@
 //! Whether a case comes out as it is wanted, and if not, what comes out.
 
-use crate::answer::Answer;
-use crate::case::Case;
-use crate::difference::{first_difference, tell_around};
-use crate::faults::first_amiss;
-use crate::kind::Kind;
-use crate::load::Load;
-use crate::options::Options;
-use crate::serving::{Outcome, Way, serve};
+ghost use Rattle.std.specs.Prelude.{◌≤◌, ◌^◌};
+
+use crate::breaks::try_break;
+use crate::case::{Case, words_of};
+use crate::serving::{Kind, Way, serve};
 use crate::sockets::reads_back;
-use case_rows::Wording;
+use case_rows::{Wording, number, split};
+use edge_io::MemSink;
 use kube_meta::Memory;
-use sess_serve::SessionEnd;
-use std::alloc::{AllocError, Global};
+use load_gen::run_load;
+use std::alloc::Global;
 use std::sync::Wait;
 
 /// The most bytes that are read and written at once.
-const PIECE: usize = 65_536;
+pub const PIECE: usize = 65_536;
 
-/// Tries a case with a kind of client. Answers what is to be said of it: nothing, where all is as it is wanted.
-pub fn comes_out<R: Wait + Copy + Drop>(
+/// How much is shown before the first place that differs, and from it on.
+const BEFORE: usize = 40;
+
+const BEHIND: usize = 80;
+
+/// What comes out otherwise than the lines of a case want it, with a kind of client; nothing, where all is as it is
+/// wanted.
+pub fn others_of<R: Wait + Copy + Drop>(
     rt: R,
     alloc: Global,
     kind: Kind,
-    name: &str,
-    case: &Case,
-    answer: &Answer,
+    lines: &str,
 ) -> Result<String, Memory> {
-    if !case.requests.is_whole() || !answer.is_whole() {
+    let mut told = Wording::new(alloc);
+    let case = Case::read(alloc, lines, &mut told);
+    try_case(rt, alloc, kind, &case, &mut told)?;
+    told.whole()
+}
+
+// Makes a load, or serves a session, in pieces of either length, and then so that it breaks off.
+fn try_case<R: Wait + Copy + Drop>(
+    rt: R,
+    alloc: Global,
+    kind: Kind,
+    case: &Case<'_>,
+    told: &mut Wording,
+) -> Result<(), Memory> {
+    if !case.is_whole() {
         return Err(Memory);
     }
-    let mut report = Report {
-        kind,
-        name,
-        told: Wording::new(alloc),
-    };
-    report.try_case(rt, alloc, case, answer)?;
-    report.told.whole()
+    if let Some(numbers) = words_of(case.lines, "load") {
+        return try_load(alloc, numbers, case.wanted.as_slice(), told);
+    }
+    for step in [1, PIECE] {
+        try_session(rt, alloc, kind, case, step, told)?;
+    }
+    for line in case.lines.lines() {
+        if let Some(words) = line.strip_prefix("breaks ") {
+            try_break(rt, alloc, kind, case, words, told)?;
+        }
+    }
+    Ok(())
 }
 
-/// What is to be said of a case with a kind of client.
-#[derive(Drop)]
-struct Report<'c> {
+// Compares what the load generator prints, which serves a load with a local client.
+fn try_load(alloc: Global, numbers: &str, wanted: &[u8], told: &mut Wording) -> Result<(), Memory> {
+    let (from, requests) = split(numbers);
+    let mut sink = MemSink::new(7, Vec::new(alloc));
+    match run_load(
+        alloc,
+        number(from).min(1 << 62),
+        number(requests).min(100_000),
+        &mut sink,
+    ) {
+        Ok(()) => compare(wanted, sink.bytes(), told),
+        Err(_) => told.add("    the load came to no end\n"),
+    }
+    Ok(())
+}
+
+// Compares what comes back of a session that is served in such pieces, and its end.
+fn try_session<R: Wait + Copy + Drop>(
+    rt: R,
+    alloc: Global,
     kind: Kind,
-    name: &'c str,
-    told: Wording,
+    case: &Case<'_>,
+    step: usize,
+    told: &mut Wording,
+) -> Result<(), Memory> {
+    let way = Way::in_pieces(step);
+    let outcome = serve(rt, alloc, kind, case.lines, case.sent.as_slice(), way)?;
+    compare(case.wanted.as_slice(), outcome.bytes(), told);
+    if let Some(at) = case.frames_at {
+        let frames = outcome.bytes().get(at..).unwrap_or(b"");
+        if !reads_back(alloc, case.lines, frames) {
+            told.add("    a WebSocket's client reads other messages\n");
+        }
+    }
+    let mut end = Wording::new(alloc);
+    end.debug(&outcome.end);
+    let wanted = words_of(case.lines, "end").unwrap_or("");
+    compare(wanted.as_bytes(), end.whole()?.as_bytes(), told);
+    Ok(())
 }
 
-impl Report<'_> {
-    // Makes a load, or serves a session.
-    fn try_case<R: Wait + Copy + Drop>(
-        &mut self,
-        rt: R,
-        alloc: Global,
-        case: &Case,
-        answer: &Answer,
-    ) -> Result<(), Memory> {
-        match case.load {
-            Some(load) if self.kind == Kind::Local => {
-                self.compare_printed(alloc, answer, load);
-                Ok(())
-            }
-            Some(load) => self.try_load(rt, alloc, load, answer),
-            None => self.try_session(rt, alloc, case, answer),
+/// Tells what stands around the first place at which bytes differ, where they do.
+pub fn compare(wanted: &[u8], given: &[u8], told: &mut Wording) {
+    if wanted != given {
+        let at = first_difference(wanted, given);
+        told.show(&format_args!("    differs from byte {at} on\n"));
+        tell_around("wanted", wanted, at, told);
+        tell_around("is", given, at, told);
+    }
+}
+
+// How many bytes are the same before the first ones that differ.
+fn first_difference(wanted: &[u8], given: &[u8]) -> usize {
+    let common = wanted.len().min(given.len());
+    for at in 0..common {
+        if wanted[at] != given[at] {
+            return at;
         }
     }
+    common
+}
 
-    // Serves a case in pieces, and then so that it breaks off.
-    fn try_session<R: Wait + Copy + Drop>(
-        &mut self,
-        rt: R,
-        alloc: Global,
-        case: &Case,
-        answer: &Answer,
-    ) -> Result<(), Memory> {
-        let input = case.requests.bytes.as_slice();
-        for step in [1, PIECE] {
-            let way = Way::in_pieces(step);
-            let outcome = serve(rt, alloc, self.kind, &case.options, input, way)?;
-            self.compare_session(alloc, answer, &outcome)?;
-        }
-        self.try_breaks(rt, alloc, case, answer)
-    }
-
-    // What the case names breaks off at each place in turn.
-    fn try_breaks<R: Wait + Copy + Drop>(
-        &mut self,
-        rt: R,
-        alloc: Global,
-        case: &Case,
-        answer: &Answer,
-    ) -> Result<(), Memory> {
-        for breaks in case.breaks.as_slice() {
-            if breaks.is_tried_with(self.kind) {
-                let amiss = first_amiss(rt, alloc, self.kind, case, answer, *breaks)?;
-                self.say_amiss(breaks.word(), amiss);
-            }
-        }
-        Ok(())
-    }
-
-    // Serves a load, and compares the figures of what comes back, and its end.
-    fn try_load<R: Wait + Copy + Drop>(
-        &mut self,
-        rt: R,
-        alloc: Global,
-        load: Load,
-        answer: &Answer,
-    ) -> Result<(), Memory> {
-        let input = load.session(alloc)?;
-        let way = Way::in_pieces(PIECE);
-        let options = Options::usual();
-        let outcome = serve(rt, alloc, self.kind, &options, input.as_slice(), way)?;
-        let figures = load.figures(alloc, outcome.bytes())?;
-        self.compare(answer.bytes.as_slice(), figures.as_bytes());
-        self.compare_end(alloc, answer, outcome.end)
-    }
-
-    // The figures of a load that the load generator prints, which serves it with a local client itself.
-    fn compare_printed(&mut self, alloc: Global, answer: &Answer, load: Load) {
-        match load.printed(alloc) {
-            Some(sink) => self.compare(answer.bytes.as_slice(), sink.bytes()),
-            None => self.say("the load came to no end"),
-        }
-    }
-
-    // What a session came to.
-    fn compare_session(
-        &mut self,
-        alloc: Global,
-        answer: &Answer,
-        outcome: &Outcome,
-    ) -> Result<(), AllocError> {
-        self.compare(answer.bytes.as_slice(), outcome.bytes());
-        if !reads_back(alloc, answer, outcome.bytes()) {
-            self.say("a WebSocket's client reads other messages");
-        }
-        self.compare_end(alloc, answer, outcome.end)
-    }
-
-    // How a session ended.
-    fn compare_end(
-        &mut self,
-        alloc: Global,
-        answer: &Answer,
-        end: SessionEnd,
-    ) -> Result<(), AllocError> {
-        let mut told = Wording::new(alloc);
-        told.debug(&end);
-        let end = told.whole()?;
-        self.compare(answer.end.as_slice(), end.as_bytes());
-        Ok(())
-    }
-
-    // Bytes, up to the first place that differs.
-    fn compare(&mut self, wanted: &[u8], given: &[u8]) {
-        if let Some(at) = first_difference(wanted, given) {
-            self.begin();
-            self.told
-                .show(&format_args!("differs from byte {at} on\n    wanted: "));
-            tell_around(wanted, at, &mut self.told);
-            self.told.add("\n    is:     ");
-            tell_around(given, at, &mut self.told);
-            self.told.add("\n");
-        }
-    }
-
-    // Where the case doesn't come out as it is wanted, though this breaks off there.
-    fn say_amiss(&mut self, end: &str, amiss: Option<usize>) {
-        if let Some(at) = amiss {
-            self.begin();
-            self.told.show(&format_args!("otherwise where its {end} breaks off at {at}\n"));
-        }
-    }
-
-    // A line.
-    fn say(&mut self, words: &str) {
-        self.begin();
-        self.told.show(&format_args!("{words}\n"));
-    }
-
-    // Begins a line.
-    fn begin(&mut self) {
-        let (kind, name) = (self.kind.word(), self.name);
-        self.told.show(&format_args!("{kind}, {name}: "));
-    }
+// What stands around a place.
+fn tell_around(name: &str, bytes: &[u8], at: usize, told: &mut Wording) {
+    let from = at.saturating_sub(BEFORE).min(bytes.len());
+    let to = at.saturating_add(BEHIND).min(bytes.len());
+    let part = bytes.get(from..to).unwrap_or(b"");
+    let text = str::from_utf8(part).unwrap_or("(no UTF-8)");
+    told.show(&format_args!("    {name}: {text}\n"));
 }

@@ -2,9 +2,8 @@
 
 use crate::bytes::Bytes;
 use case_rows::split;
-use std::alloc::Global;
 
-/// The phrase of a status code.
+// The phrase of a status code.
 fn phrase(code: &str) -> &'static str {
     match code {
         "200" => "OK",
@@ -27,50 +26,39 @@ fn phrase(code: &str) -> &'static str {
 /// Puts a reply: a code, a blank and its body, which a line feed ends. Last in its head stand some fields of its own.
 pub fn put_reply(text: &mut Bytes, words: &str, fields: &str) {
     let (code, body) = split(words);
-    text.add("HTTP/1.1 ");
-    text.add(code);
-    text.add(" ");
-    text.add(phrase(code));
-    text.add("\r\nContent-Type: application/json\r\nContent-Length: ");
-    text.number((body.len() as u64).saturating_add(1));
-    text.add("\r\n");
-    if code == "504" {
-        text.add("Retry-After: 1\r\n");
-    }
-    text.add(fields);
-    text.add("\r\n");
-    put_text(text, body);
+    let phrase = phrase(code);
+    let length = body.len().saturating_add(1);
+    let retry = if code == "504" {
+        "Retry-After: 1\r\n"
+    } else {
+        ""
+    };
+    text.show(&format_args!("HTTP/1.1 {code} {phrase}\r\nContent-Type: application/json\r\n"));
+    text.show(&format_args!("Content-Length: {length}\r\n{retry}{fields}\r\n{body}\n"));
 }
 
 /// Puts the head of a reply of metrics, whose lines have so many bytes.
 pub fn put_metrics(text: &mut Bytes, length: &str) {
-    text.add("HTTP/1.1 200 OK\r\n");
-    text.add("Content-Type: text/plain; version=0.0.4; charset=utf-8\r\n");
-    text.add_all(&["Content-Length: ", length, "\r\n\r\n"]);
-}
-
-/// Puts a text, which a line feed ends.
-pub fn put_text(text: &mut Bytes, line: &str) {
-    text.add_all(&[line, "\n"]);
+    text.put(b"HTTP/1.1 200 OK\r\nContent-Type: text/plain; version=0.0.4; charset=utf-8\r\n");
+    text.show(&format_args!("Content-Length: {length}\r\n\r\n"));
 }
 
 /// Puts the head of a stream.
 pub fn put_stream(text: &mut Bytes) {
-    text.add("HTTP/1.1 200 OK\r\nContent-Type: application/json\r\n");
-    text.add("Transfer-Encoding: chunked\r\nConnection: close\r\n\r\n");
+    text.put(b"HTTP/1.1 200 OK\r\nContent-Type: application/json\r\n");
+    text.put(b"Transfer-Encoding: chunked\r\nConnection: close\r\n\r\n");
 }
 
 /// Puts a line of a stream as a chunk.
-pub fn put_line(text: &mut Bytes, alloc: Global, line: &str) {
-    text.add_made(&format!(in alloc; "{:x}\r\n", line.len().saturating_add(1)));
-    text.add_all(&[line, "\n\r\n"]);
+pub fn put_line(text: &mut Bytes, line: &str) {
+    let length = line.len().saturating_add(1);
+    text.show(&format_args!("{length:x}\r\n{line}\n\r\n"));
 }
 
 /// Puts the head of a WebSocket with its accept text.
 pub fn put_socket(text: &mut Bytes, accept: &str) {
-    text.add("HTTP/1.1 101 Switching Protocols\r\nUpgrade: websocket\r\n");
-    text.add("Connection: Upgrade\r\nSec-WebSocket-Accept: ");
-    text.add_all(&[accept, "\r\n\r\n"]);
+    text.put(b"HTTP/1.1 101 Switching Protocols\r\nUpgrade: websocket\r\n");
+    text.show(&format_args!("Connection: Upgrade\r\nSec-WebSocket-Accept: {accept}\r\n\r\n"));
 }
 
 /// Puts a line as a message of fewer than 65,536 bytes.
@@ -81,5 +69,5 @@ pub fn put_message(text: &mut Bytes, line: &str) {
     } else {
         text.put(&[129, 126, (length / 256 % 256) as u8, (length % 256) as u8]);
     }
-    text.add(line);
+    text.put(line.as_bytes());
 }
