@@ -55,7 +55,10 @@ impl<'a, R: Wait + Drop + std::time::Clock + Send + Sync> Redial for CaseRedial<
             News::IsOver { why } => told.show(&format_args!("is over: {why}\n")),
             News::BeginsAnew { why } => told.show(&format_args!("begins anew: {why}\n")),
             News::FollowsAgain { from } => told.show(&format_args!("follows again from {from}\n")),
-            News::Ends { why } => told.show(&format_args!("ends: {why}\n")),
+            _ => {}
+        }
+        if let News::Ends { why } = news {
+            told.show(&format_args!("ends: {why}\n"));
         }
         if let Ok(text) = told.whole() {
             self.board.write(0, text.as_bytes());

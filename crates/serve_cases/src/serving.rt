@@ -15,6 +15,7 @@ use rev_log::Revision;
 use shared_client::Cacher;
 use std::alloc::Global;
 use std::collections::VecDeque;
+use std::io::Eprint;
 use std::marker::Brand;
 use std::sync::Wait;
 use std::thread::{self, Threads};
@@ -22,9 +23,9 @@ use up_api::{LogFacts, Settings};
 use up_store::{Store, StoreDoor};
 
 /// What a server needs of the runtime.
-pub trait Host: Wait + Threads + std::time::Clock + Copy + Send + Sync + Drop {}
+pub trait Host: Wait + Threads + std::time::Clock + Eprint + Copy + Send + Sync + Drop {}
 
-impl<R: Wait + Threads + std::time::Clock + Copy + Send + Sync + Drop> Host for R {}
+impl<R: Wait + Threads + std::time::Clock + Eprint + Copy + Send + Sync + Drop> Host for R {}
 
 /// Serves the connections of a case by its servers, and tells what comes out otherwise.
 pub fn serve_case<R: Host>(
