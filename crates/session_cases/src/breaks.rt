@@ -111,9 +111,9 @@ fn broken_at<R: Wait + Copy + Drop>(
     })
 }
 
-// The first call of a sink at which a session that fails there doesn't come out as it should: its end is WriteFault, and
-// what is written is what the calls before took, of which each took at most so many bytes. Where the session makes no
-// such call, all that is wanted is written.
+// The first call of a sink at which a session that fails there doesn't come out as it should: its end is WriteFault,
+// and what is written is what the calls before took, of which each took at most so many bytes. Where the session makes
+// no such call, all that is wanted is written.
 fn first_call_amiss<R: Wait + Copy + Drop>(
     rt: R,
     alloc: Global,

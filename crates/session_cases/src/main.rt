@@ -37,7 +37,8 @@ fn main(rt: HostRuntime) -> io::Result<()> {
     )
 }
 
-/// Runs the cases of a file, each of which begins with a line `case NAME`, with each kind of client; a load has its own.
+/// Runs the cases of a file, each of which begins with a line `case NAME`, with each kind of client; a load has one of
+/// its own.
 fn run_file<R: Runtime + Wait + Copy + Drop>(
     rt: R,
     alloc: Global,
