@@ -1,2 +1,6 @@
 pub mod Ends
 pub mod Visits
+pub mod Rests
+pub mod Helpers
+pub mod Verdicts
+pub mod Probes

@@ -1,7 +1,7 @@
 -- A connection that was served.
 use Rattle.std.specs.Prelude.{◌≡◌, ℕ, List, Option}
 use Rattle.edge_io.specs.Counts.{Rose}
-use Rattle.edge_io.specs.Told.{prepended}
+use Rattle.edge_io.specs.Told.{prepended, appended}
 use Rattle.edge_io.specs.declared.clock.Reading.{Reading}
 use Rattle.rev_front.specs.Passes.{Pass}
 use Rattle.rev_log.specs.Changes.{RevisionData}
@@ -9,24 +9,34 @@ use Rattle.sess_serve.specs.Session.{IsSession}
 use Rattle.sess_serve.specs.declared.ends.SessionEnd.{SessionEnd}
 use Rattle.sess_turns.specs.Terms.{Terms}
 
--- a session stands between the pass that a client had and one that it came to; it took its bytes from the front of what
--- was left in the source, and the counts of faults are those that source and sink had and came to
-pub record IsVisit (terms : Terms) (whole : Type 0) (p : Pass RevisionData) (left : Option (List ℕ)) (source_faults sink_faults : ℕ) (how : SessionEnd) : Type 0 where
+-- the ends of a connection: what is left in its source and was written to its sink, where they tell it, and how many
+-- faults each has counted
+pub record VisitEnds : Type 0 where
+  pub left : Option (List ℕ)
+  pub source_faults : ℕ
+  pub written : Option (List ℕ)
+  pub sink_faults : ℕ
+
+abbrev pub visit_ends : Option (List ℕ) → ℕ → Option (List ℕ) → ℕ → VisitEnds
+visit_ends left source_faults written sink_faults =
+    record { left = left; source_faults = source_faults; written = written; sink_faults = sink_faults }
+
+-- a session stands between the pass that a client had and one that it came to, and it is all that went through the ends
+-- of the connection: it took its bytes from the source, wrote its bytes to the sink, and counted their faults
+pub record IsVisit (terms : Terms) (whole : Type 0) (p : Pass RevisionData) (old new : VisitEnds) (how : SessionEnd) : Type 0 where
   pub taken : List ℕ
-  pub written : List ℕ
+  pub sent : List ℕ
   pub readings : List Reading
-  pub left_new : Option (List ℕ)
-  pub source_faults_new : ℕ
-  pub sink_faults_new : ℕ
   pub last : Pass RevisionData
-  pub source : left ≡ prepended taken left_new
+  pub source : old.left ≡ prepended taken new.left
+  pub sink : new.written ≡ appended old.written sent
   pub session : IsSession terms whole p
       (record {
         taken = taken;
-        written = written;
+        written = sent;
         readings = readings;
-        read_fault = Rose source_faults source_faults_new;
-        write_fault = Rose sink_faults sink_faults_new;
-        left = left_new;
+        read_fault = Rose old.source_faults new.source_faults;
+        write_fault = Rose old.sink_faults new.sink_faults;
+        left = new.left;
       })
       last how

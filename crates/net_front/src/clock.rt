@@ -1,18 +1,18 @@
 //! The clock of a connection, whose rests its bell ends.
 
-ghost use Rattle.std.specs.Prelude.{◌≡◌};
+ghost use Rattle.std.specs.Prelude.{◌≡◌, None};
 
+use crate::disconnects::Disconnects;
 use crate::doorbell::Doorbell;
+use crate::rests::{SHORT_MS, is_stopped, rest_by};
 use crate::schedule::Schedule;
 use bells::{Bell, NO_PEER, Rung};
 use edge_io::{Clock, Reading};
 use std::alloc::Global;
 use std::sync::{Arc, Wait};
 
-/// How many milliseconds a clock rests at most where nobody rings for it, or it shows no time that passes by itself.
-const SHORT_MS: u64 = 20;
-
-/// A connection's clock, which rests until its bell is rung or its watch has something to do by itself.
+/// A connection's clock, which rests until its bell is rung or its watch has something to do by itself, and asks the
+/// watch to stop where all watches were ended since that began. It tells no readings.
 ///
 /// The rings are counted as the clock is read, at the head of a turn, and a rest is one behind that count; so it ends
 /// at once where a ring came meanwhile (`Bell`). A lane is told, or told to be behind, before its bell is rung: the
@@ -23,11 +23,19 @@ pub struct RungClock<'a, T, R: Wait> {
     rt: &'a R,
     bell: Option<Arc<Bell, Global>>,
     doorbell: &'a Doorbell,
+    disconnects: &'a Disconnects,
     schedule: &'a Schedule,
-    count: u32,
-    start: Option<u64>,
+    rings: u32,
+    start: Option<Start>,
     mark: u64,
     at: u64,
+}
+
+// The beginning of a watch: when it was, and how often all watches had been ended.
+#[derive(Clone, Copy, Debug)]
+struct Start {
+    ms: u64,
+    ended: u64,
 }
 
 impl<'a, T: Rung, R: Wait> RungClock<'a, T, R> {
@@ -37,6 +45,7 @@ impl<'a, T: Rung, R: Wait> RungClock<'a, T, R> {
         rt: &'a R,
         bell: Option<Arc<Bell, Global>>,
         doorbell: &'a Doorbell,
+        disconnects: &'a Disconnects,
         schedule: &'a Schedule,
     ) -> RungClock<'a, T, R>
         ensures { result.clock ≡ clock }
@@ -46,22 +55,32 @@ impl<'a, T: Rung, R: Wait> RungClock<'a, T, R> {
             rt,
             bell,
             doorbell,
+            disconnects,
             schedule,
-            count: 0,
+            rings: 0,
             start: None,
             mark: 0,
             at: 0,
         }
     }
 
-    // Takes down a reading. The first one is the start of the watch: nothing before it reads the clock.
-    fn note(&mut self, ms: u64)
+    // Takes down a reading, and answers whether the watch is asked to stop. The first reading is the start of the
+    // watch: nothing before it reads the clock.
+    fn note(&mut self, reading: Reading) -> bool
         ensures { self.new.clock ≡ self.old.clock }
     {
-        self.at = ms;
-        if self.start.is_none() {
-            self.start = Some(ms);
-            self.mark = ms;
+        let ended = self.disconnects.count();
+        self.at = reading.ms;
+        match self.start {
+            Some(start) => is_stopped(reading.stop, start.ended, ended),
+            None => {
+                self.mark = reading.ms;
+                self.start = Some(Start {
+                    ms: reading.ms,
+                    ended,
+                });
+                reading.stop
+            }
         }
     }
 
@@ -73,29 +92,31 @@ impl<'a, T: Rung, R: Wait> RungClock<'a, T, R> {
         if self.schedule.is_marked(self.mark, self.at) {
             self.mark = self.at;
         }
-        let start = self.start.unwrap_or(0);
+        let start = match self.start {
+            Some(start) => start.ms,
+            None => 0,
+        };
         let ms = self.schedule.rest_ms(start, self.mark, self.at);
-        if self.doorbell.is_heard() {
-            ms
-        } else {
-            ms.min(SHORT_MS)
-        }
+        rest_by(self.doorbell.is_heard(), ms)
     }
 }
 
 impl<'a, T: Rung, R: Wait> Clock for RungClock<'a, T, R> {
     ghost last = { λ rung. T.last rung.clock };
 
-    ghost readings = { λ rung. T.readings rung.clock };
+    ghost readings = { λ _. None };
 
     fn now(&mut self) -> Reading {
-        self.count = match &self.bell {
+        self.rings = match &self.bell {
             Some(bell) => bell.count(),
             None => 0,
         };
         let reading = self.clock.now();
-        self.note(reading.ms);
-        reading
+        let stop = self.note(reading);
+        Reading {
+            ms: reading.ms,
+            stop,
+        }
     }
 
     // A clock that has nothing to rest on may show no time but its own, so it is looked at often.
@@ -105,8 +126,8 @@ impl<'a, T: Rung, R: Wait> Clock for RungClock<'a, T, R> {
             self.clock.rest();
             return;
         };
-        if !self.clock.rest_until(self.count, ms) {
-            bell.rest(self.rt, self.count, &NO_PEER, ms.min(SHORT_MS));
+        if !self.clock.rest_until(self.rings, ms) {
+            bell.rest(self.rt, self.rings, &NO_PEER, ms.min(SHORT_MS));
         }
     }
 }

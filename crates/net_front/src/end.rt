@@ -12,6 +12,10 @@ pub struct End {
     bell: Bell,
 }
 
+/// Whoever has it has seen that the sessions have ended: [`End::seen`] alone gives it.
+#[derive(Clone, Copy, Debug)]
+pub struct AtEnd(());
+
 impl End {
     /// Sessions may still begin.
     pub fn new() -> End {
@@ -28,8 +32,12 @@ impl End {
     }
 
     /// Whether they have.
-    pub fn is_there(&self) -> bool {
-        self.is_there.load(SeqCst)
+    pub fn seen(&self) -> Option<AtEnd> {
+        if self.is_there.load(SeqCst) {
+            Some(AtEnd(()))
+        } else {
+            None
+        }
     }
 
     /// Rests for so many milliseconds, or until the end comes; for a second at most where the system has no descriptor
@@ -37,7 +45,7 @@ impl End {
     pub fn rest<R: Wait>(&self, rt: &R, ms: u64) {
         self.bell.arm();
         let count = self.bell.count();
-        if !self.is_there() {
+        if self.seen().is_none() {
             self.bell.rest(rt, count, &NO_PEER, ms);
         }
     }

@@ -1,12 +1,15 @@
 //! The following of a mirror's peer, which runs beside the workers until they have ended.
 
-use crate::end::End;
+use crate::end::{AtEnd, End};
 use crate::redial::{News, Redial};
 use crate::shared::Front;
 use crate::standing::{Standing, standing_of};
+use crate::verdicts::{
+    Lost, Stop, stop_of_line, stop_of_opening, stop_of_silence, stop_of_standing,
+    stop_of_stream_end,
+};
 use edge_io::{Sink, Source};
 use mirror_link::{Heard, Mirror};
-use mirror_opening::LinkNo;
 use std::alloc::Global;
 use std::sync::Wait;
 use up_api::LogFacts;
@@ -16,6 +19,15 @@ const FIRST_WAIT_MS: u64 = 20;
 
 /// And at most, after attempts in vain.
 const MOST_WAIT_MS: u64 = 5_000;
+
+/// Why a peer is followed no more. Whoever follows can't end without one of these.
+#[derive(Clone, Copy, Debug)]
+pub enum Left {
+    /// The sessions have ended.
+    Ended(AtEnd),
+    /// What the peer would send can't be heard.
+    Lost(Lost),
+}
 
 /// Hears the lines of the peer at `port`, at first from `source` and then over connections by `redial`, until the
 /// sessions have ended, or sooner: where a line can't be heard, or the peer has another log. Where the peer can't tell
@@ -27,9 +39,9 @@ pub fn follow<N: LogFacts, R: Wait + Copy, S: Source, D: Redial>(
     source: &mut S,
     redial: &mut D,
     port: u16,
-) {
-    if front.end.is_there() {
-        return;
+) -> Left {
+    if let Some(end) = front.end.seen() {
+        return Left::Ended(end);
     }
     let from = mirror.to();
     redial.say(News::Follows { port, from });
@@ -41,7 +53,7 @@ pub fn follow<N: LogFacts, R: Wait + Copy, S: Source, D: Redial>(
     let mut stop = hear_lines(front, mirror, source, &mut pace);
     for _ in front.rt.forever() {
         let ask = match stop {
-            Stop::Ended => return,
+            Stop::Ended(end) => return Left::Ended(end),
             Stop::Over(why) => {
                 redial.say(News::IsOver { why });
                 Ask::Stream
@@ -50,10 +62,10 @@ pub fn follow<N: LogFacts, R: Wait + Copy, S: Source, D: Redial>(
                 redial.say(News::BeginsAnew { why });
                 Ask::Opening
             }
-            Stop::Lost(why) => {
-                front.lost_peer();
-                redial.say(News::Ends { why });
-                return;
+            Stop::Lost(lost) => {
+                front.end_following();
+                redial.say(News::Ends { why: lost.why() });
+                return Left::Lost(lost);
             }
         };
         // A peer that was asked for what comes next, and can't tell it, is there.
@@ -61,6 +73,7 @@ pub fn follow<N: LogFacts, R: Wait + Copy, S: Source, D: Redial>(
         stop = follow_again(front, mirror, redial, port, ask, &mut pace);
         before = ask;
     }
+    unreachable!()
 }
 
 // What the peer is asked for.
@@ -83,13 +96,13 @@ fn follow_again<N: LogFacts, R: Wait + Copy, D: Redial>(
 ) -> Stop {
     for _ in front.rt.forever() {
         pace.rest(front.rt, &front.end);
-        if front.end.is_there() {
-            return Stop::Ended;
+        if let Some(end) = front.end.seen() {
+            return Stop::Ended(end);
         }
         match connect(front.alloc, mirror, redial, port, ask) {
             Ok((mut source, _sink)) => {
                 // Watches that rest below a new base hear so that they are lost.
-                front.doorbell.ring();
+                front.desk.doorbell.ring();
                 front.found_peer();
                 let from = mirror.to();
                 redial.say(News::FollowsAgain { from });
@@ -111,13 +124,11 @@ fn connect<N: LogFacts, R: Wait + Copy, D: Redial>(
     port: u16,
     ask: Ask,
 ) -> Result<(D::S, D::K), Stop> {
-    match standing(alloc, mirror.to(), redial, port) {
-        Standing::Reached => {}
-        Standing::Behind => return Err(Stop::Lost(LinkNo::OtherLog.name())),
-        Standing::Unknown => return Err(Stop::Over("NoReply")),
+    if let Some(stop) = stop_of_standing(standing(alloc, mirror.to(), redial, port)) {
+        return Err(stop);
     }
     let Ok((mut source, mut sink)) = redial.redial(port) else {
-        return Err(Stop::Over("NoConnection"));
+        return Err(stop_of_silence());
     };
     match asked(mirror, &mut source, &mut sink, ask) {
         Ok(()) => Ok((source, sink)),
@@ -135,11 +146,11 @@ fn asked<N: LogFacts, R: Wait + Copy, S: Source, K: Sink>(
     match ask {
         Ask::Stream => match mirror.resume(source, sink) {
             Ok(()) => Ok(()),
-            Err(no) => Err(stop_of(no)),
+            Err(no) => Err(stop_of_line(no)),
         },
         Ask::Opening => match mirror.reopen(source, sink) {
             Ok(()) => Ok(()),
-            Err(no) => Err(opening_stop_of(no)),
+            Err(no) => Err(stop_of_opening(no)),
         },
     }
 }
@@ -152,53 +163,6 @@ fn standing<D: Redial>(alloc: Global, at: u64, redial: &mut D, port: u16) -> Sta
     }
 }
 
-// Why no further line is heard.
-#[derive(Clone, Copy, Debug, PartialEq, Eq)]
-enum Stop {
-    // The server ends.
-    Ended,
-    // The stream is over, and may be asked for again.
-    Over(&'static str),
-    // The peer can't tell what comes next.
-    Missed(&'static str),
-    // What the peer would send can't be heard.
-    Lost(&'static str),
-}
-
-/// The code of a peer's refusal that it no longer keeps what comes next.
-const GONE: u16 = 410;
-
-// Whether another connection may help, or a new beginning. A line that was refused would come again, and a log that was
-// passed by another door isn't the mirror's alone.
-fn stop_of(no: LinkNo) -> Stop {
-    match no {
-        LinkNo::Refused { code: GONE } | LinkNo::Told { .. } | LinkNo::Gap { .. } => {
-            Stop::Missed(no.name())
-        }
-        LinkNo::BadHead
-        | LinkNo::Refused { .. }
-        | LinkNo::CutShort
-        | LinkNo::ReadFault
-        | LinkNo::WriteFault
-        | LinkNo::Memory => Stop::Over(no.name()),
-        LinkNo::BadChunk
-        | LinkNo::BadLine
-        | LinkNo::Order { .. }
-        | LinkNo::TooLong
-        | LinkNo::OtherLog
-        | LinkNo::Passed { .. } => Stop::Lost(no.name()),
-    }
-}
-
-// The same of an opening. A peer that refused may give one later; one that is too far ahead stays so.
-fn opening_stop_of(no: LinkNo) -> Stop {
-    match no {
-        LinkNo::Refused { .. } | LinkNo::Told { .. } => Stop::Over(no.name()),
-        LinkNo::Gap { .. } => Stop::Lost(no.name()),
-        _ => stop_of(no),
-    }
-}
-
 // Hears one line after the other, and rings for each, so that quiet watches of the mirror hear of it. The first forgets
 // how often the peer was asked in vain.
 fn hear_lines<N: LogFacts, R: Wait + Copy, S: Source>(
@@ -208,16 +172,16 @@ fn hear_lines<N: LogFacts, R: Wait + Copy, S: Source>(
     pace: &mut Pace,
 ) -> Stop {
     for _ in front.rt.forever() {
-        if front.end.is_there() {
-            return Stop::Ended;
+        if let Some(end) = front.end.seen() {
+            return Stop::Ended(end);
         }
         match mirror.next(source) {
             Ok(Heard::Line { .. }) => {
                 pace.ms = FIRST_WAIT_MS;
-                front.doorbell.ring();
+                front.desk.doorbell.ring();
             }
-            Ok(Heard::Ended { .. }) => return Stop::Over("Ended"),
-            Err(no) => return stop_of(no),
+            Ok(Heard::Ended { .. }) => return stop_of_stream_end(),
+            Err(no) => return stop_of_line(no),
         }
     }
     unreachable!()

@@ -2,6 +2,7 @@
 
 ghost use Rattle.up_api.specs.Settings.{AreInRange};
 
+use crate::helpers::{HostStep, host_step, step_without};
 use crate::intake::Limit;
 use crate::shared::{Front, Gate, Host};
 use crate::tally::Tally;
@@ -15,7 +16,7 @@ use up_api::LogFacts;
 /// The bytes of a helper's stack.
 const STACK: usize = 262_144;
 
-/// How long a thread accepts.
+/// How long a thread works.
 #[derive(Clone, Copy, Debug, PartialEq, Eq)]
 pub enum Stay {
     /// Until no connection will come.
@@ -25,7 +26,8 @@ pub enum Stay {
 }
 
 /// Makes helpers while few threads wait for a connection and fewer than `open` live, until none will come or, where no
-/// thread lives, none can be made. It returns once the last helper has ended.
+/// thread lives, none can be made. It returns once the last helper has ended. Where connections wait for a thread, or
+/// for memory, it says so once, until a thread was made again.
 pub fn keep_house<B: Limit + Send + Sync, L, N: LogFacts + Send + Sync, R: Host>(
     front: &Front<'_, N, R>,
     gate: &Gate<L, B>,
@@ -39,42 +41,53 @@ where
         thread::scope_env(),
         front.rt,
         move |scope|
-            requires { AreInRange front.now.settings }
+            requires { AreInRange front.now.desk.settings }
         {
             let mut lacking = 0;
+            let mut is_said = false;
             for _ in front.rt.forever() {
                 let count = front.house.count();
-                if open == 0 || front.house.is_over() {
-                    return;
-                }
-                if !front.house.wants(open) {
-                    front.house.rest(front.rt, count);
-                    continue;
-                }
                 let lack = front.house.lacking();
-                if lack != lacking {
-                    lacking = lack;
-                    front.house.pause(front.rt);
-                    continue;
+                let wanted = front.house.wants(open);
+                match host_step(front.house.is_over(), open, wanted, lack != lacking) {
+                    HostStep::End => return,
+                    HostStep::Rest => front.house.rest(front.rt, count),
+                    HostStep::Pause => {
+                        lacking = lack;
+                        say_once(front.rt, &mut is_said, "memory");
+                        front.house.pause(front.rt);
+                    }
+                    HostStep::Make => {
+                        front.house.enter();
+                        let helping = move ||
+                            requires { AreInRange front.now.desk.settings }
+                        { work(front, gate, Stay::WhileWanted) };
+                        let made = Builder::new()
+                            .stack_size(STACK)
+                            .spawn_scoped(scope, helping);
+                        if made.is_ok() {
+                            is_said = false;
+                            continue;
+                        }
+                        front.house.withdraw();
+                        say_once(front.rt, &mut is_said, "threads");
+                        match step_without(front.house.living()) {
+                            HostStep::End => return,
+                            _ => front.house.pause(front.rt),
+                        }
+                    }
                 }
-                front.house.enter();
-                let helping = move ||
-                    requires { AreInRange front.now.settings }
-                { work(front, gate, Stay::WhileWanted) };
-                let made = Builder::new()
-                    .stack_size(STACK)
-                    .spawn_scoped(scope, helping);
-                if made.is_ok() {
-                    continue;
-                }
-                front.house.withdraw();
-                if front.house.is_empty() {
-                    return;
-                }
-                front.house.pause(front.rt);
             }
         },
     );
+}
+
+// Says what connections wait for, unless something was said already. A line that can't be written is left out.
+fn say_once<R: Host>(rt: &R, is_said: &mut bool, what: &str) {
+    if !*is_said {
+        let _ = eprintln!(rt; "watchcache: connections wait for {what}");
+        *is_said = true;
+    }
 }
 
 /// Runs so many workers, this thread being one of them.
@@ -88,7 +101,7 @@ where
     L::T: Rung,
 {
     let worker = |_number: usize|
-        requires { AreInRange front.now.settings }
+        requires { AreInRange front.now.desk.settings }
     {
         front.house.enter();
         work(front, gate, Stay::ToTheEnd)
@@ -134,7 +147,7 @@ where
     R: Wait + Copy,
 {
     for _ in front.rt.forever() {
-        match tally.serve_next(front, gate) {
+        match tally.serve_next(front, &gate.intake) {
             Ok(true) if stay == Stay::WhileWanted && front.house.is_crowded() => return,
             Ok(true) => front.house.returns(),
             Ok(false) => {

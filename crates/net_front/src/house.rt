@@ -1,15 +1,10 @@
 //! How many threads wait and live.
 
+use crate::helpers::{is_crowded, is_few, is_wanted};
 use bells::{Bell, NO_PEER};
 use std::sync::Wait;
 use std::sync::atomic::Ordering::SeqCst;
 use std::sync::atomic::{AtomicBool, AtomicU64};
-
-/// Below so many threads that wait for a connection, more are made.
-const FEW_WAITING: u64 = 32;
-
-/// Above so many, one that served goes.
-const MANY_WAITING: u64 = 128;
 
 /// How many milliseconds the host rests at most.
 const HOST_MS: u64 = 30_000;
@@ -50,19 +45,19 @@ impl House {
         self.is_over.load(SeqCst)
     }
 
-    /// Nobody lives here.
-    pub fn is_empty(&self) -> bool {
-        self.living.load(SeqCst) == 0
+    /// How many live here.
+    pub fn living(&self) -> u64 {
+        self.living.load(SeqCst)
     }
 
-    /// Few wait, and fewer than `open` live.
+    /// Whether a helper is wanted, where at most `open` may live.
     pub fn wants(&self, open: u64) -> bool {
-        self.waiting.load(SeqCst) < FEW_WAITING && self.living.load(SeqCst) < open
+        is_wanted(self.waiting.load(SeqCst), self.living.load(SeqCst), open)
     }
 
-    /// Many wait.
+    /// Whether a helper that has served goes.
     pub fn is_crowded(&self) -> bool {
-        self.waiting.load(SeqCst) > MANY_WAITING
+        is_crowded(self.waiting.load(SeqCst))
     }
 
     /// How many found no memory for a client.
@@ -84,7 +79,7 @@ impl House {
 
     /// One that waited waits no more.
     pub fn takes(&self) {
-        if self.waiting.fetch_sub(1, SeqCst) <= FEW_WAITING {
+        if is_few(self.waiting.fetch_sub(1, SeqCst)) {
             self.bell.ring();
         }
     }

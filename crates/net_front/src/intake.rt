@@ -99,6 +99,14 @@ impl<L: Listener, B: Limit> Intake<L, B> {
         }
     }
 
+    /// Whether no more connections are taken.
+    pub fn may_end(&self) -> bool
+        ensures { IsTrue result →
+            MayEnd (L.over self.now.listener) (L.faults self.now.listener) (L.given self.now.listener) B.limit }
+    {
+        self.is_over || self.faulted || self.limit <= self.accepted
+    }
+
     /// The listener, with what is known of it. The sessions are told where all parts of the ledger are in `tally`.
     pub fn end(mut self, mut tally: Tally<B>, parts: u64) -> Served<L>
         requires parts { parts ≡ B.parts }

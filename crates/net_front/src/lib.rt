@@ -2,21 +2,27 @@
 #![tactic(auto)]
 
 mod clock;
+mod disconnects;
 mod doorbell;
 mod end;
+mod followed;
 mod following;
+mod helpers;
 mod host;
 mod house;
 mod intake;
 mod mirror;
+mod probes;
 mod pump;
 mod redial;
+mod rests;
 mod ringing;
 mod schedule;
 mod server;
 mod shared;
 mod standing;
 mod tally;
+mod verdicts;
 mod visitor;
 
 pub use intake::Served;

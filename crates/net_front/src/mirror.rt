@@ -4,16 +4,17 @@ ghost use Rattle.std.specs.Prelude.{◌≡◌, ◌↔◌, ◌<◌, ◌≤◌, �
 ghost use Rattle.net_front.specs.Ends.{MayEnd, most_connections};
 ghost use Rattle.up_api.specs.Settings.{AreInRange};
 
+use crate::followed::Followed;
 use crate::following::follow;
 use crate::intake::Served;
 use crate::redial::Redial;
 use crate::server::serve_front;
-use crate::shared::{Front, Host};
+use crate::shared::{Desk, Front, Host};
 use bells::Rung;
 use edge_io::{Clock, Listener, Source};
 use kube_meta::Memory;
 use mirror_link::Mirror;
-use request_counts::{Counts, Peer};
+use request_counts::Counts;
 use shared_client::Cacher;
 use std::alloc::Global;
 use std::thread;
@@ -57,11 +58,14 @@ where
         (λ served. MayEnd (L.over served.listener) (L.faults served.listener) served.accepted (most_connections connections)) }
     ensures sessions { IfOk result (λ served. IfSome served.sessions (λ sessions. sessions ≡ served.accepted)) }
 {
-    let counts = Counts::new(alloc)?;
-    let front = Front::new(rt, alloc, cacher, Some(Peer::new()), counts, *settings);
+    let followed = Some(Followed::new());
+    let desk = Desk::new(alloc, followed, Counts::new(alloc)?, *settings);
+    let front = Front::new(rt, alloc, cacher, desk);
     let following = ||
-        requires { AreInRange front.settings }
-    { follow(&front, mirror, source, redial, port) };
+        requires { AreInRange front.desk.settings }
+    {
+        let _left = follow(&front, mirror, source, redial, port);
+    };
     let serving = ||
         requires { (L.given listener ≡ 0) × (L.faults listener ≡ 0) × (connections ≤ 2 ^ 62) }
     { serve_front(&front, listener, clock, workers, open, connections) };

@@ -1,5 +1,6 @@
 //! The pump, which feeds the caches and wakes the watches that they told something.
 
+use crate::disconnects::Disconnects;
 use crate::doorbell::Doorbell;
 use crate::end::End;
 use bells::{Bell, NO_PEER};
@@ -16,13 +17,15 @@ const FEW_CALLS: usize = 16;
 const GATHER_MS: u64 = 1;
 
 /// Feeds the caches, tells them the time and rings for the lanes that were told, by turns, until `end` is there and the
-/// bell rung. Where there is no memory for a pass it does not run: lists and watches follow the log themselves.
+/// bell rung. Where all watches were ended it rings for all connections. Where there is no memory for a pass it does not
+/// run: lists and watches follow the log themselves.
 pub fn pump<N: LogFacts, T: Clock, R: Wait + Copy>(
     rt: &R,
     alloc: Global,
     cacher: &Cacher<N, R>,
     clock: &mut T,
     doorbell: &Doorbell,
+    disconnects: &Disconnects,
     end: &End,
 ) {
     let Ok(mut told) = cacher.pass() else {
@@ -30,11 +33,17 @@ pub fn pump<N: LogFacts, T: Clock, R: Wait + Copy>(
     };
     let mut calls = Vec::new(alloc);
     let silence = Bell::new();
+    let mut ended = disconnects.count();
     doorbell.begin();
     for _ in rt.forever() {
         let count = doorbell.count();
-        if end.is_there() {
+        if end.seen().is_some() {
             break;
+        }
+        let now_ended = disconnects.count();
+        if now_ended != ended {
+            ended = now_ended;
+            disconnects.ring(rt);
         }
         cacher.tick(clock.now().ms);
         let _ = cacher.feed(&mut told, &mut calls);

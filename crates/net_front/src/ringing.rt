@@ -1,51 +1,57 @@
-//! A client that rings the bell behind each write, counts its answers, and notes when its watch has something to do.
+//! A client that rings the bell behind each write, counts its answers, notes when its watch has something to do, and
+//! ends all watches where it is asked to.
 
-ghost use Rattle.std.specs.Prelude.{◌≡◌, true, IsSome};
+ghost use Rattle.std.specs.Prelude.{◌≡◌, true, false, None, IsSome};
 
-use crate::doorbell::Doorbell;
+use crate::probes::{is_live, is_ready};
 use crate::schedule::Schedule;
+use crate::shared::Desk;
 use client_api::{Begun, Client, Got, ListNo, Listed, Took};
 use kube_meta::Memory;
 use list_rules::{GetAsk, ListAsk};
 use metrics::{Metrics, Verb};
-use request_counts::{Counts, Peer};
-use up_api::Settings;
 use up_store::{OpNo, Operate, Transaction, TxWriteNo, WriteAsk, WriteNo, Written};
 use watch_rules::WatchAsk;
 
-/// A client, the bell that its writes ring, the counts to which its answers are added, the peer that its log follows,
-/// where that is a mirror's, and the schedule of its watch.
+/// A client, what its connection shares with others, and the schedule of its watch.
 #[derive(Drop)]
 pub struct RingingClient<'a, C: Client> {
     client: C,
-    doorbell: &'a Doorbell,
-    counts: &'a Counts,
-    peer: Option<&'a Peer>,
+    desk: &'a Desk,
     schedule: &'a Schedule,
-    settings: &'a Settings,
-    ghost mirrored: { IsSome peer → C.mirror ≡ true },
+    ghost mirrored: { IsSome desk.now.followed → C.mirror ≡ true },
 }
 
 impl<'a, C: Client> RingingClient<'a, C> {
-    /// This client, at this bell. Only a mirror's log has a peer.
-    pub fn new(
-        client: C,
-        doorbell: &'a Doorbell,
-        counts: &'a Counts,
-        peer: Option<&'a Peer>,
-        schedule: &'a Schedule,
-        settings: &'a Settings,
-    ) -> RingingClient<'a, C>
-        requires mirrored { IsSome peer → C.mirror ≡ true }
+    /// This client, at this desk. Only a mirror's log has a peer that is followed.
+    pub fn new(client: C, desk: &'a Desk, schedule: &'a Schedule) -> RingingClient<'a, C>
+        requires mirrored { IsSome desk.now.followed → C.mirror ≡ true }
         ensures { result.client ≡ client }
     {
         RingingClient {
             client,
-            doorbell,
-            counts,
-            peer,
+            desk,
             schedule,
-            settings,
+        }
+    }
+
+    // Whether the peer is followed, where the log is a mirror's.
+    fn is_followed(&self) -> Option<bool>
+        ensures { C.mirror ≡ false → result ≡ None }
+    {
+        match &self.desk.followed {
+            Some(followed) => Some(followed.is_followed()),
+            None => None,
+        }
+    }
+
+    // And whether it ever will be again.
+    fn is_over(&self) -> Option<bool>
+        ensures { C.mirror ≡ false → result ≡ None }
+    {
+        match &self.desk.followed {
+            Some(followed) => Some(followed.is_over()),
+            None => None,
         }
     }
 }
@@ -68,46 +74,48 @@ impl<'a, C: Client> Client for RingingClient<'a, C> {
     // Behind want of memory a write may be done; a refusal has changed nothing.
     fn write(&mut self, ask: &WriteAsk) -> Result<Written, WriteNo> {
         let written = self.client.write(ask);
-        self.counts.wrote(ask, &written);
+        self.desk.counts.wrote(ask, &written);
         if matches!(written, Ok(_) | Err(WriteNo::Memory)) {
-            self.doorbell.ring();
+            self.desk.doorbell.ring();
         }
         written
     }
 
     fn transact(&mut self, ask: &Transaction) -> Result<Vec<Written>, TxWriteNo> {
         let written = self.client.transact(ask);
-        self.counts.transacted(&written);
+        self.desk.counts.transacted(&written);
         if matches!(written, Ok(_) | Err(TxWriteNo::Memory)) {
-            self.doorbell.ring();
+            self.desk.doorbell.ring();
         }
         written
     }
 
     fn get(&mut self, ask: &GetAsk) -> Result<Got, ListNo> {
         let answer = self.client.get(ask);
-        self.counts.read(Verb::Get, ask.resource, &answer);
+        self.desk.counts.read(Verb::Get, ask.resource, &answer);
         answer
     }
 
     fn list(&mut self, ask: &ListAsk) -> Result<Listed, ListNo> {
         let answer = self.client.list(ask);
-        self.counts
+        self.desk
+            .counts
             .read(Verb::List, ask.selection.resource, &answer);
         answer
     }
 
     fn watch(&mut self, ask: &WatchAsk) -> Result<Begun, ListNo> {
-        self.schedule.set(ask, self.settings);
+        self.schedule.set(ask, &self.desk.settings);
         let answer = self.client.watch(ask);
-        self.counts
+        self.desk
+            .counts
             .read(Verb::Watch, ask.selection.resource, &answer);
         answer
     }
 
     fn take(&mut self, max: usize) -> Result<Took, Memory> {
         let took = self.client.take(max)?;
-        self.counts.took(&took);
+        self.desk.counts.took(&took);
         Ok(took)
     }
 
@@ -115,32 +123,38 @@ impl<'a, C: Client> Client for RingingClient<'a, C> {
         self.client.end_watch();
     }
 
-    // A restart leaves all watches behind.
+    // A restart leaves all watches behind, and a disconnect ends them, as their clocks tell once they are rung.
     fn operate(&mut self, ask: Operate) -> Result<u64, OpNo> {
-        let is_restart = matches!(ask, Operate::Restart);
+        let rings = matches!(ask, Operate::Restart | Operate::Disconnect);
+        let disconnects = matches!(ask, Operate::Disconnect);
         let answer = self.client.operate(ask);
-        self.counts.operated(&answer);
-        if is_restart {
-            self.doorbell.ring();
+        self.desk.counts.operated(&answer);
+        if disconnects {
+            self.desk.disconnects.raise();
+        }
+        if rings {
+            self.desk.doorbell.ring();
         }
         answer
     }
 
     fn metrics(&mut self) -> Result<Metrics, Memory> {
         let mut told = self.client.metrics()?;
-        let following = match self.peer {
-            Some(peer) => Some(peer.is_followed()),
-            None => None,
-        };
-        told.served = Some(self.counts.served(following)?);
+        told.served = Some(self.desk.counts.served(self.is_followed())?);
         Ok(told)
     }
 
     fn is_ready(&self) -> bool {
-        match self.peer {
-            Some(peer) => peer.is_followed(),
-            None => self.client.is_ready(),
-        }
+        is_ready(self.is_followed(), self.client.is_ready())
+    }
+
+    fn is_live(&self) -> bool {
+        is_live(self.is_over())
+    }
+
+    fn refused(&mut self, method: &str, code: u16) {
+        self.client.refused(method, code);
+        self.desk.counts.refused(method, code);
     }
 
     fn tick(&mut self, ms: u64) {

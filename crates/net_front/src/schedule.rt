@@ -1,11 +1,9 @@
-//! When a watch that rests has something to do by itself.
+//! What a watch that rests has to do by itself.
 
+use crate::rests::{is_marked, rest_ms};
 use std::cell::Cell;
 use up_api::Settings;
 use watch_rules::WatchAsk;
-
-/// How many milliseconds a watch rests at most, whatever it waits for.
-const MOST_MS: u64 = 30_000;
 
 /// After how many milliseconds a watch ends, and how many lie between its bookmarks, where it wants any. The client of
 /// a session is told what the watch asks for, and leaves it here for the clock. No contract speaks of it.
@@ -39,20 +37,18 @@ impl Schedule {
 
     /// Whether a quiet turn at `now` wrote a bookmark, where the last one came at `mark`.
     pub fn is_marked(&self, mark: u64, now: u64) -> bool {
-        match self.bookmark_ms.get() {
-            Some(ms) => now >= mark.saturating_add(ms),
-            None => false,
-        }
+        is_marked(self.bookmark_ms.get(), mark, now)
     }
 
-    /// For how many milliseconds behind `now` a watch may rest that began at `start`, and whose last bookmark came at
-    /// `mark`: until its end or its next bookmark, and for 30 seconds at most.
+    /// For how many milliseconds behind `now` the watch rests, where it began at `start`, and its last bookmark came at
+    /// `mark`.
     pub fn rest_ms(&self, start: u64, mark: u64, now: u64) -> u64 {
-        let end = start.saturating_add(self.timeout_ms.get());
-        let next = match self.bookmark_ms.get() {
-            Some(ms) => mark.saturating_add(ms),
-            None => end,
-        };
-        end.min(next).saturating_sub(now).min(MOST_MS)
+        rest_ms(
+            self.timeout_ms.get(),
+            self.bookmark_ms.get(),
+            start,
+            mark,
+            now,
+        )
     }
 }

@@ -7,7 +7,7 @@ ghost use Rattle.up_api.specs.Settings.{AreInRange};
 use crate::host::{keep_house, work_side_by_side};
 use crate::intake::{Intake, Limit, Served};
 use crate::pump::pump;
-use crate::shared::{Front, Gate, Host};
+use crate::shared::{Desk, Front, Gate, Host};
 use crate::tally::Tally;
 use bells::Rung;
 use edge_io::{Clock, Listener};
@@ -96,8 +96,8 @@ where
         (λ served. MayEnd (L.over served.listener) (L.faults served.listener) served.accepted (most_connections connections)) }
     ensures sessions { IfOk result (λ served. IfSome served.sessions (λ sessions. sessions ≡ served.accepted)) }
 {
-    let counts = Counts::new(alloc)?;
-    let front = Front::new(rt, alloc, cacher, None, counts, *settings);
+    let desk = Desk::new(alloc, None, Counts::new(alloc)?, *settings);
+    let front = Front::new(rt, alloc, cacher, desk);
     serve_front(&front, listener, clock, workers, open, connections)
 }
 
@@ -180,15 +180,16 @@ where
         front.alloc,
         front.cacher,
         clock,
-        &front.doorbell,
+        &front.desk.doorbell,
+        &front.desk.disconnects,
         &front.end,
     );
     let serving = ||
-        requires { AreInRange front.now.settings }
+        requires { AreInRange front.now.desk.settings }
     {
         let outcome = serve_beside(front, gate, workers, open);
         front.end.come();
-        front.doorbell.ring();
+        front.desk.doorbell.ring();
         outcome
     };
     thread::join(front.rt, pumping, serving).1
@@ -206,10 +207,10 @@ where
     L::T: Rung,
 {
     let hosting = ||
-        requires { AreInRange front.now.settings }
+        requires { AreInRange front.now.desk.settings }
     { keep_house(front, gate, open) };
     let working = ||
-        requires { AreInRange front.now.settings }
+        requires { AreInRange front.now.desk.settings }
     { work_side_by_side(front, gate, workers) };
     thread::join(front.rt, hosting, working).1?;
     match front.house.lacking() {
@@ -235,9 +236,14 @@ where
     ensures sessions { IfOk result (λ served. IfSome served.sessions (λ sessions. sessions ≡ served.accepted)) }
 {
     for _ in front.rt.forever() {
-        if !tally.serve_from(front, &mut intake)? {
+        if intake.may_end() {
             return Ok(intake.end(tally, PARTS));
         }
+        let shared = Mutex::new(intake);
+        front.house.enter();
+        tally.serve_next(front, &shared)?;
+        front.house.leave();
+        intake = shared.into_inner();
     }
     unreachable!()
 }

@@ -3,63 +3,84 @@
 ghost use Rattle.std.specs.Prelude.{◌≡◌, true, IsSome};
 ghost use Rattle.up_api.specs.Settings.{AreInRange};
 
+use crate::disconnects::Disconnects;
 use crate::doorbell::Doorbell;
 use crate::end::End;
+use crate::followed::Followed;
 use crate::house::House;
 use crate::intake::{Intake, Limit};
 use crate::tally::Tally;
 use edge_io::Listener;
-use request_counts::{Counts, Peer};
+use request_counts::Counts;
 use shared_client::Cacher;
 use std::alloc::Global;
+use std::io::Eprint;
 use std::sync::{Mutex, Wait};
 use std::thread::Threads;
 use up_api::{LogFacts, Settings};
 
 /// What a server needs of the runtime.
-pub trait Host: Threads + Wait + Copy + Send + Sync {}
+pub trait Host: Threads + Wait + Eprint + Copy + Send + Sync {}
 
-impl<R: Threads + Wait + Copy + Send + Sync> Host for R {}
+impl<R: Threads + Wait + Eprint + Copy + Send + Sync> Host for R {}
 
-/// What each of them serves by: the caches of the log, the peer that a mirror's log follows, the counts for monitors,
-/// the bell of the pump, the counts of the host, the end of the sessions, and the settings.
+/// What the connections of a server share beside its log: the peer that a mirror's log follows, the counts for
+/// monitors, the settings, the bell of the pump, and what ends all watches.
+#[derive(Drop)]
+pub struct Desk {
+    pub followed: Option<Followed>,
+    pub counts: Counts,
+    pub settings: Settings,
+    pub doorbell: Doorbell,
+    pub disconnects: Disconnects,
+    // Closures repeat this, since what they capture may be sent to a thread only where it is such a type's fact.
+    ghost ranged: { AreInRange settings },
+}
+
+impl Desk {
+    /// That of a server where nobody accepts yet.
+    pub fn new(
+        alloc: Global,
+        followed: Option<Followed>,
+        counts: Counts,
+        settings: Settings,
+    ) -> Desk
+        requires ranged { AreInRange settings }
+        ensures followed { result.followed ≡ followed }
+    {
+        Desk {
+            followed,
+            counts,
+            settings,
+            doorbell: Doorbell::new(),
+            disconnects: Disconnects::new(alloc),
+        }
+    }
+}
+
+/// What each thread serves by: the caches of the log, what connections share beside it, the counts of the host, and the
+/// end of the sessions.
 #[derive(Drop)]
 pub struct Front<'a, N: LogFacts, R: Wait + Copy> {
     pub rt: &'a R,
     pub alloc: Global,
     pub cacher: &'a Cacher<N, R>,
-    pub peer: Option<Peer>,
-    pub counts: Counts,
-    pub settings: Settings,
-    pub doorbell: Doorbell,
+    pub desk: Desk,
     pub house: House,
     pub end: End,
-    // Closures repeat this, since what they capture may be sent to a thread only where it is such a type's fact.
-    ghost ranged: { AreInRange settings },
-    ghost mirrored: { IsSome peer → N.mirror ≡ true },
+    ghost mirrored: { IsSome desk.followed → N.mirror ≡ true },
 }
 
 impl<'a, N: LogFacts, R: Wait + Copy> Front<'a, N, R> {
-    /// That of a server where nobody accepts yet. Only a mirror's log has a peer.
-    pub fn new(
-        rt: &'a R,
-        alloc: Global,
-        cacher: &'a Cacher<N, R>,
-        peer: Option<Peer>,
-        counts: Counts,
-        settings: Settings,
-    ) -> Front<'a, N, R>
-        requires ranged { AreInRange settings }
-        requires mirrored { IsSome peer → N.mirror ≡ true }
+    /// That of a server where nobody accepts yet. Only a mirror's log has a peer that is followed.
+    pub fn new(rt: &'a R, alloc: Global, cacher: &'a Cacher<N, R>, desk: Desk) -> Front<'a, N, R>
+        requires mirrored { IsSome desk.followed → N.mirror ≡ true }
     {
         Front {
             rt,
             alloc,
             cacher,
-            peer,
-            counts,
-            settings,
-            doorbell: Doorbell::new(),
+            desk,
             house: House::new(),
             end: End::new(),
         }
@@ -67,15 +88,22 @@ impl<'a, N: LogFacts, R: Wait + Copy> Front<'a, N, R> {
 
     /// The mirror follows its peer.
     pub fn found_peer(&self) {
-        if let Some(peer) = &self.peer {
-            peer.found();
+        if let Some(followed) = &self.desk.followed {
+            followed.found();
         }
     }
 
     /// The mirror doesn't follow its peer, and could not when it tried to.
     pub fn lost_peer(&self) {
-        if let Some(peer) = &self.peer {
-            peer.lost();
+        if let Some(followed) = &self.desk.followed {
+            followed.lost();
+        }
+    }
+
+    /// The mirror follows its peer no more, for good.
+    pub fn end_following(&self) {
+        if let Some(followed) = &self.desk.followed {
+            followed.end();
         }
     }
 }

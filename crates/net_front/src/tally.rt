@@ -1,15 +1,14 @@
 //! How many sessions a thread served.
 
-ghost use Rattle.std.specs.Prelude.{◌≡◌, ◌+◌, ◌<◌, ◌≤◌, ◌^◌, false, IfSome, IfOk};
-ghost use Rattle.net_front.specs.Ends.{MayEnd};
+ghost use Rattle.std.specs.Prelude.{◌≡◌, ◌<◌, IfSome};
 
 use crate::intake::{Intake, Limit};
-use crate::shared::{Front, Gate};
+use crate::shared::Front;
 use bells::Rung;
 use edge_io::Listener;
 use kube_meta::Memory;
-use std::sync::Wait;
 use std::sync::ledger::{Book, Share};
+use std::sync::{Mutex, Wait};
 use up_api::LogFacts;
 
 /// How many sessions were run by those whose parts are here. It is as many as they accepted connections.
@@ -66,10 +65,11 @@ impl<B: Limit> Tally<B> {
     }
 
     /// Waits for the next connection, and serves it by a session. The lock is free meanwhile. False where none comes.
+    /// Whoever calls it has entered the house, and waits no more when it returns.
     pub fn serve_next<L, N, R>(
         &mut self,
         front: &Front<'_, N, R>,
-        gate: &Gate<L, B>,
+        intake: &Mutex<Intake<L, B>>,
     ) -> Result<bool, Memory>
     where
         L: Listener,
@@ -78,55 +78,17 @@ impl<B: Limit> Tally<B> {
         R: Wait + Copy,
     {
         let client = front.cacher.client()?;
-        let next = gate.intake.lock(front.rt).next(&mut self.share);
+        let next = intake.lock(front.rt).next(&mut self.share);
         front.house.takes();
         match next {
             Some(visitor) => {
                 let (heard, rung) = visitor.bells(front.alloc);
-                visitor.serve(
+                let _served = visitor.serve(
                     front.rt,
                     front.alloc,
                     client.heard_by(rung),
                     heard,
-                    &front.doorbell,
-                    &front.counts,
-                    front.peer.as_ref(),
-                    &front.settings,
-                    &mut self.sessions,
-                );
-                Ok(true)
-            }
-            None => Ok(false),
-        }
-    }
-
-    /// The same, where nobody else accepts.
-    pub fn serve_from<L, N, R>(
-        &mut self,
-        front: &Front<'_, N, R>,
-        intake: &mut Intake<L, B>,
-    ) -> Result<bool, Memory>
-    where
-        L: Listener,
-        L::T: Rung,
-        N: LogFacts,
-        R: Wait + Copy,
-        ensures ended { IfOk result (λ served. served ≡ false →
-            MayEnd (L.over intake.new.listener) (L.faults intake.new.listener) (L.given intake.new.listener) B.limit) }
-    {
-        let client = front.cacher.client()?;
-        match intake.next(&mut self.share) {
-            Some(visitor) => {
-                let (heard, rung) = visitor.bells(front.alloc);
-                visitor.serve(
-                    front.rt,
-                    front.alloc,
-                    client.heard_by(rung),
-                    heard,
-                    &front.doorbell,
-                    &front.counts,
-                    front.peer.as_ref(),
-                    &front.settings,
+                    &front.desk,
                     &mut self.sessions,
                 );
                 Ok(true)

@@ -1,23 +1,20 @@
 //! An accepted connection. Nothing else is here, so that nothing else has its ends.
 
-ghost use Rattle.std.specs.Prelude.{◌≡◌, ℕ, ◌+◌, ◌<◌, ◌≤◌, ◌^◌, true, None, IsSome, IfOk, IfNone};
+ghost use Rattle.std.specs.Prelude.{◌≡◌, ◌+◌, ◌<◌, ◌^◌, true, None, IsSome, IfOk, IfNone};
 ghost use Rattle.edge_io.specs.Net.{handed_out, failures};
-ghost use Rattle.net_front.specs.Visits.{IsVisit};
+ghost use Rattle.net_front.specs.Visits.{IsVisit, visit_ends};
 ghost use Rattle.sess_turns.specs.Terms.{terms_of};
-ghost use Rattle.up_api.specs.Settings.{AreInRange};
 
 use crate::clock::RungClock;
-use crate::doorbell::Doorbell;
 use crate::ringing::RingingClient;
 use crate::schedule::Schedule;
+use crate::shared::Desk;
 use bells::{Bell, Rung};
 use client_api::Client;
 use edge_io::{Failed, Listener};
-use request_counts::{Counts, Peer};
 use sess_serve::{SessionEnd, serve_session};
 use std::alloc::{AllocError, Global};
 use std::sync::{Arc, Wait};
-use up_api::Settings;
 
 /// An accepted connection, which is owed a session. It can't be let go: whoever has it can only have it served.
 // So it is no `Drop`, and must not become one: that is what refuses a body that forgets one, overwrites it, or leaves
@@ -72,26 +69,25 @@ where
         Ok((bell, again))
     }
 
-    /// Serves it by a session over this client, counts that, and lets it go. `bell` is what is rung for the client's
-    /// watch. What it is answered is added to `counts`, and only a mirror's log has a `peer`.
+    /// Serves it by a session over this client, counts that, and gives its source and its sink back. `bell` is what is
+    /// rung for the client's watch. Only a mirror's log has a peer that is followed.
     pub fn serve<C: Client + Drop, R: Wait>(
         self,
         rt: &R,
         alloc: Global,
         client: C,
         bell: Option<Arc<Bell, Global>>,
-        doorbell: &Doorbell,
-        counts: &Counts,
-        peer: Option<&Peer>,
-        settings: &Settings,
+        desk: &Desk,
         sessions: &mut u64,
-    ) -> SessionEnd
+    ) -> (SessionEnd, L::S, L::K)
         requires idle { (C.facts client).watching ≡ None }
-        requires mirrored { IsSome peer → C.mirror ≡ true }
-        requires settings { AreInRange settings.now }
+        requires mirrored { IsSome desk.now.followed → C.mirror ≡ true }
         requires room { sessions.old < 2 ^ 63 }
-        ensures session { IsVisit (terms_of C.base C.mirror (C.facts client) settings.now) (C.whole client) (C.pass client)
-            (L.S.left self.source) (L.S.faults self.source) (L.K.faults self.sink) result }
+        ensures session { IsVisit (terms_of C.base C.mirror (C.facts client) desk.now.settings)
+            (C.whole client) (C.pass client)
+            (visit_ends (L.S.left self.source) (L.S.faults self.source) (L.K.written self.sink) (L.K.faults self.sink))
+            (visit_ends (L.S.left result.1) (L.S.faults result.1) (L.K.written result.2) (L.K.faults result.2))
+            result.0 }
         ensures counted { sessions.new ≡ sessions.old + 1 }
     {
         let Visitor {
@@ -100,19 +96,28 @@ where
             clock,
         } = self;
         *sessions += 1;
-        counts.opened();
+        desk.counts.opened();
+        let place = desk.disconnects.enter(rt, bell.as_ref());
         let schedule = Schedule::new();
-        let mut client = RingingClient::new(client, doorbell, counts, peer, &schedule, settings);
-        let mut clock = RungClock::new(clock, rt, bell, doorbell, &schedule);
+        let mut client = RingingClient::new(client, desk, &schedule);
+        let mut clock = RungClock::new(
+            clock,
+            rt,
+            bell,
+            &desk.doorbell,
+            &desk.disconnects,
+            &schedule,
+        );
         let end = serve_session(
             alloc,
             &mut client,
             &mut source,
             &mut sink,
             &mut clock,
-            settings,
+            &desk.settings,
         );
-        counts.closed();
-        end
+        desk.disconnects.leave(rt, place);
+        desk.counts.closed();
+        (end, source, sink)
     }
 }
