@@ -17,8 +17,8 @@ const FEW_CALLS: usize = 16;
 const GATHER_MS: u64 = 1;
 
 /// Feeds the caches, tells them the time and rings for the lanes that were told, by turns, until `end` is there and the
-/// bell rung. Where all watches were ended it rings for all connections. Where there is no memory for a pass it does not
-/// run: lists and watches follow the log themselves.
+/// bell rung. Where all watches were ended it rings for all connections. Where there is no memory for a pass it does
+/// not run: lists and watches follow the log themselves.
 pub fn pump<N: LogFacts, T: Clock, R: Wait + Copy>(
     rt: &R,
     alloc: Global,
