@@ -1,17 +1,19 @@
 -- What an intake keeps, and where it stands by a log.
-use Rattle.std.proofs.Common.{◌≡◌, ℕ, zero, suc, ◌+◌, ◌^◌, ◌<◌, ◌≤◌, Bool, true, false, not, eqb, leb, ltb, ◌-◌, List, [], ◌∷◌, ◌++◌, length, map, fold, filter, All, bytes_eq, is_some, refl, sym, ap, ◌∙◌, subst, inl, inr, arith}
+use Rattle.std.proofs.Common.{◌≡◌, ℕ, zero, suc, ◌+◌, Option, drop, ◌^◌, ◌<◌, ◌≤◌, Bool, true, false, not, eqb, leb, ltb, ◌-◌, List, [], ◌∷◌, ◌++◌, length, map, fold, filter, All, bytes_eq, is_some, refl, sym, ap, ◌∙◌, subst, inl, inr, arith}
 use Rattle.std.specs.Prelude.{◌&&◌, ◌||◌, AllPairs}
 use Rattle.std.specs.List.{AllByRecursion}
 use Rattle.std.proofs.Math.Seq.{take-nil}
 use Rattle.std.proofs.lemmas.Bool.{cases_eq, eq-eqb, ne_eqb, le-leb, lt-leb, lt-ltb, le-ltb, or_parts}
-use Rattle.std.proofs.lemmas.List.{length-append}
+use Rattle.std.proofs.lemmas.List.{length-append, drop_at}
 use Rattle.std.proofs.lemmas.List.Elements.{All-nil, All-push, All-map, recursion_from_All}
 use Rattle.std.proofs.lemmas.List.Folds.{list_any-append}
 use Rattle.std.proofs.lemmas.List.Kept.{AllPairs-cons}
 use Rattle.kube_meta.specs.declared.resources.Resource.TheVariants.{Pods}
 use Rattle.kube_meta.specs.Rows.{RowData, row_with}
 use Rattle.rev_log.specs.Changes.{ChangeData, RevisionData, same_object, AreOfDistinctObjects}
-use Rattle.rev_log.specs.Logs.{Log, end_of, grown}
+use Rattle.rev_front.specs.Passes.{quiets}
+use Rattle.rev_log.specs.Logs.{Log, end_of, grown, between, quiet_at}
+use Rattle.rev_log.proofs.GrowthLemmas.{upto-end, row_at-grown, row_at-between}
 use Rattle.rev_log.specs.States.{row_next, row_at}
 use Rattle.select_all.specs.declared.selection.Kind.TheVariants.{Added, Deleted}
 use Rattle.select_all.specs.Listings.{row_told}
@@ -139,6 +141,41 @@ module _ (i : IntakeData) (is : IsIntake i) (log : Log) (at : IsAtEnd i log) whe
     fits = subst (All (λ u. fits_kind u.kind (is_some (row_at log Pods (end_of log) u.obj.key)) ≡ true)) (sym kept)
         (All-push (λ u. fits_kind u.kind (is_some (row_at log Pods (end_of log) u.obj.key)) ≡ true) i.kept t at.fits fits);
   }
+
+-- ---- quiet revisions
+
+quiet_rows : (key : List ℕ) (row : Option RowData) (from n : ℕ) → fold (row_next Pods key) row (quiets quiet_at from n) ≡ row
+quiet_rows key row from zero = refl
+quiet_rows key row from (suc n) = quiet_rows key row (from + 1) n
+
+quiet_length : (from n : ℕ) → length (quiets quiet_at from n) ≡ n
+quiet_length from zero = refl
+quiet_length from (suc n) = ap suc (quiet_length (from + 1) n)
+
+-- what stands behind them is what stood before
+pub quiet_row : (log : Log) (key : List ℕ) (n : ℕ) → row_at (grown log (quiets quiet_at (end_of log) n)) Pods (end_of log + n) key ≡ row_at log Pods (end_of log) key
+quiet_row log key n =
+    let more : List RevisionData = quiets quiet_at (end_of log) n in
+    let whole : end_of (grown log more) ≡ end_of log + n = omega (arith, length-append log.revisions more, quiet_length (end_of log) n) in
+    let behind : between (grown log more) (end_of log) (end_of log + n) ≡ more =
+    ap (drop (end_of log - log.first)) (upto-end (grown log more) (end_of log + n) (omega (arith, whole))) ∙ drop_at log.revisions more (end_of log - log.first) (omega arith) in
+    row_at-between (grown log more) Pods key (end_of log) (end_of log + n) (omega arith)
+    ∙ ap (fold (row_next Pods key) (row_at (grown log more) Pods (end_of log) key)) behind
+    ∙ quiet_rows key (row_at (grown log more) Pods (end_of log) key) (end_of log) n
+    ∙ row_at-grown log more Pods (end_of log) key (omega arith)
+
+-- so an intake that stands before them stands behind them
+pub passed_over : (old new : IntakeData) (log : Log) (n : ℕ) → new.to ≡ old.to + n → old.kept ≡ [] → new.kept ≡ [] → ((key : List ℕ) → has new.keys key ≡ has old.keys key) →
+    IsAtEnd old log → IsAtEnd new (grown log (quiets quiet_at (end_of log) n))
+passed_over old new log n to none still keys at =
+    let more : List RevisionData = quiets quiet_at (end_of log) n in
+    let end : end_of (grown log more) ≡ end_of log + n = omega (arith, length-append log.revisions more, quiet_length (end_of log) n) in
+    anew new (grown log more) (omega (arith, to, at.end, end)) still
+    (λ key. keys key ∙ at.keys key
+    ∙ ap (λ (l : List TransitionData). is_some (row_at log Pods (end_of log) key) || tells Added l key) none
+    ∙ or_false (is_some (row_at log Pods (end_of log) key))
+    ∙ ap (λ (r : Option RowData). is_some r) (sym (quiet_row log key n))
+    ∙ ap (λ (m : ℕ). is_some (row_at (grown log more) Pods m key)) (sym end))
 
 -- an intake that begins
 pub begins : (new : IntakeData) (base : ℕ) (listed : List RowData) → new.to ≡ base → new.kept ≡ [] → ((key : List ℕ) → has new.keys key ≡ is_some (row_with listed key)) → IsAtEnd new (opened_log base listed)

@@ -1,9 +1,10 @@
 //! What a mirror takes in.
 
-ghost use Rattle.std.specs.Prelude.{◌≡◌, ℕ, ◌+◌, ◌<◌, ◌≤◌, ◌^◌, List, [], ◌∷◌, length, map, fold, is_some, IfOk, OnOk, OnErr, true, false};
+ghost use Rattle.std.specs.Prelude.{◌≡◌, ℕ, ◌+◌, ◌-◌, ◌<◌, ◌≤◌, ◌^◌, List, [], ◌∷◌, length, map, fold, is_some, IfOk, OnOk, OnErr, true, false};
 ghost use Rattle.kube_meta.specs.declared.resources.Resource.TheVariants.{Pods};
 ghost use Rattle.rev_log.specs.Changes.{RevisionData};
-ghost use Rattle.rev_log.specs.Logs.{Log, IsLog, end_of, grown};
+ghost use Rattle.rev_front.specs.Passes.{quiets};
+ghost use Rattle.rev_log.specs.Logs.{Log, IsLog, end_of, grown, quiet_at};
 ghost use Rattle.rev_log.specs.States.{row_at};
 ghost use Rattle.select_all.specs.Listings.{row_told};
 ghost use Rattle.select_all.specs.Streams.{TransitionData};
@@ -200,16 +201,19 @@ impl Intake {
         }
     }
 
-    /// Goes on behind the revision of the lines that were kept, which the log has now.
-    pub fn commit(&mut self)
-        requires { self.old.to < 2 ^ 62 }
-        ensures moves { IsClear self.old (self.old.to + 1) self.new }
+    /// Goes on behind a later revision, up to which the log has the one of the lines that were kept now, and behind
+    /// that only revisions at which nothing changes.
+    pub fn commit(&mut self, upto: u64)
+        requires onward { self.old.to < upto }
+        requires last { upto ≤ 2 ^ 62 }
+        ensures moves { IsClear self.old upto self.new }
         ensures at { (log : Log) (revision : RevisionData) → IsAtEnd self.old log →
-            IsRevisionTold Pods (self.old.to + 1) self.old.kept revision → IsAtEnd self.new (grown log (revision ∷ [])) }
+            IsRevisionTold Pods (self.old.to + 1) self.old.kept revision →
+            IsAtEnd self.new (grown log (revision ∷ quiets quiet_at (self.old.to + 1) (upto - (self.old.to + 1)))) }
     {
         take_out(&mut self.keys, Kind::Deleted, &self.kept);
         self.kept.clear();
-        self.to += 1;
+        self.to = upto;
     }
 
     /// Goes on behind another revision, at which the objects with these keys stand. The lines that are kept are

@@ -20,22 +20,9 @@ use Rattle.mirror_keep.specs.Intakes.{IntakeData, IsIntake, IsAtEnd, Keeps, fits
 use Rattle.mirror_keep.specs.Faults.{event_fault, mark_fault, is_repeated, last_of}
 use Rattle.mirror_keep.proofs.IntakeLemmas.{one_more, stood_here}
 use Rattle.mirror_store.specs.Kept.{Holds}
-use Rattle.mirror_store.specs.MirrorLogs.{MirrorLogData, Takes, Moves, MovesOne, Steps, Commits}
-use Rattle.mirror_store.specs.declared.refusal.MirrorNo.{MirrorNo}
-use Rattle.mirror_store.specs.declared.refusal.MirrorNo.TheVariants.{Refused, Passed, Memory}
+use Rattle.mirror_store.specs.MirrorLogs.{MirrorLogData, Takes, Moves}
 use Rattle.mirror_store.proofs.FaultLemmas.{IsGood, good, good_mark}
-use Rattle.mirror_store.proofs.StepLemmas.{view, moves_rest, kept_of, room}
-
--- ---- a loop of commits
-
-pub one_on : (b c : MirrorLogData) → MovesOne b c → end_of c.log ≡ end_of b.log + 1
-one_on b c step = omega (arith, ap end_of step.log_is, length-append b.log.revisions (step.revision ∷ []))
-
--- a step that failed
-pub stopped : (a b c : MirrorLogData) (last : ℕ) (why : MirrorNo) → Moves a b → end_of b.log < last → Steps b (Err why) c → Commits a last (Err why) c
-stopped a b c last (Refused fault) moves low step = absurd step
-stopped a b c last (Passed at) moves low step = (moves_rest a b c moves step.0, omega (arith, low, ap end_of step.0.log), step.1, step.2)
-stopped a b c last Memory moves low step = (moves_rest a b c moves step, omega (arith, low, ap end_of step.log))
+use Rattle.mirror_store.proofs.StepLemmas.{view, kept_of, room}
 
 -- ---- what is known before a line
 

@@ -10,7 +10,6 @@ use Rattle.rev_log.specs.Logs.{Log, Fits, end_of, grown, upto}
 use Rattle.rev_log.proofs.GrowthLemmas.{upto-end, upto-grown}
 use Rattle.up_api.specs.Sections.{log_of, log_upto}
 use Rattle.up_api.proofs.SectionLemmas.{logs_grow_on}
-use Rattle.up_store.specs.Hearing.{IsHeard}
 
 -- all that a pass has seen
 pub whole : (base : List RowData) (p : Pass RevisionData) (to : ℕ) → end_from p.first p.seen ≤ to → log_upto base p to ≡ record { first = p.first; base = base; revisions = p.seen }
@@ -63,20 +62,8 @@ module _ (base : List RowData) (p q : Pass RevisionData) (more : List RevisionDa
   pub added_to : end_from q.first q.seen ≡ to + length more
   added_to = omega (arith, on.log_is, reached, ap length now, length-append p.seen more)
 
--- it is the one behind the end
-module _ (base : List RowData) (p q : Pass RevisionData) (r : RevisionData) (to rev : ℕ)
-    (pass : IsPass Fits p) (on : Extends p q) (within : to ≤ end_from p.first p.seen) (number : r.rev ≡ to + 1) (heard : IsHeard base p r rev q) where
-  last_heard : end_of heard.before ≡ to
-  last_heard = omega (arith, heard.next, number)
-
-  pub heard_next : log_upto base q (to + 1) ≡ grown (log_upto base p to) (r ∷ [])
-  heard_next = added base p q (r ∷ []) to heard.before pass on within heard.shown last_heard heard.committed
-
-  pub heard_to : end_from q.first q.seen ≡ to + 1
-  heard_to = added_to base p q (r ∷ []) to heard.before pass on within heard.shown last_heard heard.committed
-
--- a revision that isn't the one behind the store's end: that is above the mirror's
-pub passed : (p : Pass RevisionData) (to at : ℕ) → IsPass Fits p → to ≤ end_from p.first p.seen → p.shown ≤ at → ¬ (to + 1 ≡ at + 1) → to < at
+-- the mirror's end isn't the store's: that is above it
+pub passed : (p : Pass RevisionData) (to at : ℕ) → IsPass Fits p → to ≤ end_from p.first p.seen → p.shown ≤ at → ¬ (at ≡ to) → to < at
 passed p to at pass within shown other = elim (cases_lt to at) [
   | inl above ↦ above
   | inr not_above ↦ absurd (other (omega (arith, pass.within, within, shown, not_above)))

@@ -1,17 +1,17 @@
 -- A mirror's log that begins anew.
-use Rattle.std.proofs.Common.{◌≡◌, ℕ, suc, ◌+◌, ◌-◌, ◌^◌, ◌≤◌, List, [], ◌∷◌, length, fold, Ok, Err, is_some, refl, sym, ap, ◌∙◌, subst, append_assoc, arith, length-append, length-take}
+use Rattle.std.proofs.Common.{◌≡◌, ℕ, suc, ◌+◌, ◌-◌, ◌^◌, ◌<◌, ◌≤◌, List, [], ◌∷◌, ◌++◌, length, fold, Ok, Err, is_some, refl, sym, ap, ◌∙◌, subst, append_assoc, arith, length-append, length-take}
 use Rattle.std.specs.BTreeSet.{BTreeSet}
 use Rattle.std.specs.Prelude.{Bool, Result}
 use Rattle.std.proofs.lemmas.List.{append-nil}
 use Rattle.kube_meta.specs.Rows.{RowData, row_with}
 use Rattle.kube_meta.specs.declared.resources.Resource.TheVariants.{Pods}
-use Rattle.rev_front.specs.Passes.{Pass, IsPass, Extends, FitFrom}
+use Rattle.rev_front.specs.Passes.{Pass, IsPass, Extends, FitFrom, quiets}
 use Rattle.rev_log.specs.Changes.{RevisionData}
-use Rattle.rev_log.specs.Logs.{Log, IsLog, Fits, end_of, grown, upto}
+use Rattle.rev_log.specs.Logs.{Log, IsLog, Fits, end_of, grown, upto, quiet_at}
 use Rattle.rev_log.specs.States.{IsStateAt, row_at, row_next, row_in_base}
 use Rattle.rev_log.proofs.GrowthLemmas.{upto-end}
 use Rattle.up_api.specs.Sections.{log_of, log_upto}
-use Rattle.up_store.specs.Hearing.{AreHeard}
+use Rattle.up_store.specs.Hearing.{AreAscending, AreHeard, filled}
 use Rattle.mirror_bridge.specs.Bridges.{Bridges}
 use Rattle.mirror_law.proofs.RowLemmas.{logs_go_on}
 use Rattle.mirror_keep.specs.Intakes.{IntakeData, IsAtEnd, IsClear, has}
@@ -33,6 +33,17 @@ logs_go_on_all log (r ∷ more) is fit within =
     let rest : FitFrom Fits (end_of (grown log (r ∷ []))) more = λ i found at. subst (λ (n : ℕ). Fits n found) (omega (arith, end)) (fit (suc i) found at) in
     subst (λ (revisions : List RevisionData). IsLog (record log { revisions = revisions })) (append_assoc log.revisions (r ∷ []) more)
     (logs_go_on_all (grown log (r ∷ [])) more next rest (omega (arith, end, within)))
+
+-- revisions of which each fits its place have no others between them
+pub dense : (from : ℕ) (revisions : List RevisionData) (to : ℕ) → FitFrom Fits from revisions → from + length revisions ≡ to → AreAscending from revisions to × (filled from revisions to ≡ revisions)
+dense from [] to fit end = (omega (arith, end), ap (quiets quiet_at from) {x = to - from} {y = 0} (omega (arith, end)))
+dense from (r ∷ more) to fit end =
+    let this : Fits (from + 1 + 0) r = fit 0 r refl in
+    let number : r.rev ≡ from + 1 = omega (arith, this.0) in
+    let rest = dense r.rev more to (λ i found at. subst (λ (n : ℕ). Fits n found) (omega (arith, number)) (fit (suc i) found at)) (omega (arith, end, number)) in (
+      (omega (arith, number), this.1, rest.0),
+      ap (λ (n : ℕ). quiets quiet_at from n ++ r ∷ filled r.rev more to) {x = r.rev - from - 1} {y = 0} (omega (arith, number)) ∙ ap (λ (l : List RevisionData). r ∷ l) rest.1,
+    )
 
 -- ---- the rows at the end
 
@@ -56,27 +67,37 @@ module _ (base : List RowData) (mirror : Bool) (p q : Pass RevisionData) (i : In
 
   -- ---- revisions are added
 
-  module _ (revisions : List RevisionData) (to : ℕ) (j : IntakeData) (heard : AreHeard base p i.to revisions to q) (cleared : IsClear i to j) where
-    next_log : log_upto base q j.to ≡ grown (log_upto base p i.to) revisions
-    next_log =
-        ap (log_upto base q) (cleared.to_is ∙ heard.number)
-        ∙ added base p q revisions i.to heard.before pass on holds.seen heard.shown (sym heard.follow) heard.committed
+  module _ (revisions : List RevisionData) (to : ℕ) (j : IntakeData) (heard : AreHeard base p i.to revisions to q) (floor : q.floor ≡ to)
+      (fit : FitFrom Fits (end_of old.log) revisions) (long : end_of old.log + length revisions ≡ to) (cleared : IsClear i to j) where
+    all_is : filled i.to revisions to ≡ revisions
+    all_is = (dense i.to revisions to (subst (λ (n : ℕ). FitFrom Fits n revisions) (sym end_is) fit) (omega (arith, long, end_is))).1
 
     log_is : log_upto base q j.to ≡ grown old.log revisions
-    log_is = next_log ∙ ap (λ (m : MirrorLogData). grown m.log revisions) is
+    log_is =
+        ap (log_upto base q) (cleared.to_is ∙ sym long ∙ ap (λ (n : ℕ). n + length revisions) (sym end_is))
+        ∙ subst (λ (l : List RevisionData). log_upto base q (i.to + length l) ≡ grown (log_upto base p i.to) l) all_is
+        (added base p q (filled i.to revisions to) i.to heard.before pass on holds.seen heard.shown (sym heard.follow) heard.committed)
+        ∙ ap (λ (m : MirrorLogData). grown m.log revisions) is
 
     pub added_end : to ≡ end_of (grown old.log revisions)
-    added_end = omega (arith, heard.number, end_is, length-append old.log.revisions revisions)
+    added_end = omega (arith, long, length-append old.log.revisions revisions)
 
-    pub holds_added : FitFrom Fits (end_of old.log) revisions → end_of old.log + length revisions ≤ 2 ^ 62 → IsAtEnd j (grown old.log revisions) → Holds base mirror q j
-    holds_added fit within at =
+    pub holds_added : to ≤ 2 ^ 62 → IsAtEnd j (grown old.log revisions) → Holds base mirror q j
+    holds_added within at =
         let log : IsLog old.log = subst (λ (m : MirrorLogData). IsLog m.log) is holds.log in
         record {
           a_mirror = holds.a_mirror;
-          begun = omega (arith, on.log_is, holds.begun, cleared.to_is, heard.number);
-          seen = omega (arith, cleared.to_is, heard.number, added_to base p q revisions i.to heard.before pass on holds.seen heard.shown (sym heard.follow) heard.committed);
-          log = subst IsLog (sym log_is) (logs_go_on_all old.log revisions log fit within);
-          lawful = clear i j to cleared (omega (arith, heard.number, end_is, within));
+          begun = omega (arith, on.log_is, holds.begun, cleared.to_is, long, end_is);
+          seen = omega (
+            arith,
+            cleared.to_is,
+            long,
+            end_is,
+            ap (λ (l : List RevisionData). length l) all_is,
+            added_to base p q (filled i.to revisions to) i.to heard.before pass on holds.seen heard.shown (sym heard.follow) heard.committed,
+          );
+          log = subst IsLog (sym log_is) (logs_go_on_all old.log revisions log fit (omega (arith, long, within)));
+          lawful = clear i j to cleared within;
           at = subst (IsAtEnd j) (sym log_is) at;
         }
 
@@ -86,7 +107,7 @@ module _ (base : List RowData) (mirror : Bool) (p q : Pass RevisionData) (i : In
       kept = cleared.kept;
       log = log_is;
       end = added_end ∙ ap end_of (sym log_is);
-      floor = heard.floor;
+      floor = floor;
     }
 
 -- ---- the log begins anew

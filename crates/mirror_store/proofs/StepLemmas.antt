@@ -14,9 +14,6 @@ use Rattle.rev_log.specs.Logs.{Log, IsLog, Fits, end_of, grown}
 use Rattle.rev_log.specs.States.{row_at}
 use Rattle.select_all.specs.Streams.{TransitionData}
 use Rattle.up_api.specs.Sections.{Learns, log_upto}
-use Rattle.up_store.specs.Hearing.{IsHeard, IsHearReply}
-use Rattle.up_store.specs.declared.hearing.HearNo.{HearNo}
-use Rattle.up_store.specs.declared.hearing.HearNo.TheVariants as hear
 use Rattle.mirror_law.specs.Mirrors.{change_told, of_revision, IsRevisionTold}
 use Rattle.mirror_law.specs.Taking.{row_before}
 use Rattle.mirror_law.proofs.RowLemmas.{logs_go_on}
@@ -25,10 +22,10 @@ use Rattle.mirror_keep.proofs.IntakeLemmas.{stood_later}
 use Rattle.mirror_keep.proofs.KindLemmas.{apart, stood_after}
 use Rattle.mirror_keep.proofs.RowLemmas.{committed}
 use Rattle.mirror_store.specs.Kept.{Holds}
-use Rattle.mirror_store.specs.MirrorLogs.{MirrorLogData, Moves, MovesOne, Rests, StandsOn, Steps, kept_at, hear_refusal}
+use Rattle.mirror_store.specs.MirrorLogs.{MirrorLogData, Moves, MovesOne, Rests, StandsOn, kept_at}
 use Rattle.mirror_store.proofs.FaultLemmas.{IsGood}
 use Rattle.mirror_store.proofs.MoveLemmas.{all_at, none_at}
-use Rattle.mirror_store.proofs.PassLemmas.{stays, seen_on, heard_next, heard_to, passed}
+use Rattle.mirror_store.proofs.PassLemmas.{stays, seen_on}
 
 -- ---- passes
 
@@ -64,18 +61,6 @@ module _ (base : List RowData) (mirror : Bool) (p q : Pass RevisionData) (i : In
   pub rests : Rests (view base p i) (view base q i)
   rests = record { selection = refl; log = same_log; kept = refl }
 
-  -- the store refused the revision
-  pub failed : (revision : RevisionData) (why : HearNo) → IsPass Fits p → revision.rev ≡ i.to + 1 → IsHearReply base p revision (Err why) q → Steps (view base p i) (Err (hear_refusal why)) (view base q i)
-  failed revision (hear.Passed at) pass number reply =
-      let above : i.to < at = passed p i.to at pass holds.seen reply.1 (λ same. reply.2 (number ∙ same)) in
-      (rests, reply.0, omega (arith, above, holds_on.at.end))
-  failed revision hear.Memory pass number reply = rests
-
-  -- the same, where the fields are seen as this
-  pub failed_now : (old : MirrorLogData) → view base p i ≡ old → (revision : RevisionData) (why : HearNo) → IsPass Fits p → IsRevisionTold Pods (i.to + 1) i.kept revision → IsHearReply base p revision (Err why) q
-      → Steps old (Err (hear_refusal why)) (view base q i)
-  failed_now old is revision why pass told reply = subst (λ (m : MirrorLogData). Steps m (Err (hear_refusal why)) (view base q i)) is (failed revision why pass told.number reply)
-
 pub rests_same : (m : MirrorLogData) → Rests m m
 rests_same m = record { selection = refl; log = refl; kept = refl }
 
@@ -95,54 +80,36 @@ clear old new to is within = record {
   distinct = subst (AllPairs (λ t u. bytes_eq t.obj.key u.obj.key ≡ false)) (sym is.kept) (λ a b d less inside. absurd (omega (arith, inside)));
 }
 
-module _ (base : List RowData) (mirror : Bool) (p q : Pass RevisionData) (i j : IntakeData) (revision : RevisionData) (rev : ℕ)
-    (pass : IsPass Fits p) (on : Extends p q) (holds : Holds base mirror p i) (old : MirrorLogData) (is : view base p i ≡ old) (low : end_of old.log < 2 ^ 62)
-    (told : IsRevisionTold Pods (i.to + 1) i.kept revision) (heard : IsHeard base p revision rev q) (cleared : IsClear i (i.to + 1) j) where
-  within : i.to < 2 ^ 62
-  within = omega (arith, low, ap (λ (m : MirrorLogData). end_of m.log) is, holds.at.end)
+-- the log with the revision of the lines that are kept
+abbrev pub next_view : List RowData → Pass RevisionData → Pass RevisionData → IntakeData → RevisionData → MirrorLogData
+next_view base p q i revision = record { selection = i.selection; told = q; log = grown (log_upto base p i.to) (revision ∷ []); kept = [] }
 
-  next_log : log_upto base q j.to ≡ grown (log_upto base p i.to) (revision ∷ [])
-  next_log = ap (log_upto base q) cleared.to_is ∙ heard_next base p q revision i.to rev pass on holds.seen told.number heard
-
+module _ (base : List RowData) (mirror : Bool) (p q : Pass RevisionData) (i : IntakeData) (revision : RevisionData)
+    (holds : Holds base mirror p i) (told : IsRevisionTold Pods (i.to + 1) i.kept revision) where
   told_log : IsRevisionTold Pods (end_of (log_upto base p i.to) + 1) i.kept revision
   told_log = subst (λ (n : ℕ). IsRevisionTold Pods (n + 1) i.kept revision) holds.at.end told
 
-  pub holds_next : IsAtEnd j (grown (log_upto base p i.to) (revision ∷ [])) → Holds base mirror q j
-  holds_next at = record {
-    a_mirror = holds.a_mirror;
-    begun = omega (arith, on.log_is, holds.begun, cleared.to_is);
-    seen = omega (arith, cleared.to_is, heard_to base p q revision i.to rev pass on holds.seen told.number heard);
-    log = subst IsLog (sym next_log) (logs_go_on (log_upto base p i.to) revision holds.log told_log.is told_log.number (omega (arith, within, holds.at.end)));
-    lawful = clear i j (i.to + 1) cleared (omega (arith, within));
-    at = subst (IsAtEnd j) (sym next_log) at;
-  }
-
-  stands_next : StandsOn (view base p i) (view base q j)
+  stands_next : StandsOn (view base p i) (next_view base p q i revision)
   stands_next rev_above key above =
       let log : Log = log_upto base p i.to in
       let row : Option RowData = row_at log Pods (end_of log) key in
       let end : end_of (grown log (revision ∷ [])) ≡ end_of log + 1 = omega (arith, length-append log.revisions (revision ∷ [])) in
       let fit = recursion_from_All (λ t. fits_kind t.kind (is_some (row_at log Pods (end_of log) t.obj.key)) ≡ true) i.kept holds.at.fits in
-      let later : i.to + 1 < rev_above = omega (arith, above, ap end_of next_log, end, holds.at.end) in
-      ap (λ (l : List TransitionData). is_some (row_before (log_upto base q j.to) Pods l rev_above key)) cleared.kept
-      ∙ ap (λ (l : Log). is_some (row_at l Pods (end_of l) key)) next_log
-      ∙ ap (λ (n : ℕ). is_some (row_at (grown log (revision ∷ [])) Pods n key)) end
+      let later : i.to + 1 < rev_above = omega (arith, above, end, holds.at.end) in
+      ap (λ (n : ℕ). is_some (row_at (grown log (revision ∷ [])) Pods n key)) end
       ∙ committed log key i.kept revision fit told_log
       ∙ stood_after (row_at log Pods (end_of log)) key i.kept (apart i.kept holds.lawful.distinct) fit
       ∙ stood_later i holds.lawful log holds.at key rev_above later
 
-  pub moves_one : MovesOne (view base p i) (view base q j)
+  pub moves_one : MovesOne (view base p i) (next_view base p q i revision)
   moves_one = record {
-    selection = cleared.selection;
+    selection = refl;
     revision = revision;
     told_by = told_log;
-    log_is = next_log;
-    kept = cleared.kept;
+    log_is = refl;
+    kept = refl;
     stands = stands_next;
   }
-
-  pub moves_now : MovesOne old (view base q j)
-  moves_now = subst (λ (m : MirrorLogData). MovesOne m (view base q j)) is moves_one
 
 -- ---- after commits
 

@@ -89,14 +89,7 @@ pub record Rests (old new : MirrorLogData) : Type 0 where
   pub log : new.log ≡ old.log
   pub kept : new.kept ≡ old.kept
 
--- what is answered to the commit of the next revision
-abbrev pub Steps : MirrorLogData → Result (Unit {0}) MirrorNo → MirrorLogData → Type 0
-Steps old (Ok u) new = MovesOne old new
-Steps old (Err (Refused why)) new = ⊥
-Steps old (Err (Passed at)) new = Rests old new × (at ≡ seen_to new) × (end_of new.log < at)
-Steps old (Err Memory) new = Rests old new
-
--- the store's refusal of a revision
+-- the store's refusal of revisions
 abbrev pub hear_refusal : HearNo → MirrorNo
 hear_refusal (hear.Passed at) = Passed at
 hear_refusal hear.Memory = Memory

@@ -1,6 +1,6 @@
 //! The log of a mirror.
 
-ghost use Rattle.std.specs.Prelude.{◌≡◌, ℕ, ◌+◌, ◌≤◌, ◌<◌, ◌^◌, List, [], All, IfOk, IfErr, OnOk, true, false};
+ghost use Rattle.std.specs.Prelude.{◌≡◌, ℕ, ◌+◌, ◌≤◌, ◌<◌, ◌^◌, List, [], ◌∷◌, All, IfOk, IfErr, OnOk, true, false};
 ghost use Rattle.kube_meta.specs.Rows.{AreRising};
 ghost use Rattle.rev_log.specs.Logs.{Log, IsLog, end_of};
 ghost use Rattle.select_all.specs.Streams.{TransitionData};
@@ -8,7 +8,7 @@ ghost use Rattle.up_api.specs.Sections.{Learns, log_upto};
 ghost use Rattle.watch_rules.specs.Bodies.{Told, Bookmark, Closing, Line};
 ghost use Rattle.mirror_law.specs.Mirrors.{opened_log};
 ghost use Rattle.mirror_keep.specs.Faults.{event_fault, mark_fault};
-ghost use Rattle.mirror_store.specs.MirrorLogs.{Commits, Hears, Steps};
+ghost use Rattle.mirror_store.specs.MirrorLogs.{Commits, Hears};
 
 use crate::MirrorNo;
 use kube_meta::{Memory, Obj, Row};
@@ -103,34 +103,33 @@ impl<N: LogFacts, R: Wait + Copy> MirrorLog<N, R> {
         self.intake.selection()
     }
 
-    // Commits the revision behind the end.
-    fn commit_next(&mut self) -> Result<(), MirrorNo>
-        requires { end_of self.old.log < 2 ^ 62 }
-        ensures learns { Learns self.old.told self.new.told }
-        ensures steps { Steps self.old result self.new }
-    {
-        let revision = self.intake.revision(self.alloc)?;
-        // What a pass is, the proof learns where it reads it.
-        self.told.shown();
-        let _ = self.door.hear(revision, &mut self.told)?;
-        self.intake.commit();
-        Ok(())
-    }
-
     // Commits all revisions up to one.
     fn commit_upto(&mut self, upto: u64) -> Result<(), MirrorNo>
         requires onward { end_of self.old.log ≤ upto }
         requires last { upto ≤ 2 ^ 62 }
-        requires next { All (λ t. t.rev ≡ end_of self.old.log + 1) self.old.kept }
         ensures learns { Learns self.old.told self.new.told }
         ensures commits { Commits self.old upto result self.new }
     {
-        while self.intake.to() < upto {
-            match self.commit_next() {
-                Ok(()) => {}
-                Err(why) => return Err(why),
-            }
+        if self.intake.to() == upto {
+            return Ok(());
         }
+        self.commit_past(upto)
+    }
+
+    // Commits all revisions up to one above the end, in one section: the one of the lines that are kept, and behind it
+    // those at which nothing was told.
+    fn commit_past(&mut self, upto: u64) -> Result<(), MirrorNo>
+        requires above { end_of self.old.log < upto }
+        requires last { upto ≤ 2 ^ 62 }
+        ensures learns { Learns self.old.told self.new.told }
+        ensures commits { Commits self.old upto result self.new }
+    {
+        let to = self.intake.to();
+        let revisions = alone(self.alloc, self.intake.revision(self.alloc)?)?;
+        // What a pass is, the proof learns where it reads it.
+        self.told.shown();
+        let _ = self.door.follow(to, revisions, upto, &mut self.told)?;
+        self.intake.commit(upto);
         Ok(())
     }
 
@@ -170,4 +169,13 @@ impl<N: LogFacts, R: Wait + Copy> MirrorLog<N, R> {
     {
         self.intake.forget();
     }
+}
+
+// The revision alone.
+fn alone(alloc: Global, revision: Revision) -> Result<Vec<Revision>, Memory>
+    ensures { IfOk result (λ list. list.items ≡ revision ∷ []) }
+{
+    let mut list = Vec::with_capacity(alloc, 1)?;
+    list.push(revision)?;
+    Ok(list)
 }

@@ -37,7 +37,7 @@ impl<N: LogFacts, R: Wait + Copy> MirrorLog<N, R> {
         let old = self.rows_at_end()?;
         let revisions = bridge(self.alloc, to, &old, base, rows)?;
         let keys = keys_of(self.alloc, rows)?;
-        self.commit_all(revisions, keys)
+        self.commit_all(revisions, base, keys)
     }
 
     // The pods at the log's end.
@@ -54,10 +54,17 @@ impl<N: LogFacts, R: Wait + Copy> MirrorLog<N, R> {
         Ok(rows)
     }
 
-    // Commits revisions behind the end, after which objects with these keys stand, and raises the floor to the last.
-    fn commit_all(&mut self, revisions: Vec<Revision>, keys: Keys) -> Result<u64, RebaseNo>
+    // Commits revisions behind the end, up to this one, after which objects with these keys stand, and raises the floor
+    // to it.
+    fn commit_all(
+        &mut self,
+        revisions: Vec<Revision>,
+        base: u64,
+        keys: Keys,
+    ) -> Result<u64, RebaseNo>
         requires fits { FitFrom Fits (end_of self.old.log) revisions.items }
-        requires last { end_of self.old.log + length revisions.items ≤ 2 ^ 62 }
+        requires long { end_of self.old.log + length revisions.items ≡ base }
+        requires last { base ≤ 2 ^ 62 }
         requires pods { All (λ revision. All (λ change. change.resource ≡ Pods) revision.changes) revisions.items }
         requires keys { (key : List ℕ) → has keys key ≡ is_some (row_at (grown self.old.log revisions.items) Pods (end_of (grown self.old.log revisions.items)) key) }
         ensures learns { Learns self.old.told self.new.told }
@@ -66,7 +73,7 @@ impl<N: LogFacts, R: Wait + Copy> MirrorLog<N, R> {
         let to = self.intake.to();
         // What a pass is, the proof learns where it reads it.
         self.told.shown();
-        let end = self.door.hear_all(to, revisions, &mut self.told)?;
+        let end = self.door.begin_anew(to, revisions, base, &mut self.told)?;
         self.intake.begin_anew(keys, end);
         Ok(end)
     }
