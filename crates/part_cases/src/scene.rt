@@ -61,7 +61,7 @@ impl<N: LogFacts> Model for Scene<N> {
 
     ghost view = { λ s. s.hub };
 
-    ghost use Rattle.script_cases.specs.Scenes.{IsScene};
+    ghost use Rattle.part_cases.specs.Scenes.{IsScene};
 
     ghost invariant = { λ s. IsScene N.base s.hub s.told s.reflector };
 }
