@@ -13,4 +13,4 @@ abbrev pub ghosts-serve_mirrored-F-LogName : goal.ghosts-serve_mirrored-F-LogNam
 ghosts-serve_mirrored-F-LogName g a = record { log = a.made }
 
 abbrev pub ghosts-serve_mirrored-F-LogFacts : goal.ghosts-serve_mirrored-F-LogFacts
-ghosts-serve_mirrored-F-LogFacts g a = record { base = a.opened.opening.rows; mirror = true; window = a.setup.options.settings.window }
+ghosts-serve_mirrored-F-LogFacts g a = record { base = a.peer.opening.rows; mirror = true; window = a.setup.options.settings.window }
