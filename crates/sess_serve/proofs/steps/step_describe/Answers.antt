@@ -10,7 +10,7 @@ use Rattle.sess_serve.proofs.steps.step_describe.Goals as goal
 
 pub returns-in-Probe : goal.returns-in-Probe
 returns-in-Probe g c = λ s.
-    let probe = c.in-Probe.probe.now in
+    let probe = c.in-Probe.probe in
     let same : c.args.document.now ≡ document.Probe probe = c.in-Probe.is in
     let route = subst (λ d. IsRoute c.args.req.now (routed.Describe d)) same c.requires in
     sends _ _ _ _ _ _ c.by_reply.result c.send_unready.result c.by_reply.ensures (unready probe) route

@@ -19,4 +19,4 @@ pub returns-clause-replied : goal.returns-clause-replied
 returns-clause-replied g c = λ s.
     let lacked = rw c.if-is_told_read.false at c.is_told_read.ensures in
     lacks _ _ _ _ _ _ refl refl c.get-answer.ensures.onward
-    (λ w. lacks-read g.C.Client.base g.C.Client.mirror (g.C.Client.facts c.args.client.now) s _ _ _ c.get-answer.result lacked (c.get-answer.ensures.sole w))
+    (λ w. lacks-read g.C.Client.base g.C.Client.mirror (g.C.Client.facts c.args.client.now) s _ _ c.args.req.now c.get-answer.result lacked (c.get-answer.ensures.sole w))

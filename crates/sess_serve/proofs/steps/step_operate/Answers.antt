@@ -19,4 +19,4 @@ pub returns-else-is_told_operation-clause-replied : goal.returns-else-is_told_op
 returns-else-is_told_operation-clause-replied g c = λ s.
     let lacked = rw c.if-is_told_operation.false at c.is_told_operation.ensures in
     lacks _ _ _ _ _ _ refl refl c.operate-answer.ensures.onward
-    (λ w. lacks-operate g.C.Client.base g.C.Client.mirror (g.C.Client.facts c.args.client.now) s _ _ _ c.args.ask c.operate-answer.result lacked (c.operate-answer.ensures.sole w))
+    (λ w. lacks-operate g.C.Client.base g.C.Client.mirror (g.C.Client.facts c.args.client.now) s _ _ c.args.req.now c.args.ask c.operate-answer.result lacked (c.operate-answer.ensures.sole w))
