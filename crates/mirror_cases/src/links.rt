@@ -56,6 +56,7 @@ fn begin<R: Wait>(
     told: &mut Wording,
 ) -> Result<(), Memory> {
     let made = blank(alloc, opening.base())?;
+    let others = String::from_str(alloc, others)?;
     follow::<Brand, R>(rt, alloc, opening, made, source, others, told)
 }
 
@@ -66,7 +67,7 @@ fn follow<N: LogFacts, R: Wait>(
     opening: Opening,
     made: Blank<Revision>,
     source: &mut MemSource,
-    others: &str,
+    others: String,
     told: &mut Wording,
 ) -> Result<(), Memory>
     requires name { made ≡ N.log }
@@ -76,7 +77,7 @@ fn follow<N: LogFacts, R: Wait>(
 {
     let mut mirror: Mirror<N, &R> = Mirror::new(rt, alloc, opening, made, HISTORY)?;
     hear(&mut mirror, source, told)?;
-    for words in others.split(" | ") {
+    for words in others.as_str().split(" | ") {
         if !words.is_empty() {
             told.add(" | ");
             go_on(alloc, &mut mirror, words, told)?;
