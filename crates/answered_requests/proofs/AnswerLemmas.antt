@@ -119,6 +119,8 @@ module _ (terms : Terms) (p q : Pass RevisionData) (req : Req) where
 
   pub refusal_of : (fault : RouteNo) → IsUnrouted req fault → IsRefusal req fault
   refusal_of route_no.ForeignSite is = is
+  refusal_of route_no.MediaType is = is
+  refusal_of (route_no.Unserved what) is = is
   refusal_of route_no.NoPath is = is
   refusal_of route_no.NoMethod is = is
   refusal_of (route_no.Selector fault) is = is

@@ -1,6 +1,8 @@
 //! The caches of a script's log, as its steps see them: where its clients come from, and what all of these share.
 
 use crate::Host;
+use crate::storm::{Storm, weather};
+use case_rows::Wording;
 use client_api::Client;
 use kube_meta::Memory;
 use shared_client::{Cacher, SharedClient};
@@ -24,16 +26,20 @@ pub trait Caches {
 
     /// How often the store's states and histories were read.
     fn reads(&self) -> u64;
+
+    /// Plays a storm, and tells what it leaves: `right`, or what isn't.
+    fn storm(&self, alloc: Global, storm: &Storm, told: &mut Wording) -> Result<(), Memory>;
 }
 
 /// Caches, and a door to the store that they follow.
 #[derive(Drop)]
 pub struct Followers<'a, N: LogFacts, R: Host> {
+    pub rt: R,
     pub cacher: &'a Cacher<N, R>,
     pub door: &'a StoreDoor<N, R>,
 }
 
-impl<'a, N: LogFacts, R: Host> Caches for Followers<'a, N, R> {
+impl<'a, N: LogFacts + Send + Sync, R: Host> Caches for Followers<'a, N, R> {
     type C = SharedClient<'a, N, R>;
 
     fn client(&self) -> Result<SharedClient<'a, N, R>, Memory> {
@@ -52,5 +58,9 @@ impl<'a, N: LogFacts, R: Host> Caches for Followers<'a, N, R> {
 
     fn reads(&self) -> u64 {
         self.door.reads()
+    }
+
+    fn storm(&self, alloc: Global, storm: &Storm, told: &mut Wording) -> Result<(), Memory> {
+        weather::<N, R>(self.rt, alloc, self.cacher, storm, told)
     }
 }

@@ -96,6 +96,7 @@ fn run_rows_on<N: LogFacts + Send + Sync, R: Host>(
 {
     let cacher = Cacher::new(rt, alloc, door.again()?, settings)?;
     let followers = Followers {
+        rt,
         cacher: &cacher,
         door,
     };

@@ -4,7 +4,7 @@ use crate::Host;
 use crate::caches::Caches;
 use crate::seat::Seat;
 use crate::steps::answer;
-use crate::storm::{Storm, weather};
+use crate::storm::Storm;
 use case_rows::{Lines, NO_ROW, Row, Tally, Wording, meets, number, split};
 use kube_meta::Memory;
 use std::alloc::Global;
@@ -100,7 +100,7 @@ impl<'a, M: Caches + Sync, R: Host> Stage<'a, M, R> {
                 self.caches.tick(number(rest));
                 Ok(())
             }
-            "storm" => weather(self.rt, alloc, self.caches, &Storm::of_words(rest), told),
+            "storm" => self.caches.storm(alloc, &Storm::of_words(rest), told),
             _ => self.ask(alloc, word, rest, told),
         }
     }

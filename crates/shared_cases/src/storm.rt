@@ -2,18 +2,22 @@
 
 use crate::Host;
 use crate::asks::{list_ask, selected, write_ask};
-use crate::caches::Caches;
 use crate::seat::Seat;
 use crate::told::Told;
 use case_rows::{Draws, Wording, number, split};
 use client_api::Client;
 use kube_meta::Memory;
 use select_all::{Meaning, Selection};
+use shared_client::Cacher;
 use std::alloc::Global;
+use std::rt::Runtime;
+use std::sync::Wait;
 use std::sync::atomic::AtomicU64;
 use std::sync::atomic::Ordering::SeqCst;
 use std::thread;
-use std::time::Duration;
+use std::thread::Threads;
+use std::time::{Clock, Duration};
+use up_api::LogFacts;
 use up_store::{Operate, WriteAsk};
 
 /// How many write. One more makes operations.
@@ -76,17 +80,20 @@ impl Storm {
 }
 
 /// Plays all parts of a storm, side by side, and tells what it leaves: `right`, or what isn't.
-pub fn weather<M: Caches + Sync, R: Host>(
+pub fn weather<
+    N: LogFacts + Send + Sync,
+    R: Runtime + Wait + Threads + Clock + Copy + Send + Sync + Drop,
+>(
     rt: R,
     alloc: Global,
-    caches: &M,
+    cacher: &Cacher<N, R>,
     storm: &Storm,
     told: &mut Wording,
 ) -> Result<(), Memory> {
-    let first = newest(alloc, caches.client()?)?;
-    let part = |number: usize| play::<M, R>(rt, alloc, caches, storm, number);
+    let first = newest(alloc, cacher.client()?)?;
+    let part = |number: usize| play::<N, R>(rt, alloc, cacher, storm, number);
     let _ = thread::map_indices(&rt, alloc, WRITERS + 1 + WATCHERS, &part)?;
-    let last = newest(alloc, caches.client()?)?;
+    let last = newest(alloc, cacher.client()?)?;
     storm.tell(first, last, told);
     Ok(())
 }
@@ -102,14 +109,14 @@ fn newest<C: Client + Drop>(alloc: Global, client: C) -> Result<u64, Memory> {
 }
 
 // Plays one part of a storm, and answers whether there was memory. It is wrong where there was none.
-fn play<M: Caches, R: Host>(
+fn play<N: LogFacts, R: Runtime + Wait + Threads + Clock + Copy + Send + Sync + Drop>(
     rt: R,
     alloc: Global,
-    caches: &M,
+    cacher: &Cacher<N, R>,
     storm: &Storm,
     number: usize,
 ) -> bool {
-    let is_played = play_by(rt, alloc, caches.client(), storm, number).is_ok();
+    let is_played = play_by(rt, alloc, cacher.client(), storm, number).is_ok();
     if !is_played {
         storm.wrongs.fetch_add(1, SeqCst);
     }
