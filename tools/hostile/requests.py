@@ -60,9 +60,11 @@ class Request:
         self.method, self.target, self.body = method, target, body
         self.fields = fields
         self.path, _, self.query = target.partition("?")
-        self.closes = any(it.strip().lower() == "close" for value in self.values("connection") for it in value.split(","))
-        # what a browser, a WebSocket or another view changes isn't foretold
-        self.is_plain = not any(self.values(name) for name in ("origin", "sec-fetch-site", "upgrade", "accept"))
+        self.closes = method == "HEAD" or any(
+            it.strip().lower() == "close" for value in self.values("connection") for it in value.split(","))
+        # what a browser, another site's name, a WebSocket or another view changes isn't foretold
+        self.is_plain = not (any(self.values(name) for name in ("origin", "sec-fetch-site", "upgrade", "accept"))
+                             or any("." in it for it in self.values("host")))
 
     def values(self, name):
         return [value for it, value in self.fields if it == name]

@@ -29,6 +29,17 @@ pub enum Left {
     Lost(Lost),
 }
 
+/// Follows the peer as [`follow`] does, beside the sessions. What it came to was said by then.
+pub fn follow_beside<N: LogFacts, R: Wait + Copy, S: Source, D: Redial>(
+    front: &Front<'_, N, R>,
+    mirror: &mut Mirror<N, R>,
+    source: &mut S,
+    redial: &mut D,
+    port: u16,
+) {
+    let _left = follow(front, mirror, source, redial, port);
+}
+
 /// Hears the lines of the peer at `port`, at first from `source` and then over connections by `redial`, until the
 /// sessions have ended, or sooner: where a line can't be heard, or the peer has another log. Where the peer can't tell
 /// what comes next, the mirror begins anew. It says what becomes of that, and takes down whether the peer is followed:

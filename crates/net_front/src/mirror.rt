@@ -5,7 +5,7 @@ ghost use Rattle.net_front.specs.Ends.{MayEnd, most_connections};
 ghost use Rattle.up_api.specs.Settings.{AreInRange};
 
 use crate::followed::Followed;
-use crate::following::follow;
+use crate::following::follow_beside;
 use crate::intake::Served;
 use crate::redial::Redial;
 use crate::server::serve_front;
@@ -63,9 +63,7 @@ where
     let front = Front::new(rt, alloc, cacher, desk);
     let following = ||
         requires { AreInRange front.desk.settings }
-    {
-        let _left = follow(&front, mirror, source, redial, port);
-    };
+    { follow_beside(&front, mirror, source, redial, port) };
     let serving = ||
         requires { (L.given listener ≡ 0) × (L.faults listener ≡ 0) × (connections ≤ 2 ^ 62) }
     { serve_front(&front, listener, clock, workers, open, connections) };

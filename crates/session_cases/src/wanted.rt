@@ -34,7 +34,12 @@ pub fn put_reply(text: &mut Bytes, words: &str, fields: &str) {
         ""
     };
     text.show(&format_args!("HTTP/1.1 {code} {phrase}\r\nContent-Type: application/json\r\n"));
-    text.show(&format_args!("Content-Length: {length}\r\n{retry}{fields}\r\n{body}\n"));
+    text.show(&format_args!("Content-Length: {length}\r\n"));
+    text.put(retry.as_bytes());
+    text.put(fields.as_bytes());
+    text.put(b"\r\n");
+    text.put(body.as_bytes());
+    text.put(b"\n");
 }
 
 /// Puts the head of a reply of metrics, whose lines have so many bytes.
