@@ -75,6 +75,7 @@ impl<'a, N: LogFacts, R: Wait + Copy> Front<'a, N, R> {
     /// That of a server where nobody accepts yet. Only a mirror's log has a peer that is followed.
     pub fn new(rt: &'a R, alloc: Global, cacher: &'a Cacher<N, R>, desk: Desk) -> Front<'a, N, R>
         requires mirrored { IsSome desk.followed → N.mirror ≡ true }
+        ensures ranged { AreInRange result.desk.settings }
     {
         Front {
             rt,
