@@ -26,20 +26,18 @@ fn phrase(code: &str) -> &'static str {
 /// Puts a reply: a code, a blank and its body, which a line feed ends. Last in its head stand some fields of its own.
 pub fn put_reply(text: &mut Bytes, words: &str, fields: &str) {
     let (code, body) = split(words);
-    let phrase = phrase(code);
     let length = body.len().saturating_add(1);
-    let retry = if code == "504" {
-        "Retry-After: 1\r\n"
-    } else {
-        ""
-    };
+    let (phrase, retry) = (phrase(code), retry(code));
     text.show(&format_args!("HTTP/1.1 {code} {phrase}\r\nContent-Type: application/json\r\n"));
-    text.show(&format_args!("Content-Length: {length}\r\n"));
-    text.put(retry.as_bytes());
-    text.put(fields.as_bytes());
-    text.put(b"\r\n");
-    text.put(body.as_bytes());
-    text.put(b"\n");
+    text.show(&format_args!("Content-Length: {length}\r\n{retry}{fields}\r\n{body}\n"));
+}
+
+// The field that a code has, if it has one.
+fn retry(code: &str) -> &'static str {
+    match code {
+        "504" => "Retry-After: 1\r\n",
+        _ => "",
+    }
 }
 
 /// Puts the head of a reply of metrics, whose lines have so many bytes.
