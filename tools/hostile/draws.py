@@ -344,13 +344,16 @@ def rows_of(name):
             yield row.rsplit(" => ", 1)
 
 
-def stored_records():
-    """The records of tools/hostile/records, each with what is said of it: a line, or None where it is a record."""
+def stored_records(are_long=False):
+    """The records of tools/hostile/records, each with what is said of it: a line, or None where it is a record. The long ones,
+    of a MiB and more, or the others."""
     for step, answer in rows_of("records.txt"):
+        if are_long != any(it.startswith("BYTES:") and int(it[6:]) >= 1 << 20 for it in step.split(" ")):
+            continue
         data = b"".join(b"\xff" * int(it[6:]) if it.startswith("BYTES:") else record_word(it).encode() for it in step.split(" "))
         name = answer.split(" ")[0]
         yield data, None if name.isdigit() else f"record: {name}"
-    for step, answer in rows_of("bodies.txt"):
+    for step, answer in () if are_long else rows_of("bodies.txt"):
         way, *numbers = answer.lower().split(" ")
         yield body_record(step), f"lawful from {numbers[0]} to {numbers[1]}" if way == "lawful" else f"unlawful at line {numbers[0]}"
 

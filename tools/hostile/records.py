@@ -31,7 +31,7 @@ def verdict_of(ran):
     """The line that `check` wrote, which is one of those of its status."""
     text = ran.out.decode()
     found = re.fullmatch(LINES.get(ran.status, "no line"), text[:-1])
-    if not found or text[-1] != "\n" or ran.err:
+    if not found or text[-1] != "\n" or bool(ran.err) != (ran.status == 12):
         raise Amiss(f"status {ran.status} of a check, with {text!r} and {ran.err!r}")
     if ran.status == 0 and int(found[1]) > int(found[2]):
         raise Amiss(text)
