@@ -34,7 +34,7 @@ use Rattle.client_api.specs.declared.answers.ListNo.{ListNo}
 use Rattle.client_api.specs.declared.answers.ListNo.TheVariants.{Expired, TooLarge, Absent, Memory}
 use Rattle.client_api.specs.Answers.{GotData, ListedData}
 use Rattle.metrics.specs.declared.caches.Metrics.{Metrics}
-use Rattle.metrics_text.specs.Text.{metrics_text}
+use Rattle.metrics.specs.Text.{metrics_text}
 
 -- the HTTP status, whether the client may ask again in a second, what the text is, and the text
 pub record Content : Type 0 where

@@ -12,8 +12,7 @@ use crate::body::send_typed_pieces;
 use discovery::Probe;
 use edge_io::Sink;
 use http_send::ContentType;
-use metrics::Metrics;
-use metrics_text::metrics_text;
+use metrics::{Metrics, metrics_text};
 use std::alloc::Global;
 
 // What a failed probe is told.

@@ -1,6 +1,6 @@
 use Rattle.std.proofs.Common.{refl, append-nil, ◌∙◌, false}
 use Rattle.http_send.specs.declared.replies.ContentType.TheVariants.{MetricsText}
-use Rattle.metrics_text.specs.Text.{metrics_text}
+use Rattle.metrics.specs.Text.{metrics_text}
 use Rattle.sess_reply.proofs.SendLemmas.{content-sends}
 use Rattle.sess_reply.proofs.metered.send_metered.Goals as goal
 

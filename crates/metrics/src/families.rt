@@ -1,9 +1,10 @@
 //! The families of samples that a monitor is told: the name, the meaning and the type of each.
 
 ghost use Rattle.std.specs.Prelude.{◌≡◌};
-ghost use Rattle.metrics_text.specs.Families as families;
+ghost use Rattle.metrics.specs.Families as families;
 
-use metrics::{CacheMetrics, Verb};
+use crate::caches::CacheMetrics;
+use crate::served::Verb;
 
 /// What the samples of a family tell.
 #[derive(Clone, Copy, Debug, PartialEq, Eq)]

@@ -1,7 +1,7 @@
 use Rattle.std.proofs.Common.{◌≡◌, ◌++◌, take}
 use Rattle.std.specs.List.{flat_map}
-use Rattle.metrics_text.specs.Text as spec
-use Rattle.metrics_text.proofs.text.put_request_samples.Given as goal
+use Rattle.metrics.specs.Text as spec
+use Rattle.metrics.proofs.text.put_request_samples.Given as goal
 
 -- the ones before this one are told
 abbrev pub invariant-loop-request : goal.invariant-loop-request

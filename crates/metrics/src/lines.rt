@@ -1,8 +1,8 @@
 //! The lines of one family.
 
 ghost use Rattle.std.specs.Prelude.{◌≡◌, ◌∷◌, ◌++◌, [], OnOk, decimal};
-ghost use Rattle.metrics_text.specs.Families as families;
-ghost use Rattle.metrics_text.specs.Text as spec;
+ghost use Rattle.metrics.specs.Families as families;
+ghost use Rattle.metrics.specs.Text as spec;
 
 use crate::families::Family;
 use itoa::Buffer;

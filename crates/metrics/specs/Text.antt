@@ -10,11 +10,11 @@ use Rattle.metrics.specs.declared.caches.Metrics.{Metrics}
 use Rattle.metrics.specs.declared.caches.CacheMetrics.{CacheMetrics}
 use Rattle.metrics.specs.declared.served.RequestCount.{RequestCount}
 use Rattle.metrics.specs.declared.served.Served.{Served}
-use Rattle.metrics_text.specs.Families.{family_name, help_of, family_kind, figure_of, all_figures, verb_name}
-use Rattle.metrics_text.specs.declared.families.Family.{Family}
-use Rattle.metrics_text.specs.declared.families.Family.TheVariants as family
-use Rattle.metrics_text.specs.declared.families.Figure.{Figure}
-use Rattle.metrics_text.specs.declared.text.Cached.{Cached}
+use Rattle.metrics.specs.Families.{family_name, help_of, family_kind, figure_of, all_figures, verb_name}
+use Rattle.metrics.specs.declared.families.Family.{Family}
+use Rattle.metrics.specs.declared.families.Family.TheVariants as family
+use Rattle.metrics.specs.declared.families.Figure.{Figure}
+use Rattle.metrics.specs.declared.text.Cached.{Cached}
 
 -- the two lines in front of a family's samples
 unfoldable pub head : Family → List ℕ

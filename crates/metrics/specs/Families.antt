@@ -4,10 +4,10 @@ use Rattle.std.specs.Prelude.{ℕ, List, [], ◌∷◌, codes}
 use Rattle.metrics.specs.declared.caches.CacheMetrics.{CacheMetrics}
 use Rattle.metrics.specs.declared.served.Verb.{Verb}
 use Rattle.metrics.specs.declared.served.Verb.TheVariants as verb
-use Rattle.metrics_text.specs.declared.families.Family.{Family}
-use Rattle.metrics_text.specs.declared.families.Family.TheVariants as family
-use Rattle.metrics_text.specs.declared.families.Figure.{Figure}
-use Rattle.metrics_text.specs.declared.families.Figure.TheVariants as figure
+use Rattle.metrics.specs.declared.families.Family.{Family}
+use Rattle.metrics.specs.declared.families.Family.TheVariants as family
+use Rattle.metrics.specs.declared.families.Figure.{Figure}
+use Rattle.metrics.specs.declared.families.Figure.TheVariants as figure
 
 -- ---- the figures of a cache
 

@@ -2,15 +2,16 @@
 
 ghost use Rattle.std.specs.Prelude.{◌≡◌, ◌++◌, OnOk, IfOk};
 ghost use Rattle.std.specs.List.{flat_map};
-ghost use Rattle.metrics_text.specs.Families as families;
-ghost use Rattle.metrics_text.specs.Text as spec;
+ghost use Rattle.metrics.specs.Families as families;
+ghost use Rattle.metrics.specs.Text as spec;
 
+use crate::caches::{CacheMetrics, Metrics};
 use crate::families::{FIGURES, Family, Figure, verb_name};
 use crate::lines::{
     begin_sample, end_sample, put, put_alone, put_next_alone, put_next_head, put_number,
 };
+use crate::served::{RequestCount, Served};
 use kube_meta::{Memory, Resource};
-use metrics::{CacheMetrics, Metrics, RequestCount, Served};
 use std::alloc::Global;
 
 /// What the cache of a resource tells.

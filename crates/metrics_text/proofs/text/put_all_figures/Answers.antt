@@ -1,6 +1,0 @@
-use Rattle.metrics_text.specs.Families.{all_figures}
-use Rattle.metrics_text.proofs.text.put_all_figures.Goals as goal
-
-pub returns : goal.returns
-unfolding all_figures
-returns c = c.put_figures.ensures
