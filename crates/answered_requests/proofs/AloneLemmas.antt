@@ -1,7 +1,7 @@
 -- Where nobody else holds the log, what is due is served.
 use Rattle.std.specs.Prelude.{Result, Ok, Err, IsSomeAnd}
 use Rattle.std.proofs.Common.{◌≡◌, ℕ, inl, inr, List, [], ◌∷◌, Option, Some, None, refl, ap, sym, subst}
-use Rattle.discovery.specs.declared.documents.Document.TheVariants as document
+use Rattle.route_req.specs.declared.documents.Document.TheVariants as document
 use Rattle.rev_front.specs.Passes.{Pass, IsPass, Whole}
 use Rattle.rev_log.specs.Changes.{RevisionData}
 use Rattle.rev_log.specs.Logs.{Fits}

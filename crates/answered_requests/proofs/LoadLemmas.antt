@@ -5,7 +5,7 @@ use Rattle.std.proofs.lemmas.Bool.{false≢true}
 use Rattle.std.proofs.lemmas.List.{same_from_push}
 use Rattle.std.proofs.lemmas.List.Elements.{All-nil, All-head, All-tail}
 use Rattle.std.proofs.lemmas.List.Sorted.{IsNonDecreasingBy-short}
-use Rattle.discovery.specs.declared.documents.Document.TheVariants as document
+use Rattle.route_req.specs.declared.documents.Document.TheVariants as document
 use Rattle.kube_meta.specs.declared.resources.Resource.TheVariants.{Pods}
 use Rattle.rev_front.specs.Passes.{Pass, Whole, revision}
 use Rattle.rev_log.specs.Changes.{RevisionData}

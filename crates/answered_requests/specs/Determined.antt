@@ -5,7 +5,7 @@ use Rattle.rev_front.specs.Passes.{Pass, IsPass, end_from}
 use Rattle.rev_log.specs.Changes.{RevisionData}
 use Rattle.rev_log.specs.Logs.{Fits}
 use Rattle.client_api.specs.Alone.{known}
-use Rattle.discovery.specs.declared.documents.Document.TheVariants as document
+use Rattle.route_req.specs.declared.documents.Document.TheVariants as document
 use Rattle.metrics.specs.declared.caches.Metrics.{Metrics}
 use Rattle.metrics.specs.declared.caches.CacheMetrics.{CacheMetrics}
 use Rattle.client_api.specs.declared.answers.ListNo.TheVariants as list_no

@@ -1,8 +1,8 @@
 -- What a request gets that is served: its 200, its 201 or its stream; and a get its 404 where no object stands.
 use Rattle.std.specs.Prelude.{◌≡◌, ℕ, ◌⊎◌, List, true, Option, Some, Ok, Err, option_map}
-use Rattle.discovery.specs.declared.documents.Document.{Document}
-use Rattle.discovery.specs.declared.documents.Document.TheVariants as document
-use Rattle.discovery.specs.declared.documents.Probe.{Probe}
+use Rattle.route_req.specs.declared.documents.Document.{Document}
+use Rattle.route_req.specs.declared.documents.Document.TheVariants as document
+use Rattle.route_req.specs.declared.documents.Probe.{Probe}
 use Rattle.metrics.specs.declared.caches.Metrics.{Metrics}
 use Rattle.rev_front.specs.Passes.{Pass}
 use Rattle.rev_log.specs.Changes.{RevisionData}

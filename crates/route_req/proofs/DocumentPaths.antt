@@ -6,9 +6,9 @@ use Rattle.std.proofs.lemmas.Slice.Eq.{bytes_eq-Decides}
 use Rattle.kube_meta.specs.Names.{is_namespace}
 use Rattle.kube_meta.specs.declared.resources.Resource.{Resource}
 use Rattle.kube_meta.specs.declared.resources.Resource.TheVariants.{Pods}
-use Rattle.discovery.specs.declared.documents.Document.{Document}
-use Rattle.discovery.specs.declared.documents.Document.TheVariants.{Version, CoreVersions, Groups, AppsGroup, CoreResources, AppsResources, OpenApi, Namespace, Probe}
-use Rattle.discovery.specs.declared.documents.Probe.TheVariants.{Livez, Readyz, Healthz}
+use Rattle.route_req.specs.declared.documents.Document.{Document}
+use Rattle.route_req.specs.declared.documents.Document.TheVariants.{Version, CoreVersions, Groups, AppsGroup, CoreResources, AppsResources, OpenApi, Namespace, Probe}
+use Rattle.route_req.specs.declared.documents.Probe.TheVariants.{Livez, Readyz, Healthz}
 use Rattle.route_req.specs.Places.{document_path, IsDocument, place_path}
 use Rattle.route_req.specs.Lookup.{last_kept, before_slash, document_word, document_pair, apps_document, namespace_document, document_at}
 use Rattle.route_req.specs.declared.places.Place.TheVariants.{Everywhere, Namespaced, Named}

@@ -1,10 +1,10 @@
 pub mod Refusals
 pub mod Items
-pub mod Paths
 pub mod Wrapping
 pub mod PlainItems
 pub mod Readings
 pub mod Selections
+mod DocumentPaths
+pub mod Paths
 pub mod Outcomes
 pub mod OneAnswer
-mod DocumentPaths

@@ -9,7 +9,7 @@ use Rattle.kube_meta.proofs.ResourceLemmas.{groups}
 use Rattle.kube_meta.specs.declared.resources.Resource.{Resource}
 use Rattle.route_req.specs.Places.{base_by, base_of, place_path, document_path, Names, NamesMaybe, PathsNameOnePlace, takes_memory, MayLackMemory}
 use Rattle.route_req.specs.Lookup.{behind, namespaced, named, own_word, own_place, metrics_place, place_behind, core_place, group_place, api_place, before_slash, document_at, place_found}
-use Rattle.discovery.specs.declared.documents.Document.{Document}
+use Rattle.route_req.specs.declared.documents.Document.{Document}
 use Rattle.route_req.proofs.DocumentPaths.{if_found, same_text, row_found, text_found, slashed, text_at_path, text_at_slash, no_text_everywhere, no_text_namespaced, no_text_named}
 use Rattle.route_req.specs.declared.places.Place.{Place}
 use Rattle.route_req.specs.declared.places.Place.TheVariants.{Described, Everywhere, Namespaced, Named, OfMetrics, OfCut, OfCompact, OfRestart, OfDisconnect, OfTransaction}

@@ -1,3 +1,4 @@
+pub mod Documents
 pub mod Places
 pub mod Lookup
 pub mod Texts

@@ -4,9 +4,9 @@ use Rattle.std.specs.Option.{option_map_or}
 use Rattle.kube_meta.specs.Names.{is_namespace, is_object_name}
 use Rattle.kube_meta.specs.declared.resources.Resource.{Resource}
 use Rattle.kube_meta.specs.Resources.{of_group}
-use Rattle.discovery.specs.declared.documents.Document.{Document}
-use Rattle.discovery.specs.declared.documents.Document.TheVariants as document
-use Rattle.discovery.specs.declared.documents.Probe.TheVariants as probe
+use Rattle.route_req.specs.declared.documents.Document.{Document}
+use Rattle.route_req.specs.declared.documents.Document.TheVariants as document
+use Rattle.route_req.specs.declared.documents.Probe.TheVariants as probe
 use Rattle.route_req.specs.declared.places.Place.{Place}
 use Rattle.route_req.specs.declared.places.Place.TheVariants.{Described, Everywhere, Namespaced, Named, OfMetrics, OfCut, OfCompact, OfRestart, OfDisconnect, OfTransaction}
 

@@ -5,9 +5,9 @@ use Rattle.std.specs.Str.{bytes_eq}
 use Rattle.kube_meta.specs.Names.{IsNamespace, IsObjectName}
 use Rattle.kube_meta.specs.Resources.{plural_of, group_of, version_of}
 use Rattle.kube_meta.specs.declared.resources.Resource.{Resource}
-use Rattle.discovery.specs.declared.documents.Document.{Document}
-use Rattle.discovery.specs.declared.documents.Document.TheVariants as document
-use Rattle.discovery.specs.declared.documents.Probe.TheVariants as probe
+use Rattle.route_req.specs.declared.documents.Document.{Document}
+use Rattle.route_req.specs.declared.documents.Document.TheVariants as document
+use Rattle.route_req.specs.declared.documents.Probe.TheVariants as probe
 use Rattle.route_req.specs.declared.places.Place.{Place}
 use Rattle.route_req.specs.declared.places.Place.TheVariants.{Described, Everywhere, Namespaced, Named, OfMetrics, OfCut, OfCompact, OfRestart, OfDisconnect, OfTransaction}
 use Rattle.route_req.specs.declared.places.Action.{Action}

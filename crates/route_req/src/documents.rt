@@ -1,85 +1,80 @@
-//! Which paths name what describes the server.
+//! The documents, and the text of each.
 
-ghost use Rattle.std.specs.Prelude.{◌≡◌, true, Some, IfOk, OnErr, option_map};
-ghost use Rattle.route_req.specs.Lookup as lookup;
-ghost use Rattle.route_req.specs.Places.{keeps_name};
+ghost use Rattle.std.specs.Prelude.{◌≡◌};
+ghost use Rattle.std.specs.List.{flat_map};
+ghost use Rattle.route_req.specs.Documents.{document_text};
 
-use discovery::{Document, Probe};
-use kube_meta::{Memory, Text, is_namespace};
+use crate::document_texts::{
+    APPS_GROUP, APPS_RESOURCES, CORE_RESOURCES, CORE_VERSIONS, GROUPS, NAMESPACE_BACK,
+    NAMESPACE_FRONT, NAMESPACE_MIDDLE, OPEN_API, PROBED, VERSION,
+};
+use kube_meta::Text;
 
-/// The path without the slash behind it, if it has one.
-pub(crate) fn before_slash(path: &[Text]) -> &[Text]
-    ensures { result.now ≡ lookup.before_slash path.now }
-{
-    match path.split_last() {
-        Some((last, rest)) => { if last.as_str().is_empty() { rest } else { path } }
-        None => path,
-    }
+/// A text by which the server describes itself.
+#[derive(Debug, Drop)]
+pub enum Document {
+    /// The version of the API that is served, and of the server.
+    Version,
+    /// The versions of the core group.
+    CoreVersions,
+    /// The other groups.
+    Groups,
+    /// The group `apps`.
+    AppsGroup,
+    /// The resources of the core group's version.
+    CoreResources,
+    /// The resources of the version of the group `apps`.
+    AppsResources,
+    /// The OpenAPI document, which describes no resource. Clients ask for it before they send an object, to test that
+    /// object by it.
+    OpenApi,
+    /// The namespace of this name. Each is there.
+    Namespace(Text),
+    /// That the server is up.
+    Probe(Probe),
 }
 
-/// The text of a path that has no slash behind it, if the path names one.
-pub(crate) fn document_at(path: &[Text]) -> Result<Option<Document>, Memory>
-    ensures found { IfOk result (λ document. document ≡ lookup.document_at path.now) }
-    ensures memory { OnErr result (option_map keeps_name (lookup.document_at path.now) ≡ Some true) }
+/// What a probe asks. One answer serves all three, since a server that answers is alive and healthy, and ready too
+/// unless it is a mirror that has lost its peer.
+#[derive(Clone, Copy, Debug, PartialEq, Eq)]
+pub enum Probe {
+    Livez,
+    Readyz,
+    Healthz,
+}
+
+// A text in one piece.
+fn alone<'a>(text: &'a [u8]) -> [&'a [u8]; 5]
+    ensures { flat_map (λ piece. piece.now) result ≡ text.now }
 {
-    match path {
-        [word] => Ok(of_word(word.as_str())),
-        [base, word] => Ok(of_pair(base.as_str(), word.as_str())),
-        [base, group, version] => Ok(of_apps(base.as_str(), group.as_str(), version.as_str())),
-        [base, version, word, ns] => {
-            of_namespace(base.as_str(), version.as_str(), word.as_str(), ns)
+    [text, b"", b"", b"", b""]
+}
+
+impl Document {
+    /// The text of the document, in pieces that stand one after the other: JSON, of a probe a plain text, and the
+    /// OpenAPI document in protobuf, without the line feed with which that ends.
+    pub fn pieces(&self) -> [&[u8]; 5]
+        ensures { flat_map (λ piece. piece.now) result ≡ document_text self.now }
+    {
+        match self {
+            Document::Version => alone(VERSION),
+            Document::CoreVersions => alone(CORE_VERSIONS),
+            Document::Groups => alone(GROUPS),
+            Document::AppsGroup => alone(APPS_GROUP),
+            Document::CoreResources => alone(CORE_RESOURCES),
+            Document::AppsResources => alone(APPS_RESOURCES),
+            Document::OpenApi => alone(OPEN_API),
+            Document::Namespace(ns) => {
+                let name = ns.as_str().as_bytes();
+                [
+                    NAMESPACE_FRONT,
+                    name,
+                    NAMESPACE_MIDDLE,
+                    name,
+                    NAMESPACE_BACK,
+                ]
+            }
+            Document::Probe(_) => alone(PROBED),
         }
-        _ => Ok(None),
-    }
-}
-
-fn of_word(word: &str) -> Option<Document>
-    ensures { result ≡ lookup.document_word word.now }
-{
-    match word {
-        "version" => Some(Document::Version),
-        "api" => Some(Document::CoreVersions),
-        "apis" => Some(Document::Groups),
-        "livez" => Some(Document::Probe(Probe::Livez)),
-        "readyz" => Some(Document::Probe(Probe::Readyz)),
-        "healthz" => Some(Document::Probe(Probe::Healthz)),
-        _ => None,
-    }
-}
-
-fn of_pair(base: &str, word: &str) -> Option<Document>
-    ensures { result ≡ lookup.document_pair base.now word.now }
-{
-    match (base, word) {
-        ("api", "v1") => Some(Document::CoreResources),
-        ("apis", "apps") => Some(Document::AppsGroup),
-        ("openapi", "v2") => Some(Document::OpenApi),
-        _ => None,
-    }
-}
-
-fn of_apps(base: &str, group: &str, version: &str) -> Option<Document>
-    ensures { result ≡ lookup.apps_document base.now group.now version.now }
-{
-    if base == "apis" && group == "apps" && version == "v1" {
-        Some(Document::AppsResources)
-    } else {
-        None
-    }
-}
-
-fn of_namespace(
-    base: &str,
-    version: &str,
-    word: &str,
-    ns: &Text,
-) -> Result<Option<Document>, Memory>
-    ensures found { IfOk result (λ document. document ≡ lookup.namespace_document base.now version.now word.now ns.now) }
-    ensures memory { OnErr result (option_map keeps_name (lookup.namespace_document base.now version.now word.now ns.now) ≡ Some true) }
-{
-    if base == "api" && version == "v1" && word == "namespaces" && is_namespace(ns.as_str()) {
-        Ok(Some(Document::Namespace(ns.clone()?)))
-    } else {
-        Ok(None)
     }
 }

@@ -5,8 +5,8 @@ ghost use Rattle.kube_meta.specs.Names.{IsNamespace, IsObjectName};
 ghost use Rattle.route_req.specs.Places as places;
 ghost use Rattle.route_req.specs.Lookup as lookup;
 
-use crate::documents::{before_slash, document_at};
-use discovery::Document;
+use crate::document_paths::{before_slash, document_at};
+use crate::documents::Document;
 use kube_meta::{Memory, Resource, Text, is_namespace, is_object_name};
 
 /// What a path names.

@@ -6,10 +6,10 @@ ghost use Rattle.route_req.specs.Places.{IsAction};
 ghost use Rattle.route_req.specs.Asks as asks;
 ghost use Rattle.route_req.specs.Asks.{IsRoute, IsRefusal};
 
+use crate::documents::Document;
 use crate::places::{Action, action_at, place_at};
 use crate::transactions::{TxTextNo, key_of, transaction};
 use crate::unserved::{Unserved, has_unread_body, is_dry_run, option_asked};
-use discovery::Document;
 use http_read::{Params, Req};
 use json_obj::{ObjNo, read_obj};
 use kube_meta::{Memory, Resource, Rev, Text};

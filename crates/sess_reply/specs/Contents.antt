@@ -5,11 +5,11 @@ use Rattle.std.specs.Prelude.{ℕ, List, [], ◌∷◌, codes, Bool, true, false
 use Rattle.kube_meta.specs.Keys.{name_of}
 use Rattle.kube_meta.specs.Rows.{RowData}
 use Rattle.kube_meta.specs.declared.resources.Resource.{Resource}
-use Rattle.discovery.specs.Documents.{document_text}
-use Rattle.discovery.specs.declared.documents.Document.{Document}
-use Rattle.discovery.specs.declared.documents.Document.TheVariants as document
-use Rattle.discovery.specs.declared.documents.Probe.{Probe}
-use Rattle.discovery.specs.declared.documents.Probe.TheVariants as probe
+use Rattle.route_req.specs.Documents.{document_text}
+use Rattle.route_req.specs.declared.documents.Document.{Document}
+use Rattle.route_req.specs.declared.documents.Document.TheVariants as document
+use Rattle.route_req.specs.declared.documents.Probe.{Probe}
+use Rattle.route_req.specs.declared.documents.Probe.TheVariants as probe
 use Rattle.http_send.specs.declared.replies.ContentType.{ContentType}
 use Rattle.http_send.specs.declared.replies.ContentType.TheVariants.{Json, PlainText, MetricsText, OpenApi}
 use Rattle.json_obj.specs.Replies.{list_text, status_text, value_text}

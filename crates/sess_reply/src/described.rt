@@ -9,9 +9,9 @@ ghost use Rattle.sess_reply.specs.Sending.{Sends};
 
 use crate::Broken;
 use crate::body::send_typed_pieces;
-use discovery::Document;
 use edge_io::Sink;
 use http_send::ContentType;
+use route_req::Document;
 
 // A probe is answered by a plain text, the OpenAPI document is in protobuf, and all else is JSON.
 fn content_type_of(document: &Document) -> ContentType

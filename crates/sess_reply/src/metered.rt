@@ -9,10 +9,10 @@ ghost use Rattle.sess_reply.specs.Sending.{Sends};
 
 use crate::Broken;
 use crate::body::send_typed_pieces;
-use discovery::Probe;
 use edge_io::Sink;
 use http_send::ContentType;
 use metrics::{Metrics, metrics_text};
+use route_req::Probe;
 use std::alloc::Global;
 
 // What a failed probe is told.

@@ -1,6 +1,6 @@
 -- The answers to requests, as plain data: each has what was asked, and what the client answered.
 use Rattle.std.specs.Prelude.{ℕ, List, [], Bool, true, false, Option, Some, None, IfSome}
-use Rattle.discovery.specs.declared.documents.Document.TheVariants as document
+use Rattle.route_req.specs.declared.documents.Document.TheVariants as document
 use Rattle.edge_io.specs.declared.clock.Reading.{Reading}
 use Rattle.rev_front.specs.Passes.{Pass}
 use Rattle.rev_log.specs.Changes.{RevisionData}

@@ -12,10 +12,10 @@ ghost use Rattle.sess_serve.specs.Serving.{Replied, UnlessMemory};
 
 use crate::watching::by_reply;
 use client_api::{Client, ListNo};
-use discovery::{Document, Probe};
 use edge_io::Sink;
 use http_read::Req;
 use list_rules::{GetAsk, ListAsk};
+use route_req::{Document, Probe};
 use sess_reply::{
     Broken, form_of, send_described, send_got, send_listed, send_metered, send_operated,
     send_transacted, send_unready, send_written,

@@ -1,6 +1,6 @@
 use Rattle.std.proofs.Common.{◌≡◌, refl, sym, ap, subst}
 use Rattle.client_api.proofs.LawLemmas.{onwards_do_join}
-use Rattle.discovery.specs.declared.documents.Document.TheVariants as document
+use Rattle.route_req.specs.declared.documents.Document.TheVariants as document
 use Rattle.route_req.specs.Asks.{IsRoute}
 use Rattle.route_req.specs.declared.routing.Routed.TheVariants as routed
 use Rattle.sess_reply.specs.Replies.{described, unready}

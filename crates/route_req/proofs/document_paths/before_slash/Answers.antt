@@ -1,6 +1,6 @@
 use Rattle.std.proofs.Common.{◌==◌, length, ℕ, List, sym, ap, ◌∙◌}
 use Rattle.route_req.proofs.DocumentPaths.{slash_gone, no_slash}
-use Rattle.route_req.proofs.documents.before_slash.Goals as goal
+use Rattle.route_req.proofs.document_paths.before_slash.Goals as goal
 
 pub returns-then-is_empty : goal.returns-then-is_empty
 returns-then-is_empty c =

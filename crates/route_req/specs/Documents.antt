@@ -5,8 +5,8 @@ use Rattle.std.specs.List.{concat}
 use Rattle.kube_meta.specs.Resources.{all_resources, plural_of, kind_of, group_of, version_of}
 use Rattle.kube_meta.specs.declared.resources.Resource.{Resource}
 use Rattle.kube_meta.specs.declared.resources.Resource.TheVariants.{Pods, ConfigMaps, Deployments}
-use Rattle.discovery.specs.declared.documents.Document.{Document}
-use Rattle.discovery.specs.declared.documents.Document.TheVariants.{Version, CoreVersions, Groups, AppsGroup, CoreResources, AppsResources, OpenApi, Namespace, Probe}
+use Rattle.route_req.specs.declared.documents.Document.{Document}
+use Rattle.route_req.specs.declared.documents.Document.TheVariants.{Version, CoreVersions, Groups, AppsGroup, CoreResources, AppsResources, OpenApi, Namespace, Probe}
 
 -- ---- resources
 
