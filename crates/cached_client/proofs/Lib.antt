@@ -1,3 +1,5 @@
+pub mod WalkLemmas
+pub mod AnswerLemmas
 pub mod KnowingLemmas
 pub mod CacheLemmas
 pub mod StandLemmas

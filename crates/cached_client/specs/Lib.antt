@@ -1,3 +1,7 @@
+pub mod Reads
+pub mod Starts
+pub mod Turns
+pub mod Walks
 pub mod Knowing
 pub mod CacheStates
 pub mod Serving

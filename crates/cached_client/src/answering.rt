@@ -14,8 +14,8 @@ ghost use Rattle.cached_client.specs.Caches.{KnowsOwn, LoadsBetween, ReadsFor};
 ghost use Rattle.cached_client.specs.Serving.{IsReached, IsRefused, IsServed, IsShown, IsUnreached, IsUnserved, needs_load};
 
 use crate::caches::{Caches, Measures, Reads};
+use crate::read_answers::{found, listed};
 use crate::reads::Found;
-use cache_answers::{found, listed};
 use client_api::{Got, ListNo, Listed, too_large};
 use kube_meta::{Memory, Resource};
 use list_rules::{GetAsk, ListAsk};

@@ -20,11 +20,11 @@ ghost use Rattle.cached_client.specs.Serving.{IsFound, IsServed, IsShown, IsUnse
 ghost use Rattle.cached_client.specs.Watching.{HasMore, IsLeftBehind, IsLostAt, IsTold};
 
 use crate::lanes::WatchLane;
+use crate::read_answers::revision_alone;
 use crate::reads::Found;
 use crate::resources::OfResource;
 use crate::windows::{NamedWindow, Window};
 use bells::Bell;
-use cache_answers::revision_alone;
 use cache_core::AtNo;
 use cache_hub::{CatchNo, Caught, Hub};
 use client_api::ListNo;

@@ -4,15 +4,22 @@
 //! A [`CacheState`] is the cache of one resource with what keeps it up to date; the upstream that it follows is lent
 //! to it at each call. Whoever holds a cache of each resource, and the store behind them, tells by [`Caches`] what a
 //! client may ask of them; the calls of a client stand on that alone.
+//!
+//! What an answer is, by what a cache gives, is said by functions of it alone: the page of a list, the object at a key,
+//! the start of a watch and its turns, and refusals.
 #![tactic(auto)]
 
 mod answering;
 mod cache_state;
 mod caches;
 mod lanes;
+mod read_answers;
 mod reads;
 mod resources;
+mod start_answers;
+mod turn_answers;
 mod turns;
+mod walks;
 mod watching;
 mod windows;
 

@@ -8,7 +8,7 @@ ghost use Rattle.up_api.specs.Sections.{Learns};
 ghost use Rattle.client_api.specs.Caches.{TakesWithin};
 ghost use Rattle.cached_client.specs.Watching.{IsLoadedTurn, IsLostAt, IsTold};
 
-use cache_answers::took;
+use crate::turn_answers::took;
 use cache_hub::{CatchNo, Caught};
 use client_api::Took;
 use kube_meta::{Memory, Resource};

@@ -10,13 +10,13 @@ ghost use Rattle.client_api.specs.Caches.{StartsWithin, TakesWithin};
 ghost use Rattle.client_api.specs.Facts.{IsOnward};
 ghost use Rattle.client_api.specs.Starts.{IsWatchAnswer, IsWatchStart};
 ghost use Rattle.client_api.specs.Turns.{IsWatchTurn, watch_after};
-ghost use Rattle.cache_answers.specs.Turns.{moved_to};
+ghost use Rattle.cached_client.specs.Turns.{moved_to};
 ghost use Rattle.cached_client.specs.Caches.{KnowsOwn, LoadsBetween, ReadsFor};
 ghost use Rattle.cached_client.specs.Watching.{BeginsAtEnd, IsStartLost};
 
 use crate::answering::load;
 use crate::caches::Watches;
-use cache_answers::{bare, opened, unreached};
+use crate::start_answers::{bare, opened, unreached};
 use cache_hub::CatchNo;
 use client_api::{Begun, ListNo, Took};
 use kube_meta::Memory;

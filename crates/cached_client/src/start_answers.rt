@@ -2,7 +2,7 @@
 
 ghost use Rattle.std.specs.Prelude.{◌≡◌, [], IfOk};
 ghost use Rattle.select_all.specs.Listings.{listing};
-ghost use Rattle.cache_answers.specs.Starts.{start_refusal};
+ghost use Rattle.cached_client.specs.Starts.{start_refusal};
 
 use crate::walks::{first, in_question};
 use client_api::{Begun, ListNo, too_large};
@@ -13,7 +13,7 @@ use std::alloc::Global;
 use watch_rules::Start;
 
 /// The refusal of a start that names a revision above what a load gave.
-pub fn unreached(start: Start, loaded: u64) -> Option<ListNo>
+pub(crate) fn unreached(start: Start, loaded: u64) -> Option<ListNo>
     ensures { result ≡ start_refusal start loaded }
 {
     match start {
@@ -23,7 +23,7 @@ pub fn unreached(start: Start, loaded: u64) -> Option<ListNo>
 }
 
 /// A start with the selected objects of a state.
-pub fn opened(
+pub(crate) fn opened(
     alloc: Global,
     selection: &Selection,
     at: u64,
@@ -37,7 +37,7 @@ pub fn opened(
 }
 
 /// A start with no initial objects.
-pub fn bare(alloc: Global, at: u64) -> Begun
+pub(crate) fn bare(alloc: Global, at: u64) -> Begun
     ensures { result ≡ record { at = at; rows = [] } }
 {
     Begun {

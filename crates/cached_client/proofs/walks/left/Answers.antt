@@ -1,7 +1,7 @@
 use Rattle.std.proofs.Common.{ap, sym, ◌∙◌}
 use Rattle.list_rules.specs.Pages.{remaining_of}
-use Rattle.cache_answers.proofs.WalkLemmas.{left_counted}
-use Rattle.cache_answers.proofs.walks.left.Goals as goal
+use Rattle.cached_client.proofs.WalkLemmas.{left_counted}
+use Rattle.cached_client.proofs.walks.left.Goals as goal
 
 pub returns-then-is_unrestricted-clause-none : goal.returns-then-is_unrestricted-clause-none
 returns-then-is_unrestricted-clause-none c =

@@ -9,7 +9,7 @@ use Rattle.select_all.specs.Selecting.{selects}
 use Rattle.list_rules.specs.declared.ask.ListAsk.{ListAsk}
 use Rattle.list_rules.specs.Pages.{page_of, left_of, remaining_of, is_unrestricted}
 use Rattle.client_api.specs.Lists.{IsCut}
-use Rattle.cache_answers.proofs.WalkLemmas.{listing_free, within_all}
+use Rattle.cached_client.proofs.WalkLemmas.{listing_free, within_all}
 
 filters-swap : {X : Type 0} (f g : X → Bool) (xs : List X) → filter f (filter g xs) ≡ filter g (filter f xs)
 filters-swap f g [] = refl

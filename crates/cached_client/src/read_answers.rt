@@ -5,7 +5,7 @@ ghost use Rattle.kube_meta.specs.Rows.{RowData, behind};
 ghost use Rattle.list_rules.specs.Pages.{page_of, next_of};
 ghost use Rattle.select_all.specs.Listings.{listing};
 ghost use Rattle.client_api.specs.Lists.{page_at};
-ghost use Rattle.cache_answers.specs.Reads.{IsFound, revision_alone};
+ghost use Rattle.cached_client.specs.Reads.{IsFound, revision_alone};
 
 use crate::walks::{first, in_question, is_unrestricted, left};
 use client_api::{Got, Items, ListNo, Listed, page_before};
@@ -17,7 +17,7 @@ use std::alloc::Global;
 use std::sync::Arc;
 
 /// The one revision that will do, where the meaning has one.
-pub fn revision_alone(meaning: Meaning) -> Option<u64>
+pub(crate) fn revision_alone(meaning: Meaning) -> Option<u64>
     ensures { result ≡ revision_alone meaning }
 {
     match meaning {
@@ -27,7 +27,7 @@ pub fn revision_alone(meaning: Meaning) -> Option<u64>
 }
 
 /// The object at a key, from the objects of its resource at a revision.
-pub fn found(state: &Snapshot, key: &Key, at: u64) -> Result<Got, ListNo>
+pub(crate) fn found(state: &Snapshot, key: &Key, at: u64) -> Result<Got, ListNo>
     ensures { IsFound state.now key.now at result }
 {
     match state.get(key) {
@@ -40,7 +40,12 @@ pub fn found(state: &Snapshot, key: &Key, at: u64) -> Result<Got, ListNo>
 }
 
 /// The page of the ask, from the objects of its resource at a revision.
-pub fn listed(alloc: Global, ask: &ListAsk, rev: u64, state: Snapshot) -> Result<Listed, Memory>
+pub(crate) fn listed(
+    alloc: Global,
+    ask: &ListAsk,
+    rev: u64,
+    state: Snapshot,
+) -> Result<Listed, Memory>
     ensures { IfOk result (λ l. l ≡ page_at ask.now rev (behind ask.now.after (listing ask.now.selection state))) }
 {
     if has_all(ask, &state) {

@@ -17,7 +17,7 @@ use Rattle.select_all.specs.Listings.{listing}
 use Rattle.select_all.specs.Masks.{IsMaskOf}
 use Rattle.select_all.specs.Selecting.{is_within, selects}
 use Rattle.list_rules.specs.Pages.{page_of, left_of, is_unrestricted}
-use Rattle.cache_answers.specs.Walks.{AreWithin}
+use Rattle.cached_client.specs.Walks.{AreWithin}
 
 -- ---- the rows in question
 

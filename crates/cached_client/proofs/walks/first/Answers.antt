@@ -1,7 +1,7 @@
 use Rattle.std.proofs.Common.{arith}
 use Rattle.select_all.specs.Listings.{listing}
-use Rattle.cache_answers.proofs.WalkLemmas.{first_pushed}
-use Rattle.cache_answers.proofs.walks.first.Goals as goal
+use Rattle.cached_client.proofs.WalkLemmas.{first_pushed}
+use Rattle.cached_client.proofs.walks.first.Goals as goal
 
 pub returns-then-len-limit : goal.returns-then-len-limit
 returns-then-len-limit c =

@@ -1,6 +1,6 @@
 use Rattle.std.proofs.Common.{sym, ◌∙◌}
-use Rattle.cache_answers.proofs.ReadLemmas.{all_listed}
-use Rattle.cache_answers.proofs.reads.is_of_all.Goals as goal
+use Rattle.cached_client.proofs.AnswerLemmas.{all_listed}
+use Rattle.cached_client.proofs.read_answers.is_of_all.Goals as goal
 
 pub returns-in-None-None : goal.returns-in-None-None
 returns-in-None-None c = λ free rows.

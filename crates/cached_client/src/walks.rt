@@ -6,7 +6,7 @@ ghost use Rattle.select_all.specs.Listings.{listing};
 ghost use Rattle.select_all.specs.Masks.{IsMaskOf};
 ghost use Rattle.select_all.specs.Selecting.{selects};
 ghost use Rattle.list_rules.specs.Pages.{page_of, left_of, remaining_of, is_unrestricted};
-ghost use Rattle.cache_answers.specs.Walks.{AreWithin};
+ghost use Rattle.cached_client.specs.Walks.{AreWithin};
 
 use encode_once::Shown;
 use kube_meta::{Key, Mask, Memory};

@@ -1,7 +1,7 @@
 use Rattle.std.proofs.Common.{◌≡◌, ◌<◌, ◌++◌, map, length}
 use Rattle.select_all.specs.Listings.{listing}
-use Rattle.cache_answers.specs.Walks.{AreWithin}
-use Rattle.cache_answers.proofs.walks.first.Given as goal
+use Rattle.cached_client.specs.Walks.{AreWithin}
+use Rattle.cached_client.proofs.walks.first.Given as goal
 
 -- the objects so far, and then the selected ones of those that are left, are all that are selected; and the page, where
 -- there is a limit, isn't full

@@ -2,8 +2,8 @@ use Rattle.std.proofs.Common.{ap, ◌∙◌}
 use Rattle.std.proofs.lemmas.Result.{IfOk-weaker}
 use Rattle.kube_meta.specs.Rows.{behind}
 use Rattle.select_all.specs.Listings.{listing}
-use Rattle.cache_answers.proofs.ReadLemmas.{cut_of_walk}
-use Rattle.cache_answers.proofs.reads.picked.Goals as goal
+use Rattle.cached_client.proofs.AnswerLemmas.{cut_of_walk}
+use Rattle.cached_client.proofs.read_answers.picked.Goals as goal
 
 pub returns : goal.returns
 returns c =

@@ -1,7 +1,7 @@
 use Rattle.std.proofs.Common.{◌≡◌, length}
 use Rattle.select_all.specs.Listings.{listing}
-use Rattle.cache_answers.specs.Walks.{AreWithin}
-use Rattle.cache_answers.proofs.walks.next_selected.Given as goal
+use Rattle.cached_client.specs.Walks.{AreWithin}
+use Rattle.cached_client.proofs.walks.next_selected.Given as goal
 
 -- no row so far is selected
 abbrev pub invariant-loop-shown : goal.invariant-loop-shown

@@ -2,9 +2,9 @@ use Rattle.std.proofs.Common.{◌≡◌, List, false, true, refl, ap, sym, ◌�
 use Rattle.kube_meta.specs.Rows.{RowData}
 use Rattle.select_all.specs.Listings.{listing}
 use Rattle.select_all.specs.Selecting.{selects}
-use Rattle.cache_answers.specs.Walks.{AreWithin}
-use Rattle.cache_answers.proofs.WalkLemmas.{next_chosen, next_left_out, next_within, next_fewer, none_next}
-use Rattle.cache_answers.proofs.walks.next_selected.Goals as goal
+use Rattle.cached_client.specs.Walks.{AreWithin}
+use Rattle.cached_client.proofs.WalkLemmas.{next_chosen, next_left_out, next_within, next_fewer, none_next}
+use Rattle.cached_client.proofs.walks.next_selected.Goals as goal
 
 pub loop-shown-preserved : goal.loop-shown-preserved
 loop-shown-preserved c =

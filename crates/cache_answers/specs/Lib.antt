@@ -1,4 +1,0 @@
-pub mod Reads
-pub mod Starts
-pub mod Turns
-pub mod Walks
