@@ -1,3 +1,5 @@
+pub mod Requests
+pub mod AskAnswers
 pub mod Chunks
 pub mod Readers
 pub mod Looks

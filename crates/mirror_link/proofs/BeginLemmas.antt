@@ -1,7 +1,7 @@
 -- How a mirror begins, and begins anew.
 use Rattle.std.proofs.Common.{◌≡◌, ℕ, List, [], ◌++◌, Option, None, Ok, Err, ap, ◌∙◌, subst, inl}
-use Rattle.ask_watch.specs.Requests.{request_text}
-use Rattle.ask_watch.specs.declared.start.Start.TheVariants.{Revision}
+use Rattle.line_stream.specs.Requests.{request_text}
+use Rattle.line_stream.specs.declared.start.Start.TheVariants.{Revision}
 use Rattle.kube_meta.specs.Rows.{RowData}
 use Rattle.line_stream.specs.Heads.{AnswersHead, BeginsChunks, RefusesResponse, at_body}
 use Rattle.line_stream.specs.Readers.{LinesData}

@@ -1,7 +1,7 @@
 -- How a mirror begins, and begins anew over another connection.
 use Rattle.std.specs.Prelude.{◌≡◌, ◌⊎◌, ℕ, List, [], Option, None, Result, Ok, Err}
-use Rattle.ask_watch.specs.Requests.{request_text}
-use Rattle.ask_watch.specs.declared.start.Start.TheVariants.{Revision}
+use Rattle.line_stream.specs.Requests.{request_text}
+use Rattle.line_stream.specs.declared.start.Start.TheVariants.{Revision}
 use Rattle.line_stream.specs.Heads.{BeginsChunks, RefusesResponse, at_body}
 use Rattle.line_stream.specs.Readers.{ReaderData}
 use Rattle.line_stream.specs.declared.refusal.LineNo.{LineNo}

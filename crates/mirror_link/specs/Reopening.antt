@@ -1,7 +1,7 @@
 -- How a mirror begins anew: from an opening of its peer that is not behind its own end.
 use Rattle.std.specs.Prelude.{◌≡◌, ◌⊎◌, ℕ, List, [], Option, Result, Ok, Err}
-use Rattle.ask_watch.specs.Requests.{request_text}
-use Rattle.ask_watch.specs.declared.start.Start.TheVariants.{State}
+use Rattle.line_stream.specs.Requests.{request_text}
+use Rattle.line_stream.specs.declared.start.Start.TheVariants.{State}
 use Rattle.kube_meta.specs.declared.resources.Resource.TheVariants.{Pods}
 use Rattle.rev_log.specs.Changes.{RevisionData}
 use Rattle.rev_log.specs.Logs.{Log, end_of, grown}

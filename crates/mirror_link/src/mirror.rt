@@ -1,7 +1,7 @@
 //! Mirrors.
 
 ghost use Rattle.std.specs.Prelude.{◌≡◌, ◌++◌, ℕ, ◌≤◌, List, [], IsNone, IfOk, IfSome, OnOk, None, true};
-ghost use Rattle.ask_watch.specs.Answers.{Asks};
+ghost use Rattle.line_stream.specs.AskAnswers.{Asks};
 ghost use Rattle.edge_io.specs.Sent.{sent_through};
 ghost use Rattle.edge_io.specs.Told.{prepended};
 ghost use Rattle.line_stream.specs.Readers.{HoldsLine};
@@ -24,10 +24,9 @@ ghost use Rattle.watch_rules.specs.declared.ask.WatchAsk.{WatchAsk as Ask};
 use crate::Heard;
 use crate::lines::take_line;
 use crate::refusals::{kept_answer, rebasing_refusal};
-use ask_watch::{AskNo, Start, ask_watch};
 use edge_io::{Sink, Source};
 use kube_meta::{Memory, Text};
-use line_stream::{LineReader, Step};
+use line_stream::{AskNo, LineReader, Start, Step, ask_watch};
 use mirror_opening::{LinkNo, Opening, Parts};
 use mirror_store::MirrorLog;
 use rev_front::Blank;

@@ -10,9 +10,9 @@ use Rattle.select_all.specs.declared.selection.Selection.{Selection}
 use Rattle.select_all.specs.Selecting.{selects}
 use Rattle.watch_read.specs.declared.peer_line.PeerLine.{PeerLine}
 use Rattle.watch_read.specs.declared.peer_line.PeerLine.TheVariants as peer
-use Rattle.ask_watch.specs.Answers.{Asks}
-use Rattle.ask_watch.specs.declared.asking.AskNo.{AskNo}
-use Rattle.ask_watch.specs.declared.asking.AskNo.TheVariants as ask
+use Rattle.line_stream.specs.AskAnswers.{Asks}
+use Rattle.line_stream.specs.declared.asking.AskNo.{AskNo}
+use Rattle.line_stream.specs.declared.asking.AskNo.TheVariants as ask
 use Rattle.mirror_opening.specs.Asking.{IsAsked, CountsReads}
 use Rattle.mirror_opening.specs.Reading.{Adds, HasNoRows, HasNoOpening, opening_fault, is_above_last, are_upto}
 use Rattle.mirror_opening.specs.Refusals.{reading_refusal, asking_refusal}

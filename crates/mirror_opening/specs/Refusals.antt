@@ -2,8 +2,8 @@
 use Rattle.std.specs.Prelude.{ℕ, List, codes}
 use Rattle.line_stream.specs.declared.refusal.LineNo.{LineNo}
 use Rattle.line_stream.specs.declared.refusal.LineNo.TheVariants as line
-use Rattle.ask_watch.specs.declared.asking.AskNo.{AskNo}
-use Rattle.ask_watch.specs.declared.asking.AskNo.TheVariants as ask
+use Rattle.line_stream.specs.declared.asking.AskNo.{AskNo}
+use Rattle.line_stream.specs.declared.asking.AskNo.TheVariants as ask
 use Rattle.mirror_opening.specs.declared.refusal.LinkNo.{LinkNo}
 use Rattle.mirror_opening.specs.declared.refusal.LinkNo.TheVariants.{BadHead, BadChunk, BadLine, Order, Gap, Refused, Told, CutShort, ReadFault, WriteFault, TooLong, OtherLog, Passed, Memory}
 

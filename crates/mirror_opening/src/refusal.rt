@@ -3,9 +3,8 @@
 ghost use Rattle.std.specs.Prelude.{◌≡◌};
 ghost use Rattle.mirror_opening.specs.Refusals as refusals;
 
-use ask_watch::AskNo;
 use kube_meta::Memory;
-use line_stream::LineNo;
+use line_stream::{AskNo, LineNo};
 
 /// Why there is no opening, or no further line: what is wrong first in the connection's bytes, or in the calls.
 #[derive(Clone, Copy, Debug, PartialEq, Eq)]

@@ -1,6 +1,6 @@
 -- The request is that of the mirror as contracts see it.
 use Rattle.std.proofs.Common.{ℕ, List, ap, subst, ◌∙◌}
-use Rattle.ask_watch.specs.Answers.{Asks}
+use Rattle.line_stream.specs.AskAnswers.{Asks}
 use Rattle.edge_io.specs.Sent.{sent_through}
 use Rattle.mirror_link.specs.Views.{MirrorData}
 use Rattle.mirror_link.proofs.BeginLemmas.{request_is}

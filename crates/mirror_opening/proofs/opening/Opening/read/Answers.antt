@@ -1,7 +1,7 @@
 -- Where the rows are refused, the request was sent on all the same.
 use Rattle.std.proofs.Common.{[], Err, sym, subst, inr}
-use Rattle.ask_watch.specs.Requests.{request_text}
-use Rattle.ask_watch.specs.declared.start.Start.TheVariants.{State}
+use Rattle.line_stream.specs.Requests.{request_text}
+use Rattle.line_stream.specs.declared.start.Start.TheVariants.{State}
 use Rattle.edge_io.proofs.ToldLemmas.{prepended-nil}
 use Rattle.edge_io.specs.Sent.{sent_through}
 use Rattle.mirror_opening.specs.Asking.{IsAsked}

@@ -1,8 +1,8 @@
 use Rattle.std.proofs.Common.{ℕ, ◌∙◌, subst}
-use Rattle.ask_watch.specs.Requests.{request_of}
+use Rattle.line_stream.specs.Requests.{request_of}
 use Rattle.edge_io.specs.Counts.{Rose}
 use Rattle.edge_io.proofs.ToldLemmas.{AppendedSome-whole}
-use Rattle.ask_watch.proofs.asking.send.Goals as goal
+use Rattle.line_stream.proofs.asking.send.Goals as goal
 
 pub returns-in-Err-flush : goal.returns-in-Err-flush
 returns-in-Err-flush g c = (

@@ -1,7 +1,7 @@
 use Rattle.std.specs.Prelude.{codes}
-use Rattle.ask_watch.specs.Requests.{start_pairs, selector_pair}
-use Rattle.ask_watch.proofs.FormLemmas.{whole}
-use Rattle.ask_watch.proofs.asking.form.Goals as goal
+use Rattle.line_stream.specs.Requests.{start_pairs, selector_pair}
+use Rattle.line_stream.proofs.FormLemmas.{whole}
+use Rattle.line_stream.proofs.asking.form.Goals as goal
 
 pub returns : goal.returns
 returns c =

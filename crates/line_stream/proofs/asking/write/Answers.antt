@@ -1,7 +1,7 @@
 use Rattle.std.proofs.Common.{◌∙◌}
 use Rattle.edge_io.specs.Sent.{sent_through}
-use Rattle.ask_watch.proofs.FormLemmas.{all_pieces, some_pieces, pieces_written}
-use Rattle.ask_watch.proofs.asking.write.Goals as goal
+use Rattle.line_stream.proofs.FormLemmas.{all_pieces, some_pieces, pieces_written}
+use Rattle.line_stream.proofs.asking.write.Goals as goal
 
 pub returns-in-Some : goal.returns-in-Some
 returns-in-Some g c =

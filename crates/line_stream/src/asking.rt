@@ -4,8 +4,8 @@ ghost use Rattle.std.specs.Prelude.{◌≡◌, [], IfOk, OnOk};
 ghost use Rattle.std.specs.String.{string_bytes};
 ghost use Rattle.edge_io.specs.Sent.{Writes, sent_through};
 ghost use Rattle.form_urlencoded.specs.Form.{extend_pairs};
-ghost use Rattle.ask_watch.specs.Answers.{Asks};
-ghost use Rattle.ask_watch.specs.Requests.{pairs_of, request_of, request_text, selector_pair, start_pairs};
+ghost use Rattle.line_stream.specs.AskAnswers.{Asks};
+ghost use Rattle.line_stream.specs.Requests.{pairs_of, request_of, request_text, selector_pair, start_pairs};
 
 use crate::Start;
 use edge_io::{Failed, Sink};

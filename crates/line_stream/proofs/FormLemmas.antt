@@ -7,7 +7,7 @@ use Rattle.edge_io.specs.Sent.{Sent, IsBrokenOff, IsWrittenOut, Writes}
 use Rattle.edge_io.specs.Told.{appended, AppendedSome}
 use Rattle.edge_io.specs.declared.fault.Failed.{Failed}
 use Rattle.form_urlencoded.specs.Form.{append_pair, extend_pairs}
-use Rattle.ask_watch.specs.Requests.{Pair, request_of}
+use Rattle.line_stream.specs.Requests.{Pair, request_of}
 
 pub joined : (form : List ℕ) (pairs more : List Pair) → extend_pairs form (pairs ++ more) ≡ extend_pairs (extend_pairs form pairs) more
 joined form pairs more = fold-append (λ form pair. append_pair form pair.0 pair.1) form pairs more

@@ -1,8 +1,8 @@
 -- The requests of watches of pods (Kubernetes API concepts, "Efficient detection of changes"; KEP-3157), as they are written.
 use Rattle.std.specs.Prelude.{ℕ, List, [], ◌∷◌, ◌++◌, Option, None, Some, codes, decimal}
 use Rattle.form_urlencoded.specs.Form.{extend_pairs}
-use Rattle.ask_watch.specs.declared.start.Start.{Start}
-use Rattle.ask_watch.specs.declared.start.Start.TheVariants.{State, Revision}
+use Rattle.line_stream.specs.declared.start.Start.{Start}
+use Rattle.line_stream.specs.declared.start.Start.TheVariants.{State, Revision}
 
 -- the path of all pods, or of those in a namespace
 abbrev pub pods_path : Option (List ℕ) → List ℕ
