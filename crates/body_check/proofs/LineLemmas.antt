@@ -8,12 +8,12 @@ use Rattle.meta_view.specs.declared.form.Form.TheVariants.{Whole}
 use Rattle.meta_view.specs.Lines.{object_line, bookmark_line, expired_line}
 use Rattle.kube_meta.specs.declared.objects.Obj.{Obj}
 use Rattle.select_all.specs.declared.selection.Kind.{Kind}
-use Rattle.watch_texts.specs.Texts.{type_of}
+use Rattle.watch_lines.specs.Texts.{type_of}
 use Rattle.rev_log.specs.Logs.{end_of}
 use Rattle.select_all.specs.Streams.{TransitionData}
 use Rattle.watch_record.specs.declared.records.Record.{Record}
 use Rattle.watch_rules.specs.Bodies.{Told}
-use Rattle.watch_texts.proofs.Apart.{told_no_mark, told_no_loss, mark_no_loss, marks_apart, losses_apart, floors_apart}
+use Rattle.watch_lines.proofs.ApartLemmas.{told_no_mark, told_no_loss, mark_no_loss, marks_apart, losses_apart, floors_apart}
 use Rattle.body_check.specs.declared.found.Found.{Found}
 use Rattle.body_check.specs.declared.found.Found.TheVariants.{Reached, Broken}
 use Rattle.body_check.specs.Courses.{text_in, course_of}

@@ -10,7 +10,7 @@ use Rattle.select_all.specs.Selecting.{selects}
 use Rattle.select_all.specs.Streams.{TransitionData}
 use Rattle.watch_record.specs.declared.records.Record.{Record}
 use Rattle.watch_rules.specs.Bodies.{Told, Closing, initial, initial_lines}
-use Rattle.watch_texts.proofs.Apart.{marks_apart}
+use Rattle.watch_lines.proofs.ApartLemmas.{marks_apart}
 use Rattle.body_check.specs.declared.found.Found.{Found}
 use Rattle.body_check.specs.declared.found.Found.TheVariants.{Reached, Broken}
 use Rattle.body_check.specs.Courses.{text_in, course_of, rows_told, closing_texts, opening_texts}

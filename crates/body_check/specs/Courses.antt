@@ -11,7 +11,7 @@ use Rattle.watch_record.specs.declared.records.Record.{Record}
 use Rattle.watch_rules.specs.Bodies.{Line, Told, Bookmark, Closing, Lost, opening_lines}
 use Rattle.watch_rules.specs.declared.starts.Start.{Start}
 use Rattle.watch_rules.specs.declared.starts.Start.TheVariants.{FromState, FromHere, FromRevision}
-use Rattle.watch_texts.specs.Texts.{line_text}
+use Rattle.watch_lines.specs.Texts.{line_text}
 use Rattle.body_check.specs.Judging.{record_log}
 use Rattle.body_check.specs.Losses.{is_lost}
 use Rattle.body_check.specs.Reading.{Course}

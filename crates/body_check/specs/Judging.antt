@@ -9,7 +9,7 @@ use Rattle.watch_record.specs.declared.records.Record.{Record}
 use Rattle.watch_rules.specs.Bodies.{Line, TellsBody}
 use Rattle.watch_rules.specs.declared.starts.Start.{Start}
 use Rattle.watch_rules.specs.declared.starts.Start.TheVariants.{FromState, FromHere, FromRevision}
-use Rattle.watch_texts.specs.Texts.{line_text}
+use Rattle.watch_lines.specs.Texts.{line_text}
 use Rattle.body_check.specs.declared.judging.Checked.{Checked}
 use Rattle.body_check.specs.declared.judging.Checked.TheVariants.{Lawful, Unlawful}
 use Rattle.body_check.specs.Losses.{log_from}

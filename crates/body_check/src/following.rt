@@ -13,8 +13,8 @@ use crate::Found;
 use crate::losses::is_lost;
 use crate::moves::Move;
 use kube_meta::Text;
+use watch_lines::{bookmark_in, loss_in, tells};
 use watch_record::Record;
-use watch_texts::{bookmark_in, loss_in, tells};
 
 /// What a line is.
 #[derive(Clone, Copy, Debug)]

@@ -6,7 +6,7 @@ ghost use Rattle.select_all.specs.Listings.{listing};
 ghost use Rattle.watch_rules.specs.Bodies.{Closing, initial_lines};
 ghost use Rattle.meta_view.specs.declared.form.Form.TheVariants.{Whole};
 ghost use Rattle.meta_view.specs.Lines.{object_line};
-ghost use Rattle.watch_texts.specs.Texts.{type_of};
+ghost use Rattle.watch_lines.specs.Texts.{type_of};
 ghost use Rattle.body_check.specs.Courses.{text_in, course_of, rows_told, untold_at, closing_texts, opening_texts};
 ghost use Rattle.body_check.specs.Findings.{AreCompared, Behind, IsFound, good_of, later};
 ghost use Rattle.body_check.specs.Places.{IsPlaced};
@@ -18,9 +18,9 @@ use crate::moves::Move;
 use kube_meta::{Row, Text};
 use rev_log::Rows;
 use select_all::Kind;
+use watch_lines::{bookmark_in, tells};
 use watch_record::Record;
 use watch_rules::Start;
-use watch_texts::{bookmark_in, tells};
 
 /// What the lines of a record are by a start, where these rows stand and these moves come.
 pub(crate) fn read_start(case: &Record, at: u64, rows: &Rows, rest: &[Move]) -> Found

@@ -15,7 +15,7 @@ use Rattle.watch_rules.specs.Starts.{is_never_exact}
 use Rattle.watch_rules.specs.declared.starts.Start.{Start}
 use Rattle.watch_rules.specs.declared.starts.Start.TheVariants.{FromState, FromHere, FromRevision}
 use Rattle.watch_rules.specs.declared.ask.WatchAsk.{WatchAsk}
-use Rattle.watch_texts.specs.Texts.{line_text}
+use Rattle.watch_lines.specs.Texts.{line_text}
 use Rattle.client_api.specs.Fresh.{IsFresh}
 use Rattle.client_api.specs.Starts.{meaning_of}
 use Rattle.sess_turns.specs.Turns.{watch_lines}

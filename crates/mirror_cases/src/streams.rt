@@ -8,7 +8,7 @@ use edge_io::MemSource;
 use kube_meta::{Memory, Resource};
 use line_stream::{LineReader, Step};
 use std::alloc::Global;
-use watch_read::{PeerLine, read_line};
+use watch_lines::{PeerLine, read_line};
 
 /// How much data is read where a row doesn't say it.
 const ROOM: u64 = 1 << 30;

@@ -18,7 +18,7 @@ use Rattle.mirror_opening.specs.Refusals.{reading_refusal}
 use Rattle.mirror_opening.specs.declared.refusal.LinkNo.{LinkNo}
 use Rattle.mirror_opening.specs.declared.refusal.LinkNo.TheVariants as no
 use Rattle.mirror_store.specs.MirrorLogs.{MirrorLogData}
-use Rattle.watch_read.specs.Laws.{LinesReadBack}
+use Rattle.watch_lines.specs.Laws.{LinesReadBack}
 
 -- ---- a reading without a bound
 

@@ -17,13 +17,13 @@ use Rattle.select_all.specs.declared.selection.Selection.{Selection}
 use Rattle.select_all.specs.Streams.{TransitionData}
 use Rattle.watch_rules.specs.declared.ask.WatchAsk.{WatchAsk}
 use Rattle.watch_rules.specs.Bodies.{Line, Told, Bookmark, Closing, Lost, BeginsBody, told_by, told_in}
-use Rattle.watch_texts.specs.Texts.{line_text, type_of}
-use Rattle.watch_read.specs.Laws.{LinesReadBack, IsTold, as_read}
-use Rattle.watch_read.specs.Lines.{IsPeerLine, ReadsPeerLine}
-use Rattle.watch_read.specs.Stored.{IsStored}
-use Rattle.watch_read.specs.declared.peer_line.PeerLine.{PeerLine}
-use Rattle.watch_read.specs.declared.peer_line.PeerLine.TheVariants as peer
-use Rattle.watch_read.proofs.EventLemmas.{same-type}
+use Rattle.watch_lines.specs.Texts.{line_text, type_of}
+use Rattle.watch_lines.specs.Laws.{LinesReadBack, IsTold, as_read}
+use Rattle.watch_lines.specs.Lines.{IsPeerLine, ReadsPeerLine}
+use Rattle.watch_lines.specs.Stored.{IsStored}
+use Rattle.watch_lines.specs.declared.peer_line.PeerLine.{PeerLine}
+use Rattle.watch_lines.specs.declared.peer_line.PeerLine.TheVariants as peer
+use Rattle.watch_lines.proofs.EventLemmas.{same-type}
 use Rattle.mirror_law.specs.Following.{Follows, upto_of, kept_after}
 use Rattle.mirror_law.specs.Mirrors.{IsMirrorOf, AreToldBy}
 use Rattle.mirror_law.specs.Objects.{EachObject}

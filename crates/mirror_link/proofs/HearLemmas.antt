@@ -21,10 +21,10 @@ use Rattle.mirror_store.specs.MirrorLogs.{MirrorLogData, Takes, TakesSome}
 use Rattle.rev_log.specs.Logs.{Log, end_of, grown}
 use Rattle.select_all.specs.declared.selection.Selection.{Selection}
 use Rattle.select_all.specs.Streams.{TransitionData}
-use Rattle.watch_read.specs.Laws.{LinesReadBack, as_read}
-use Rattle.watch_read.specs.Lines.{IsPeerLine, ReadsPeerLine}
-use Rattle.watch_read.specs.declared.peer_line.PeerLine.{PeerLine}
-use Rattle.watch_read.specs.declared.peer_line.PeerLine.TheVariants as peer
+use Rattle.watch_lines.specs.Laws.{LinesReadBack, as_read}
+use Rattle.watch_lines.specs.Lines.{IsPeerLine, ReadsPeerLine}
+use Rattle.watch_lines.specs.declared.peer_line.PeerLine.{PeerLine}
+use Rattle.watch_lines.specs.declared.peer_line.PeerLine.TheVariants as peer
 use Rattle.watch_rules.specs.declared.ask.WatchAsk.{WatchAsk}
 use Rattle.watch_rules.specs.Bodies.{Line, Told, Bookmark, Closing, Lost}
 

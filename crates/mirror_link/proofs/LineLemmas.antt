@@ -18,10 +18,10 @@ use Rattle.mirror_store.specs.declared.refusal.MirrorNo.TheVariants as mirror
 use Rattle.rev_log.specs.Changes.{RevisionData}
 use Rattle.rev_log.specs.Logs.{Log, end_of, grown}
 use Rattle.select_all.specs.Streams.{TransitionData}
-use Rattle.watch_read.specs.Laws.{as_read}
-use Rattle.watch_read.specs.Lines.{ReadsPeerLine}
-use Rattle.watch_read.specs.declared.peer_line.PeerLine.{PeerLine}
-use Rattle.watch_read.specs.declared.peer_line.PeerLine.TheVariants as peer
+use Rattle.watch_lines.specs.Laws.{as_read}
+use Rattle.watch_lines.specs.Lines.{ReadsPeerLine}
+use Rattle.watch_lines.specs.declared.peer_line.PeerLine.{PeerLine}
+use Rattle.watch_lines.specs.declared.peer_line.PeerLine.TheVariants as peer
 use Rattle.watch_rules.specs.Bodies.{Line, Bookmark}
 
 -- what is read of a text is within bounds

@@ -5,14 +5,14 @@ use Rattle.meta_view.specs.declared.form.Form.TheVariants.{Whole}
 use Rattle.rev_log.specs.Logs.{Log, end_of}
 use Rattle.watch_rules.specs.declared.ask.WatchAsk.{WatchAsk}
 use Rattle.watch_rules.specs.Bodies.{Line, BeginsBody}
-use Rattle.watch_texts.specs.Texts.{line_text}
+use Rattle.watch_lines.specs.Texts.{line_text}
 use Rattle.line_stream.specs.Readers.{GoesOn, ReadsText}
 use Rattle.line_stream.specs.Answers.{Faults}
 use Rattle.line_stream.specs.declared.refusal.LineNo.{LineNo}
 use Rattle.line_stream.specs.declared.place.Place.TheVariants as place
-use Rattle.watch_read.specs.Laws.{as_read}
-use Rattle.watch_read.specs.Lines.{ReadsPeerLine}
-use Rattle.watch_read.specs.declared.peer_line.PeerLine.{PeerLine}
+use Rattle.watch_lines.specs.Laws.{as_read}
+use Rattle.watch_lines.specs.Lines.{ReadsPeerLine}
+use Rattle.watch_lines.specs.declared.peer_line.PeerLine.{PeerLine}
 use Rattle.mirror_law.specs.Mirrors.{IsMirrorOf}
 use Rattle.mirror_law.specs.Following.{Follows}
 use Rattle.mirror_store.specs.MirrorLogs.{Takes, TakesSome, seen_to}

@@ -5,9 +5,9 @@ use Rattle.meta_view.specs.declared.form.Form.TheVariants.{Whole}
 use Rattle.rev_log.specs.Logs.{Log}
 use Rattle.watch_rules.specs.declared.ask.WatchAsk.{WatchAsk}
 use Rattle.watch_rules.specs.Bodies.{Line, Told, Bookmark, Closing, Lost, BeginsBody}
-use Rattle.watch_texts.specs.Texts.{line_text}
-use Rattle.watch_read.specs.Lines.{ReadsPeerLine}
-use Rattle.watch_read.specs.declared.peer_line.PeerLine.{PeerLine}
+use Rattle.watch_lines.specs.Texts.{line_text}
+use Rattle.watch_lines.specs.Lines.{ReadsPeerLine}
+use Rattle.watch_lines.specs.declared.peer_line.PeerLine.{PeerLine}
 use Rattle.mirror_link.specs.Hearing.{FollowsIn}
 use Rattle.mirror_link.specs.Lines.{line_fault}
 use Rattle.mirror_link.specs.Peers.{IsPeer, IsAskOf}

@@ -2,10 +2,10 @@
 use Rattle.std.specs.Prelude.{◌≡◌, ℕ, ◌^◌, ◌<◌, ◌≤◌, ◌⊎◌, List, Option, None, Some, Result, Ok, Err, option_map}
 use Rattle.kube_meta.specs.declared.resources.Resource.TheVariants.{Pods}
 use Rattle.rev_log.specs.Logs.{end_of}
-use Rattle.watch_read.specs.Laws.{as_read}
-use Rattle.watch_read.specs.Lines.{ReadsPeerLine}
-use Rattle.watch_read.specs.declared.peer_line.PeerLine.{PeerLine}
-use Rattle.watch_read.specs.declared.peer_line.PeerLine.TheVariants as peer
+use Rattle.watch_lines.specs.Laws.{as_read}
+use Rattle.watch_lines.specs.Lines.{ReadsPeerLine}
+use Rattle.watch_lines.specs.declared.peer_line.PeerLine.{PeerLine}
+use Rattle.watch_lines.specs.declared.peer_line.PeerLine.TheVariants as peer
 use Rattle.watch_rules.specs.Bodies.{Line}
 use Rattle.mirror_keep.specs.Faults.{event_fault, mark_fault}
 use Rattle.mirror_opening.specs.declared.refusal.LinkNo.{LinkNo}

@@ -6,7 +6,7 @@ use Rattle.watch_rules.specs.declared.ask.WatchAsk.{WatchAsk}
 use Rattle.watch_rules.specs.declared.starts.Start.TheVariants.{FromRevision}
 use Rattle.watch_rules.specs.Starts.{is_from_state}
 use Rattle.watch_rules.specs.Bodies.{Line}
-use Rattle.watch_read.specs.Stored.{IsStored}
+use Rattle.watch_lines.specs.Stored.{IsStored}
 use Rattle.mirror_law.specs.Objects.{EachObject}
 use Rattle.mirror_law.specs.Taking.{IsPastOpening}
 

@@ -2,7 +2,7 @@
 
 ghost use Rattle.mirror_link.specs.Laws.{LawfulLinesAreHeard};
 
-use watch_read::lines_read_back;
+use watch_lines::lines_read_back;
 
 /// A mirror that follows a lawful body refuses its next line for a gap alone.
 pub fn lawful_lines_are_heard()

@@ -1,7 +1,7 @@
 //! Lines, as a mirror's log hears them.
 
 ghost use Rattle.std.specs.Prelude.{◌≡◌, ◌≤◌, ◌^◌, IfSome, Some};
-ghost use Rattle.watch_read.specs.declared.peer_line.PeerLine.TheVariants as peer;
+ghost use Rattle.watch_lines.specs.declared.peer_line.PeerLine.TheVariants as peer;
 ghost use Rattle.up_api.specs.Sections.{Learns};
 ghost use Rattle.mirror_link.specs.Lines.{HearsRead, HearsText, IsBounded};
 
@@ -14,7 +14,7 @@ use select_all::Kind;
 use std::alloc::Global;
 use std::sync::Wait;
 use up_api::LogFacts;
-use watch_read::{PeerLine, read_line};
+use watch_lines::{PeerLine, read_line};
 
 // Hears an event, and answers the end of the log.
 fn hear_event<N: LogFacts, R: Wait + Copy>(

@@ -36,7 +36,7 @@ use std::marker::Model;
 use std::sync::Wait;
 use up_api::LogFacts;
 use up_store::StoreDoor;
-use watch_read::lines_read_back;
+use watch_lines::lines_read_back;
 
 /// A mirror of a peer's pods: a store of its own, whose log is what the peer's watch tells.
 #[derive(Drop)]

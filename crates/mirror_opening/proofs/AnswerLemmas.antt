@@ -8,8 +8,8 @@ use Rattle.line_stream.specs.declared.refusal.LineNo.TheVariants as line
 use Rattle.select_all.specs.declared.selection.Kind.TheVariants.{Added}
 use Rattle.select_all.specs.declared.selection.Selection.{Selection}
 use Rattle.select_all.specs.Selecting.{selects}
-use Rattle.watch_read.specs.declared.peer_line.PeerLine.{PeerLine}
-use Rattle.watch_read.specs.declared.peer_line.PeerLine.TheVariants as peer
+use Rattle.watch_lines.specs.declared.peer_line.PeerLine.{PeerLine}
+use Rattle.watch_lines.specs.declared.peer_line.PeerLine.TheVariants as peer
 use Rattle.line_stream.specs.AskAnswers.{Asks}
 use Rattle.line_stream.specs.declared.asking.AskNo.{AskNo}
 use Rattle.line_stream.specs.declared.asking.AskNo.TheVariants as ask

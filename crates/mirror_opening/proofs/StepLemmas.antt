@@ -14,10 +14,10 @@ use Rattle.mirror_opening.specs.Refusals.{reading_refusal}
 use Rattle.line_stream.specs.Readers.{LinesData, ReaderData, ReadsText, Spends}
 use Rattle.select_all.specs.declared.selection.Selection.{Selection}
 use Rattle.select_all.specs.Selecting.{selects}
-use Rattle.watch_read.specs.Laws.{as_read}
-use Rattle.watch_read.specs.Lines.{IsPeerLine, ReadsPeerLine}
-use Rattle.watch_read.specs.Stored.{IsStored}
-use Rattle.watch_read.specs.declared.peer_line.PeerLine.{PeerLine}
+use Rattle.watch_lines.specs.Laws.{as_read}
+use Rattle.watch_lines.specs.Lines.{IsPeerLine, ReadsPeerLine}
+use Rattle.watch_lines.specs.Stored.{IsStored}
+use Rattle.watch_lines.specs.declared.peer_line.PeerLine.{PeerLine}
 use Rattle.watch_rules.specs.Bodies.{Told, Closing, initial, initial_lines}
 use Rattle.mirror_opening.specs.Reading.{most_opening, AreTexts, Adds, Steps, HasRows, HasRowsAt, HasNoRows}
 use Rattle.mirror_opening.specs.declared.refusal.LinkNo.{LinkNo}

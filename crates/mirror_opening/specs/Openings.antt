@@ -7,7 +7,7 @@ use Rattle.line_stream.specs.Readers.{ReaderData}
 use Rattle.select_all.specs.declared.selection.Selection.{Selection}
 use Rattle.select_all.specs.Reading.{IsRead}
 use Rattle.select_all.specs.Selecting.{selects}
-use Rattle.watch_read.specs.Stored.{IsStored}
+use Rattle.watch_lines.specs.Stored.{IsStored}
 use Rattle.watch_rules.specs.Bodies.{Line, Closing, initial_lines}
 
 -- whose it is, with the texts of its selectors, its rows and the revision at which they stand, and where the reading of

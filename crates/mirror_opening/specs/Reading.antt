@@ -15,11 +15,11 @@ use Rattle.line_stream.specs.declared.refusal.LineNo.{LineNo}
 use Rattle.select_all.specs.declared.selection.Kind.TheVariants.{Added, Modified, Deleted}
 use Rattle.select_all.specs.declared.selection.Selection.{Selection}
 use Rattle.select_all.specs.Selecting.{selects}
-use Rattle.watch_read.specs.Laws.{as_read}
-use Rattle.watch_read.specs.Lines.{IsPeerLine, ReadsPeerLine}
-use Rattle.watch_read.specs.Stored.{IsToldAt}
-use Rattle.watch_read.specs.declared.peer_line.PeerLine.{PeerLine}
-use Rattle.watch_read.specs.declared.peer_line.PeerLine.TheVariants as peer
+use Rattle.watch_lines.specs.Laws.{as_read}
+use Rattle.watch_lines.specs.Lines.{IsPeerLine, ReadsPeerLine}
+use Rattle.watch_lines.specs.Stored.{IsToldAt}
+use Rattle.watch_lines.specs.declared.peer_line.PeerLine.{PeerLine}
+use Rattle.watch_lines.specs.declared.peer_line.PeerLine.TheVariants as peer
 use Rattle.watch_rules.specs.Bodies.{Line, Told, Closing, initial, initial_lines}
 use Rattle.mirror_opening.specs.Openings.{OpeningData, AreOpened, opened_lines}
 use Rattle.mirror_opening.specs.Refusals.{reading_refusal}

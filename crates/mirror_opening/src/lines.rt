@@ -6,7 +6,7 @@ ghost use Rattle.mirror_opening.specs.Asking.{CountsReads};
 ghost use Rattle.mirror_opening.specs.Reading.{Adds, ReadsRows, Steps, most_opening};
 ghost use Rattle.mirror_opening.specs.Reading as reading;
 ghost use Rattle.select_all.specs.declared.selection.Selection.{Selection as Asked};
-ghost use Rattle.watch_read.specs.declared.peer_line.PeerLine.TheVariants as peer;
+ghost use Rattle.watch_lines.specs.declared.peer_line.PeerLine.TheVariants as peer;
 
 use crate::LinkNo;
 use edge_io::Source;
@@ -15,7 +15,7 @@ use line_stream::{LineReader, Step};
 use select_all::{Kind, Selection};
 use std::alloc::Global;
 use std::sync::Arc;
-use watch_read::{PeerLine, read_line};
+use watch_lines::{PeerLine, read_line};
 
 // Whether the key is above that of the last row.
 fn is_next(rows: &[Row], key: &Key) -> bool

@@ -5,9 +5,9 @@ use Rattle.kube_meta.specs.declared.resources.Resource.TheVariants.{Pods}
 use Rattle.select_all.specs.declared.selection.Kind.TheVariants.{Added}
 use Rattle.mirror_opening.specs.Reading.{AreTexts, most_opening}
 use Rattle.line_stream.specs.Streams.{ReadingsAgree}
-use Rattle.watch_read.specs.Laws.{LinesAreOne, as_read}
-use Rattle.watch_read.specs.Lines.{IsPeerLine}
-use Rattle.watch_read.specs.declared.peer_line.PeerLine.TheVariants as peer
+use Rattle.watch_lines.specs.Laws.{LinesAreOne, as_read}
+use Rattle.watch_lines.specs.Lines.{IsPeerLine}
+use Rattle.watch_lines.specs.declared.peer_line.PeerLine.TheVariants as peer
 use Rattle.watch_rules.specs.Bodies.{Line, Told, Closing, initial, initial_lines}
 use Rattle.mirrored_streams.specs.Openings.{OpeningsAreOne}
 

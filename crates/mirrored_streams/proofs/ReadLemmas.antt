@@ -14,11 +14,11 @@ use Rattle.sess_turns.proofs.BodyLemmas.{turns_are_bodies}
 use Rattle.line_stream.specs.Streams.{whole_stream, AreRead}
 use Rattle.line_stream.proofs.AgreeLemmas.{streams-read-back}
 use Rattle.up_api.specs.Sections.{log_of}
-use Rattle.watch_read.specs.Feeds.{HasNoLineFeed, is_line_feed}
-use Rattle.watch_read.specs.Laws.{LinesReadBack, TextsHaveNoLineFeed, as_read}
+use Rattle.watch_lines.specs.Feeds.{HasNoLineFeed, is_line_feed}
+use Rattle.watch_lines.specs.Laws.{LinesReadBack, TextsHaveNoLineFeed, as_read}
 use Rattle.watch_rules.specs.declared.ask.WatchAsk.{WatchAsk}
 use Rattle.watch_rules.specs.Bodies.{Line, Body, BeginsBody, lines_of, position_of}
-use Rattle.watch_texts.specs.Texts.{line_text}
+use Rattle.watch_lines.specs.Texts.{line_text}
 use Rattle.mirrored_streams.specs.Streams.{MayBeRead, WatchesAreRead, in_chunks}
 
 -- ---- lines that may be read

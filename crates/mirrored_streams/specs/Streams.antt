@@ -14,10 +14,10 @@ use Rattle.sess_turns.specs.Turns.{Turns, IsWatchTurns, watch_lines}
 use Rattle.sess_turns.specs.declared.view.Framing.TheVariants.{Chunks}
 use Rattle.sess_turns.specs.declared.view.View.{View}
 use Rattle.up_api.specs.Sections.{log_of}
-use Rattle.watch_read.specs.Laws.{IsTold}
+use Rattle.watch_lines.specs.Laws.{IsTold}
 use Rattle.watch_rules.specs.declared.ask.WatchAsk.{WatchAsk}
 use Rattle.watch_rules.specs.Bodies.{Line, BeginsBody}
-use Rattle.watch_texts.specs.Texts.{line_text}
+use Rattle.watch_lines.specs.Texts.{line_text}
 
 -- whole objects, each line in a chunk of its own
 abbrev pub in_chunks : View

@@ -4,7 +4,7 @@ ghost use Rattle.mirrored_streams.specs.Openings.{OpeningsAreOne};
 ghost use Rattle.mirrored_streams.specs.Streams.{WatchesAreRead};
 
 use line_stream::readings_agree;
-use watch_read::{lines_are_one, lines_read_back, texts_have_no_line_feed};
+use watch_lines::{lines_are_one, lines_read_back, texts_have_no_line_feed};
 
 /// Whoever stands in a beginning of what a session writes to a watch, in chunks of whole objects, stands with the texts
 /// of lines that begin a lawful body over the log that the session knew at the end.

@@ -14,7 +14,7 @@ use Rattle.rev_front.specs.Passes.{Pass}
 use Rattle.rev_log.specs.Changes.{RevisionData}
 use Rattle.watch_rules.specs.declared.ask.WatchAsk.{WatchAsk}
 use Rattle.watch_rules.specs.Bodies.{Line}
-use Rattle.watch_texts.specs.Texts.{line_text}
+use Rattle.watch_lines.specs.Texts.{line_text}
 use Rattle.client_api.specs.Answers.{BegunData}
 use Rattle.sess_reply.specs.Sending.{Sends}
 use Rattle.sess_reply.specs.declared.broken.Broken.{Broken}

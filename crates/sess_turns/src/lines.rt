@@ -4,7 +4,7 @@ ghost use Rattle.std.specs.Prelude.{map};
 ghost use Rattle.edge_io.specs.Sent.{sent_through};
 ghost use Rattle.watch_rules.specs.Bodies.{Told, initial_lines, opening_lines};
 ghost use Rattle.sess_reply.specs.Sending.{Emits};
-ghost use Rattle.watch_texts.specs.Texts.{type_of};
+ghost use Rattle.watch_lines.specs.Texts.{type_of};
 ghost use Rattle.sess_turns.specs.Streams.{frames_of, framed};
 ghost use Rattle.meta_view.specs.Lines.{object_line, bookmark_line, expired_line};
 
@@ -20,8 +20,8 @@ use meta_view::{shown_bookmark, shown_pieces};
 use select_all::Kind;
 use sess_reply::Broken;
 use std::sync::Arc;
+use watch_lines::event_type;
 use watch_rules::WatchAsk;
-use watch_texts::event_type;
 
 /// Writes the opening of a watch: a line for each of its initial objects, and the bookmark that ends them where one is
 /// asked for.

@@ -5,7 +5,7 @@ use Rattle.mirror_link.proofs.LineLemmas.{as_view, heard_as}
 use Rattle.mirror_opening.specs.declared.refusal.LinkNo.{LinkNo}
 use Rattle.rev_log.specs.Logs.{end_of}
 use Rattle.select_all.specs.Streams.{TransitionData}
-use Rattle.watch_read.specs.declared.peer_line.PeerLine.TheVariants as peer
+use Rattle.watch_lines.specs.declared.peer_line.PeerLine.TheVariants as peer
 use Rattle.watch_rules.specs.Bodies.{Told}
 use Rattle.mirror_link.proofs.lines.hear_event.Goals as goal
 

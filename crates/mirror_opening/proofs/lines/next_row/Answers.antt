@@ -3,7 +3,7 @@ use Rattle.std.proofs.Common.{ℕ, List, ◌++◌, Ok, subst}
 use Rattle.kube_meta.specs.declared.resources.Resource.TheVariants.{Pods}
 use Rattle.line_stream.specs.Answers.{AnswersLine}
 use Rattle.line_stream.specs.declared.lines.Step.{Step}
-use Rattle.watch_read.specs.Lines.{ReadsPeerLine}
+use Rattle.watch_lines.specs.Lines.{ReadsPeerLine}
 use Rattle.mirror_opening.proofs.AnswerLemmas.{adds_quietly}
 use Rattle.mirror_opening.proofs.StepLemmas.{stepped}
 use Rattle.mirror_opening.proofs.lines.next_row.Goals as goal

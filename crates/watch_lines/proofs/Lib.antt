@@ -1,0 +1,9 @@
+pub mod MadeLemmas
+pub mod TextLemmas
+pub mod ApartLemmas
+pub mod ObjectLemmas
+pub mod StatusLemmas
+pub mod EventLemmas
+pub mod FeedLemmas
+pub mod LineLemmas
+pub mod LawLemmas

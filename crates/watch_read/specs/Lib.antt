@@ -1,5 +1,0 @@
-pub mod Stored
-pub mod Feeds
-pub mod Lines
-pub mod Laws
-pub mod Reading
