@@ -17,7 +17,7 @@ use Rattle.mirror_opening.specs.Asking.{CountsReads}
 use Rattle.mirror_opening.specs.Refusals.{reading_refusal}
 use Rattle.mirror_opening.specs.declared.refusal.LinkNo.{LinkNo}
 use Rattle.mirror_opening.specs.declared.refusal.LinkNo.TheVariants as no
-use Rattle.mirror_store.specs.MirrorLogs.{MirrorLogData}
+use Rattle.mirror_log.specs.MirrorLogs.{MirrorLogData}
 use Rattle.watch_lines.specs.Laws.{LinesReadBack}
 
 -- ---- a reading without a bound

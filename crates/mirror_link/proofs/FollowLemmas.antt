@@ -31,16 +31,16 @@ use Rattle.mirror_law.specs.Taking.{IsTaken, IsNotAbove}
 use Rattle.mirror_law.proofs.FollowLemmas.{followings_commit, followings_hear, followings_mark}
 use Rattle.mirror_law.proofs.ObjectLemmas.{told_objects}
 use Rattle.mirror_law.proofs.TakenLemmas.{lawful_lines_are_taken, lines_are_reached}
-use Rattle.mirror_keep.specs.declared.refusal.TakeNo.{TakeNo}
-use Rattle.mirror_keep.specs.declared.refusal.TakeNo.TheVariants as take
-use Rattle.mirror_keep.specs.Faults.{event_fault, mark_fault}
-use Rattle.mirror_keep.specs.Laws.{IsAtMostGap as TakesAtMostGap}
-use Rattle.mirror_keep.proofs.FaultLemmas.{taken_events_fit, taken_marks_fit}
+use Rattle.mirror_log.specs.declared.take_refusal.TakeNo.{TakeNo}
+use Rattle.mirror_log.specs.declared.take_refusal.TakeNo.TheVariants as take
+use Rattle.mirror_log.specs.Faults.{event_fault, mark_fault}
+use Rattle.mirror_log.specs.Laws.{IsAtMostGap as TakesAtMostGap}
+use Rattle.mirror_log.proofs.TakeLemmas.{taken_events_fit, taken_marks_fit}
 use Rattle.mirror_link.specs.Laws.{IsAtMostGap, IsLawfulFault}
 use Rattle.mirror_link.specs.Lines.{line_fault}
 use Rattle.mirror_link.specs.Peers.{IsPeer, IsAskOf}
 use Rattle.mirror_link.specs.Refusals.{taking_refusal}
-use Rattle.mirror_store.specs.MirrorLogs.{MirrorLogData}
+use Rattle.mirror_log.specs.MirrorLogs.{MirrorLogData}
 use Rattle.rev_front.specs.Passes.{Pass}
 use Rattle.std.specs.Prelude.{option_map}
 

@@ -3,9 +3,9 @@ use Rattle.std.proofs.Common.{◌≡◌, ℕ, List, [], ◌∷◌, ◌++◌, Opt
 use Rattle.std.specs.Prelude.{option_map}
 use Rattle.kube_meta.specs.declared.resources.Resource.TheVariants.{Pods}
 use Rattle.line_stream.specs.Readers.{ReadsText}
-use Rattle.mirror_keep.specs.declared.refusal.TakeNo.{TakeNo}
-use Rattle.mirror_keep.specs.declared.refusal.TakeNo.TheVariants as take
-use Rattle.mirror_keep.specs.Faults.{event_fault, mark_fault}
+use Rattle.mirror_log.specs.declared.take_refusal.TakeNo.{TakeNo}
+use Rattle.mirror_log.specs.declared.take_refusal.TakeNo.TheVariants as take
+use Rattle.mirror_log.specs.Faults.{event_fault, mark_fault}
 use Rattle.mirror_law.specs.Following.{Follows, kept_after}
 use Rattle.mirror_law.specs.Mirrors.{IsMirrorOf}
 use Rattle.mirror_link.specs.Hearing.{Hears, HearsLine, HearsSome, HasBadLine, FollowsIn}
@@ -17,7 +17,7 @@ use Rattle.mirror_link.specs.declared.heard.Heard.TheVariants as heard
 use Rattle.mirror_link.proofs.FollowLemmas.{Hears as Premises, event_follows, event_mirrors, mark_follows, mark_mirrors}
 use Rattle.mirror_opening.specs.declared.refusal.LinkNo.{LinkNo}
 use Rattle.mirror_opening.specs.declared.refusal.LinkNo.TheVariants as no
-use Rattle.mirror_store.specs.MirrorLogs.{MirrorLogData, Takes, TakesSome}
+use Rattle.mirror_log.specs.MirrorLogs.{MirrorLogData, Takes, TakesSome}
 use Rattle.rev_log.specs.Logs.{Log, end_of, grown}
 use Rattle.select_all.specs.declared.selection.Selection.{Selection}
 use Rattle.select_all.specs.Streams.{TransitionData}

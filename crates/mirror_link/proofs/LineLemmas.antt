@@ -3,18 +3,18 @@ use Rattle.std.proofs.Common.{◌≡◌, ℕ, List, [], Bool, Option, None, Some
 use Rattle.std.specs.Prelude.{option_map, IfSome}
 use Rattle.std.proofs.lemmas.List.{append-nil}
 use Rattle.kube_meta.specs.declared.resources.Resource.TheVariants.{Pods}
-use Rattle.mirror_keep.specs.declared.refusal.TakeNo.{TakeNo}
-use Rattle.mirror_keep.specs.declared.refusal.TakeNo.TheVariants as take
-use Rattle.mirror_keep.specs.Faults.{mark_fault}
+use Rattle.mirror_log.specs.declared.take_refusal.TakeNo.{TakeNo}
+use Rattle.mirror_log.specs.declared.take_refusal.TakeNo.TheVariants as take
+use Rattle.mirror_log.specs.Faults.{mark_fault}
 use Rattle.mirror_link.specs.Lines.{HearsRead, HearsText, IsBounded, TakesRead, TakesSomeRead, line_fault}
 use Rattle.mirror_link.specs.Refusals.{taking_refusal, hearing_refusal}
 use Rattle.mirror_link.specs.declared.heard.Heard.{Heard}
 use Rattle.mirror_link.specs.declared.heard.Heard.TheVariants as heard
 use Rattle.mirror_opening.specs.declared.refusal.LinkNo.{LinkNo}
 use Rattle.mirror_opening.specs.declared.refusal.LinkNo.TheVariants as no
-use Rattle.mirror_store.specs.MirrorLogs.{MirrorLogData, Hears}
-use Rattle.mirror_store.specs.declared.refusal.MirrorNo.{MirrorNo}
-use Rattle.mirror_store.specs.declared.refusal.MirrorNo.TheVariants as mirror
+use Rattle.mirror_log.specs.MirrorLogs.{MirrorLogData, Hears}
+use Rattle.mirror_log.specs.declared.refusal.MirrorNo.{MirrorNo}
+use Rattle.mirror_log.specs.declared.refusal.MirrorNo.TheVariants as mirror
 use Rattle.rev_log.specs.Changes.{RevisionData}
 use Rattle.rev_log.specs.Logs.{Log, end_of, grown}
 use Rattle.select_all.specs.Streams.{TransitionData}

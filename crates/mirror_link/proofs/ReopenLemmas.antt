@@ -19,10 +19,10 @@ use Rattle.mirror_opening.specs.Openings.{OpeningData, opened_lines}
 use Rattle.mirror_opening.specs.Reading.{HasNoOpening}
 use Rattle.mirror_opening.specs.declared.refusal.LinkNo.{LinkNo}
 use Rattle.mirror_opening.specs.declared.refusal.LinkNo.TheVariants.{WriteFault}
-use Rattle.mirror_store.specs.MirrorLogs.{MirrorLogData, Rests}
-use Rattle.mirror_store.specs.Rebasing.{IsRebased, Rebases}
-use Rattle.mirror_store.specs.declared.refusal.RebaseNo.{RebaseNo}
-use Rattle.mirror_store.specs.declared.refusal.RebaseNo.TheVariants as rebase
+use Rattle.mirror_log.specs.MirrorLogs.{MirrorLogData, Rests}
+use Rattle.mirror_log.specs.Rebasing.{IsRebased, Rebases}
+use Rattle.mirror_log.specs.declared.refusal.RebaseNo.{RebaseNo}
+use Rattle.mirror_log.specs.declared.refusal.RebaseNo.TheVariants as rebase
 use Rattle.rev_log.specs.Logs.{Log, IsLog, end_of}
 use Rattle.rev_log.specs.States.{IsStateAt}
 use Rattle.select_all.specs.Reading.{IsRead}

@@ -15,7 +15,7 @@ use Rattle.watch_lines.specs.Lines.{ReadsPeerLine}
 use Rattle.watch_lines.specs.declared.peer_line.PeerLine.{PeerLine}
 use Rattle.mirror_law.specs.Mirrors.{IsMirrorOf}
 use Rattle.mirror_law.specs.Following.{Follows}
-use Rattle.mirror_store.specs.MirrorLogs.{Takes, TakesSome, seen_to}
+use Rattle.mirror_log.specs.MirrorLogs.{Takes, TakesSome, seen_to}
 use Rattle.mirror_opening.specs.Refusals.{reading_refusal}
 use Rattle.mirror_link.specs.Peers.{IsPeer, IsAskOf}
 use Rattle.mirror_link.specs.Lines.{line_fault}

@@ -1,13 +1,13 @@
 -- Which refusal of a part is which of the whole, and which answers are given again.
 use Rattle.std.specs.Prelude.{ℕ, Option, None, Some, Result, Ok, Err}
-use Rattle.mirror_keep.specs.declared.refusal.TakeNo.{TakeNo}
-use Rattle.mirror_keep.specs.declared.refusal.TakeNo.TheVariants as take
+use Rattle.mirror_log.specs.declared.take_refusal.TakeNo.{TakeNo}
+use Rattle.mirror_log.specs.declared.take_refusal.TakeNo.TheVariants as take
 use Rattle.mirror_opening.specs.declared.refusal.LinkNo.{LinkNo}
 use Rattle.mirror_opening.specs.declared.refusal.LinkNo.TheVariants.{BadLine, Order, Gap, OtherLog, Passed, Memory}
-use Rattle.mirror_store.specs.declared.refusal.MirrorNo.{MirrorNo}
-use Rattle.mirror_store.specs.declared.refusal.MirrorNo.TheVariants as mirror
-use Rattle.mirror_store.specs.declared.refusal.RebaseNo.{RebaseNo}
-use Rattle.mirror_store.specs.declared.refusal.RebaseNo.TheVariants as rebase
+use Rattle.mirror_log.specs.declared.refusal.MirrorNo.{MirrorNo}
+use Rattle.mirror_log.specs.declared.refusal.MirrorNo.TheVariants as mirror
+use Rattle.mirror_log.specs.declared.refusal.RebaseNo.{RebaseNo}
+use Rattle.mirror_log.specs.declared.refusal.RebaseNo.TheVariants as rebase
 use Rattle.mirror_link.specs.declared.heard.Heard.{Heard}
 use Rattle.mirror_link.specs.declared.heard.Heard.TheVariants.{Line, Ended}
 

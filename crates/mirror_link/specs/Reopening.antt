@@ -8,8 +8,8 @@ use Rattle.rev_log.specs.Logs.{Log, end_of, grown}
 use Rattle.rev_log.specs.States.{IsStateAt}
 use Rattle.watch_rules.specs.declared.ask.WatchAsk.{WatchAsk}
 use Rattle.watch_rules.specs.Bodies.{BeginsBody}
-use Rattle.mirror_store.specs.Rebasing.{Rebases}
-use Rattle.mirror_store.specs.declared.refusal.RebaseNo.{RebaseNo}
+use Rattle.mirror_log.specs.Rebasing.{Rebases}
+use Rattle.mirror_log.specs.declared.refusal.RebaseNo.{RebaseNo}
 use Rattle.mirror_opening.specs.Openings.{OpeningData, IsOpeningOf, opened_lines}
 use Rattle.mirror_opening.specs.Reading.{HasOpening, HasNoOpening}
 use Rattle.mirror_opening.specs.declared.refusal.LinkNo.{LinkNo}

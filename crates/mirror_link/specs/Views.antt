@@ -10,7 +10,7 @@ use Rattle.select_all.specs.Reading.{IsRead}
 use Rattle.select_all.specs.declared.selection.Selection.{Selection}
 use Rattle.select_all.specs.Streams.{TransitionData}
 use Rattle.mirror_opening.specs.declared.refusal.LinkNo.{LinkNo}
-use Rattle.mirror_store.specs.MirrorLogs.{MirrorLogData}
+use Rattle.mirror_log.specs.MirrorLogs.{MirrorLogData}
 use Rattle.mirror_link.specs.declared.heard.Heard.{Heard}
 
 -- whose it is, by the texts of its selectors, what its pass knows of its store, its log, the lines of the revision

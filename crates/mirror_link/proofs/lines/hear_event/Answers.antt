@@ -1,5 +1,5 @@
 use Rattle.std.proofs.Common.{Some, Ok, Err, refl, subst}
-use Rattle.mirror_keep.specs.Faults.{event_fault}
+use Rattle.mirror_log.specs.Faults.{event_fault}
 use Rattle.mirror_link.specs.Lines.{HearsRead}
 use Rattle.mirror_link.proofs.LineLemmas.{as_view, heard_as}
 use Rattle.mirror_opening.specs.declared.refusal.LinkNo.{LinkNo}

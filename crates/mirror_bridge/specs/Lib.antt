@@ -1,3 +1,0 @@
-pub mod Bridges
-pub mod Slots
-pub mod Refusals

@@ -1,8 +1,0 @@
-use Rattle.mirror_keep.specs.Intakes.{IntakeData}
-use Rattle.mirror_keep.proofs.IntakeLemmas.{anew}
-use Rattle.mirror_keep.proofs.intake.Intake.begin_anew.Goals as goal
-
-pub returns-clause-at : goal.returns-clause-at
-returns-clause-at c = λ log end stands.
-    let new : IntakeData = record { selection = c.self.inside.selection; to = c.args.to; keys = c.args.keys; kept = c.clear.new.self.items } in
-    anew new log end c.clear.ensures.items stands

@@ -1,3 +1,0 @@
-pub mod Intakes
-pub mod Faults
-pub mod Laws

@@ -1,0 +1,165 @@
+-- The revisions that are made of slots.
+use Rattle.std.proofs.Common.{◌≡◌, ℕ, zero, suc, ◌+◌, ◌-◌, ◌*◌, ◌<◌, ◌≤◌, false, ltb, eqb, List, [], ◌∷◌, ◌++◌, length, fold, All, Option, Some, None, refl, sym, ap, ◌∙◌, subst, inl, inr, length-append, arith}
+use Rattle.std.specs.List.{AllByRecursion, list_any, slice_get}
+use Rattle.std.specs.List.Sorted.{IsPermutation}
+use Rattle.std.proofs.lemmas.Bool.{cases_Bool, cases_lt, ne_eqb}
+use Rattle.std.proofs.lemmas.List.Elements.{All-from_recursion, recursion_from_All, filter-append}
+use Rattle.std.proofs.lemmas.List.Sorted.{All-permutation, length_permutation}
+use Rattle.std.proofs.lemmas.List.Sums.{fold-append}
+use Rattle.kube_meta.specs.declared.resources.Resource.TheVariants.{Pods}
+use Rattle.kube_meta.specs.Rows.{RowData, row_with, AreRising}
+use Rattle.rev_front.specs.Passes.{FitFrom}
+use Rattle.rev_log.specs.Changes.{ChangeData, RevisionData}
+use Rattle.rev_log.specs.Logs.{Log, grown, end_of}
+use Rattle.rev_log.specs.States.{row_next, row_at, row_in_base, IsStateAt}
+use Rattle.rev_log.proofs.GrowthLemmas.{upto-end}
+use Rattle.mirror_log.specs.Bridges.{younger, written_at, gone, IsKept, AreKept, MayBeOfOneLog, Bridges}
+use Rattle.mirror_log.specs.Slots.{of_rev, Hold, puts, IsRemoval, Remove, AreMadeOf}
+use Rattle.mirror_log.proofs.BridgeLemmas.{each, both_parts, removed_missing, aim_puts, aim_removed, unchanged, put_bounds, some_within}
+use Rattle.mirror_log.proofs.CountLemmas.{few, count_puts}
+use Rattle.mirror_log.proofs.OutcomeLemmas.{is_of, Aims, IsMade, first, rest, stays, reached}
+use Rattle.mirror_log.proofs.SlotLemmas.{count_removed}
+use Rattle.mirror_log.proofs.StandLemmas.{stand}
+
+-- ---- places
+
+inside_of : {X : Type 0} (xs : List X) (i : ℕ) (x : X) → slice_get xs i ≡ Some x → i < length xs
+inside_of {X} [] i x at = absurd (nothing at)
+  where
+    nothing : ◌≡◌ {A = Option X} None (Some x) → ⊥
+    nothing e = cc
+inside_of (y ∷ xs) zero x at = omega arith
+inside_of (y ∷ xs) (suc i) x at = omega (arith, inside_of xs i x at)
+
+one_at : {X : Type 0} (xs : List X) (i : ℕ) → i < length xs → (x : X) × (slice_get xs i ≡ Some x)
+one_at [] i inside = absurd (omega (arith, inside))
+one_at (x ∷ xs) zero inside = (x, refl)
+one_at (x ∷ xs) (suc i) inside = one_at xs i (omega (arith, inside))
+
+-- ---- made of what was given
+
+made_fit : (from : ℕ) (slots : List (List ChangeData)) (given : List ChangeData) (revisions : List RevisionData) → Hold from slots given → AreMadeOf from slots revisions → FitFrom (IsMade given) from revisions
+made_fit from slots given revisions hold made i r at =
+    let e = made.each i r at in
+    let inside : i < length slots = omega (arith, inside_of revisions i r at, made.long) in
+    record { number = e.0; is = e.1; changes = subst (λ (s : List ChangeData). IsPermutation s r.changes) (hold i inside) e.2 }
+
+of_pods : (at : ℕ) (given : List ChangeData) → AllByRecursion (λ c. c.resource ≡ Pods) given → AllByRecursion (λ c. c.resource ≡ Pods) (of_rev at given)
+of_pods at [] pods = tt
+of_pods at (c ∷ given) pods = elim (cases_Bool (eqb c.rev at)) [
+  | inl is ↦ rw is (pods.0, of_pods at given pods.1)
+  | inr isnt ↦ rw isnt (of_pods at given pods.1)
+]
+
+all_pods : (from : ℕ) (given : List ChangeData) (revisions : List RevisionData) → AllByRecursion (λ c. c.resource ≡ Pods) given → FitFrom (IsMade given) from revisions
+    → AllByRecursion (λ r. All (λ c. c.resource ≡ Pods) r.changes) revisions
+all_pods from given [] pods fit = tt
+all_pods from given (r ∷ revisions) pods fit =
+    let made = first given from r revisions fit in (
+      All-permutation (λ c. c.resource ≡ Pods) (of_rev (from + 1) given) r.changes made.changes (All-from_recursion (λ c. c.resource ≡ Pods) (of_rev (from + 1) given) (of_pods (from + 1) given pods)),
+      all_pods (from + 1) given revisions pods (rest given from r revisions fit),
+    )
+
+few_each : (from : ℕ) (given : List ChangeData) (revisions : List RevisionData) → FitFrom (IsMade given) from revisions → (i : ℕ) → i < length revisions → length (of_rev (from + 1 + i) given) ≤ 64
+few_each from given revisions fit i inside =
+    let there = one_at revisions i inside in
+    let made = fit i there.0 there.1 in
+    omega (arith, length_permutation (of_rev (from + 1 + i) given) there.0.changes made.changes, made.is.few)
+
+-- ---- the row at a key, at the end of the grown log
+
+grown_row : (log : Log) (revisions : List RevisionData) (from to : ℕ) (key : List ℕ) → end_of log ≡ from → from + length revisions ≡ to → row_at (grown log revisions) Pods to key ≡ fold (row_next Pods key) (row_at log Pods from key) revisions
+grown_row log revisions from to key end long =
+    let longer : length (log.revisions ++ revisions) ≡ length log.revisions + length revisions = length-append log.revisions revisions in
+    ap (fold (row_next Pods key) (row_in_base log.base Pods key)) (upto-end (grown log revisions) to (omega (arith, longer, end, long)))
+    ∙ fold-append (row_next Pods key) (row_in_base log.base Pods key) log.revisions revisions
+    ∙ ap (λ (l : List RevisionData). fold (row_next Pods key) (fold (row_next Pods key) (row_in_base log.base Pods key) l) revisions) (sym (upto-end log from (omega (arith, end))))
+
+-- ---- the whole
+
+none_written : (to rev : ℕ) (rows : List RowData) → AllByRecursion (λ row. row.rev ≤ to) rows → to < rev → written_at rev rows ≡ []
+none_written to rev [] within above = refl
+none_written to rev (x ∷ rows) within above =
+    let isnt : eqb x.rev rev ≡ false = ne_eqb x.rev rev (λ e. absurd (omega (arith, e, within.0, above))) in
+    rw isnt (none_written to rev rows within.1 above)
+
+length-puts : (from : ℕ) (rows : List RowData) → length (puts from rows) ≡ length (younger from rows)
+length-puts from [] = refl
+length-puts from (x ∷ rows) = elim (cases_Bool (ltb from x.rev)) [
+  | inl young ↦ rw young (ap suc (length-puts from rows))
+  | inr old ↦ rw old (length-puts from rows)
+]
+
+module _ (from : ℕ) (old : List RowData) (to : ℕ) (rows : List RowData) (slots : List (List ChangeData)) (revisions : List RevisionData)
+    (up : AreRising rows) (kept : AreKept from old rows) (within : All (λ row. row.rev ≤ to) rows)
+    (removes : Remove from (puts from rows) (gone old rows) slots) (long : from + length slots ≡ to) (made : AreMadeOf from slots revisions) where
+  fit : FitFrom (IsMade (puts from rows ++ removes.removed)) from revisions
+  fit = made_fit from slots (puts from rows ++ removes.removed) revisions removes.hold made
+
+  ends : from + length revisions ≡ to
+  ends = omega (arith, long, made.long)
+
+  missing : AllByRecursion (λ c. row_with rows c.key ≡ None) removes.removed
+  missing = removed_missing old rows removes.removed removes.keys
+
+  removals : AllByRecursion (IsRemoval from (length slots)) removes.removed
+  removals = recursion_from_All (IsRemoval from (length slots)) removes.removed removes.removals
+
+  aims : (key : List ℕ) → AllByRecursion (Aims key (row_with rows key)) (puts from rows ++ removes.removed)
+  aims key = both_parts (Aims key (row_with rows key)) (puts from rows) removes.removed (aim_puts key rows from rows (stand rows up)) (aim_removed key rows from (length slots) removes.removed removals missing)
+
+  bounds : AllByRecursion (λ c. (from < c.rev) × (c.rev ≤ from + length revisions)) (puts from rows ++ removes.removed)
+  bounds = both_parts (λ c. (from < c.rev) × (c.rev ≤ from + length revisions)) (puts from rows) removes.removed
+      (subst (λ n. AllByRecursion (λ c. (from < c.rev) × (c.rev ≤ n)) (puts from rows)) (sym ends) (put_bounds from to rows (recursion_from_All (λ row. row.rev ≤ to) rows within)))
+      (each (IsRemoval from (length slots)) (λ c. (from < c.rev) × (c.rev ≤ from + length revisions)) (λ c is. (is.above, omega (arith, is.within, made.long))) removes.removed removals)
+
+  outcome : (key : List ℕ) → fold (row_next Pods key) (row_with old key) revisions ≡ row_with rows key
+  outcome key = elim (cases_Bool (list_any (is_of key) (puts from rows ++ removes.removed))) [
+    | inl some ↦
+        reached key (row_with rows key) (puts from rows ++ removes.removed) (aims key) from (row_with old key) revisions fit
+        (some_within key from (from + length revisions) (puts from rows ++ removes.removed) bounds some)
+    | inr lacks ↦
+        stays key (row_with rows key) (puts from rows ++ removes.removed) (aims key) from (row_with old key) revisions fit lacks
+        ∙ unchanged from old rows removes.removed key (recursion_from_All (λ x. x.rev ≤ from → IsKept old x) rows kept) removes.keys lacks
+  ]
+
+  leads : (log : Log) → end_of log ≡ from → IsStateAt log Pods from old → IsStateAt (grown log revisions) Pods to rows
+  leads log end state = record {
+    rising = up;
+    exact = λ key. sym (grown_row log revisions from to key end ends ∙ ap (λ (o : Option RowData). fold (row_next Pods key) o revisions) (sym (state.exact key)) ∙ outcome key);
+  }
+
+  pub bridges : Bridges from old to rows revisions
+  bridges = record {
+    fits = λ i r at. (let e = made.each i r at in (e.0, e.1));
+    long = ends;
+    pods = All-from_recursion (λ r. All (λ c. c.resource ≡ Pods) r.changes) revisions
+        (all_pods from (puts from rows ++ removes.removed) revisions (each (Aims [] (row_with rows [])) (λ c. c.resource ≡ Pods) (λ c is. is.pod) (puts from rows ++ removes.removed) (aims [])) fit);
+    leads = leads;
+  }
+
+  few_written : (rev : ℕ) → from < rev → length (written_at rev rows) ≤ 64
+  few_written rev above = elim (cases_lt to rev) [
+    | inl past ↦ omega (arith, ap length (none_written to rev rows (recursion_from_All (λ row. row.rev ≤ to) rows within) past))
+    | inr upto ↦
+        let number : from + 1 + (rev - from - 1) ≡ rev = omega (arith, above) in
+        let here : length (of_rev rev (puts from rows ++ removes.removed)) ≤ 64 =
+        subst (λ n. length (of_rev n (puts from rows ++ removes.removed)) ≤ 64) number
+        (few_each from (puts from rows ++ removes.removed) revisions fit (rev - from - 1) (omega (arith, above, upto, ends))) in
+        let split : length (of_rev rev (puts from rows ++ removes.removed)) ≡ length (of_rev rev (puts from rows)) + length (of_rev rev removes.removed) =
+        ap length (filter-append (λ c. eqb c.rev rev) (puts from rows) removes.removed) ∙ length-append (of_rev rev (puts from rows)) (of_rev rev removes.removed) in
+        omega (arith, here, split, count_puts from rev rows above)
+  ]
+
+  has_room : length (younger from rows) + length (gone old rows) ≤ 64 * (to - from)
+  has_room =
+      let count : length (puts from rows ++ removes.removed) ≡ length (puts from rows) + length removes.removed = length-append (puts from rows) removes.removed in
+      let most : length (puts from rows ++ removes.removed) ≤ 64 * length revisions =
+      few from (length revisions) (puts from rows ++ removes.removed) (few_each from (puts from rows ++ removes.removed) revisions fit)
+      (each (λ c. (from < c.rev) × (c.rev ≤ from + length revisions)) (λ c. from < c.rev) (λ c b. b.0) (puts from rows ++ removes.removed) bounds)
+      (each (λ c. (from < c.rev) × (c.rev ≤ from + length revisions)) (λ c. c.rev ≤ from + length revisions) (λ c b. b.1) (puts from rows ++ removes.removed) bounds) in
+      let size : length revisions ≡ to - from = omega (arith, ends) in
+      omega (arith, count, most, size, length-puts from rows, count_removed removes.removed (gone old rows) removes.keys)
+
+  pub one_log : MayBeOfOneLog from old to rows
+  one_log = record { kept = kept; few = few_written; room = has_room }

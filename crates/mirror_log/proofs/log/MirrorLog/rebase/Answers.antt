@@ -1,0 +1,26 @@
+use Rattle.std.proofs.Common.{ℕ, List, sym, subst}
+use Rattle.kube_meta.specs.Rows.{RowData}
+use Rattle.rev_front.specs.Passes.{FitFrom}
+use Rattle.rev_log.specs.Logs.{Log, Fits, end_of}
+use Rattle.mirror_log.specs.Bridges.{Bridges}
+use Rattle.mirror_log.proofs.RebaseLemmas.{keys_stand, rebases}
+use Rattle.mirror_log.proofs.log.MirrorLog.rebase.Goals as goal
+
+pub commit_all-requires-clause-fits : goal.commit_all-requires-clause-fits
+commit_all-requires-clause-fits g c =
+    let fits = subst (λ (n : ℕ). FitFrom Fits n c.in_ok-revisions.revisions.items) c.to-to.ensures.answer c.in_ok-revisions.ensures.bridges.fits in
+    subst (λ (l : Log). FitFrom Fits (end_of l) c.in_ok-revisions.revisions.items) (sym c.in_ok-old.ensures.rests.log) fits
+
+pub commit_all-requires-clause-keys : goal.commit_all-requires-clause-keys
+commit_all-requires-clause-keys g c =
+    let from = subst (λ (n : ℕ). Bridges n c.deref.result.now c.args.base c.args.rows.now c.in_ok-revisions.revisions.items) c.to-to.ensures.answer c.in_ok-revisions.ensures.bridges in
+    let bridges = subst (λ (l : List RowData). Bridges (end_of c.args.self.now.log) l c.args.base c.args.rows.now c.in_ok-revisions.revisions.items) c.deref.ensures.value from in
+    keys_stand c.args.self.now c.rows_at_end.new.self c.rows_at_end.new.self c.args.rows.now c.args.base c.in_ok-old.ensures.rests c.in_ok-old.old.items c.in_ok-revisions.revisions.items c.in_ok-keys.keys
+    c.in_ok-old.ensures.rows bridges c.in_ok-keys.ensures
+
+pub returns-clause-rebases : goal.returns-clause-rebases
+returns-clause-rebases g c =
+    let from = subst (λ (n : ℕ). Bridges n c.deref.result.now c.args.base c.args.rows.now c.in_ok-revisions.revisions.items) c.to-to.ensures.answer c.in_ok-revisions.ensures.bridges in
+    let bridges = subst (λ (l : List RowData). Bridges (end_of c.args.self.now.log) l c.args.base c.args.rows.now c.in_ok-revisions.revisions.items) c.deref.ensures.value from in
+    rebases c.args.self.now c.rows_at_end.new.self c.commit_all.new.self c.args.rows.now c.args.base c.in_ok-old.ensures.rests c.in_ok-old.old.items c.in_ok-revisions.revisions.items c.commit_all.result
+    c.in_ok-old.ensures.rows bridges c.commit_all.ensures.commits

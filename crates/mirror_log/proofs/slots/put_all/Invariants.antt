@@ -1,0 +1,10 @@
+use Rattle.std.proofs.Common.{◌≡◌, length, take}
+use Rattle.mirror_log.specs.Slots.{Hold, puts}
+use Rattle.mirror_log.proofs.slots.put_all.Given as goal
+
+-- the rows so far are put
+abbrev pub invariant-loop-row : goal.invariant-loop-row
+invariant-loop-row l = record {
+  long : length l.slots.items ≡ length l.fn.slots.items;
+  hold : Hold l.from l.slots.items (puts l.from (take l.row-index l.rows));
+}

@@ -1,0 +1,9 @@
+pub mod Intakes
+pub mod Faults
+pub mod Laws
+pub mod Bridges
+pub mod Slots
+pub mod Refusals
+pub mod MirrorLogs
+pub mod Kept
+pub mod Rebasing

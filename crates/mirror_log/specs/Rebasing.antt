@@ -1,0 +1,89 @@
+-- What becomes of a mirror's log where it is to begin anew.
+use Rattle.std.specs.Prelude.{◌≡◌, ℕ, ◌+◌, ◌<◌, ◌⊎◌, List, [], Result, Ok, Err}
+use Rattle.kube_meta.specs.Rows.{RowData}
+use Rattle.kube_meta.specs.declared.resources.Resource.TheVariants.{Pods}
+use Rattle.rev_log.specs.Changes.{RevisionData}
+use Rattle.rev_log.specs.Logs.{end_of, grown}
+use Rattle.rev_log.specs.States.{IsStateAt}
+use Rattle.up_api.specs.declared.refusals.UpNo.{UpNo}
+use Rattle.up_api.specs.declared.refusals.UpNo.TheVariants as up
+use Rattle.up_store.specs.declared.hearing.HearNo.{HearNo}
+use Rattle.up_store.specs.declared.hearing.HearNo.TheVariants as hear
+use Rattle.mirror_log.specs.declared.bridge_refusal.BridgeNo.{BridgeNo}
+use Rattle.mirror_log.specs.declared.bridge_refusal.BridgeNo.TheVariants as between
+use Rattle.mirror_log.specs.Bridges.{MayBeOfOneLog}
+use Rattle.mirror_log.specs.declared.refusal.RebaseNo.{RebaseNo}
+use Rattle.mirror_log.specs.declared.refusal.RebaseNo.TheVariants.{Behind, OtherLog, TooFar, Passed, Memory}
+use Rattle.mirror_log.specs.MirrorLogs.{MirrorLogData, Rests, seen_to}
+
+-- It began anew from rows that stand at a later revision: the log, grown up to there, has them, what is below is no longer
+-- served, and nothing is kept.
+pub record IsRebased (old : MirrorLogData) (rows : List RowData) (base : ℕ) (new : MirrorLogData) : Type 0 where
+  pub selection : new.selection ≡ old.selection
+  pub kept : new.kept ≡ []
+  pub more : List RevisionData
+  pub log : new.log ≡ grown old.log more
+  pub end : end_of new.log ≡ base
+  pub state : IsStateAt new.log Pods base rows
+  pub floor : new.told.floor ≡ base
+
+-- the pods at the log's end, and these rows, can't be of one log
+pub record IsOfOtherLog (old : MirrorLogData) (rows : List RowData) (base : ℕ) : Type 0 where
+  pub state : List RowData
+  pub is_state : IsStateAt old.log Pods (end_of old.log) state
+  pub other : ¬ MayBeOfOneLog (end_of old.log) state base rows
+
+-- the store has passed the log's end: it has reached this revision, or its floor is there, as the pass knows now
+abbrev pub IsPassed : MirrorLogData → ℕ → MirrorLogData → Type 0
+IsPassed old at new = (end_of old.log < at) × ((at ≡ seen_to new) ⊎ (at ≡ new.told.floor))
+
+-- what is answered, and what becomes of the log: where it doesn't begin anew, it stays
+abbrev pub Rebases : MirrorLogData → List RowData → ℕ → Result ℕ RebaseNo → MirrorLogData → Type 0
+Rebases old rows base (Ok to) new = IsRebased old rows base new × (to ≡ base)
+Rebases old rows base (Err (Behind to)) new = Rests old new × (to ≡ end_of old.log) × (base < to)
+Rebases old rows base (Err OtherLog) new = Rests old new × IsOfOtherLog old rows base
+Rebases old rows base (Err TooFar) new = Rests old new × (end_of old.log + 4000000 < base)
+Rebases old rows base (Err (Passed at)) new = Rests old new × IsPassed old at new
+Rebases old rows base (Err Memory) new = Rests old new
+
+-- ---- its steps
+
+-- why the store refused one of them
+abbrev pub IsStoreRefusal : MirrorLogData → RebaseNo → MirrorLogData → Type 0
+IsStoreRefusal old (Behind to) new = ⊥
+IsStoreRefusal old OtherLog new = ⊥
+IsStoreRefusal old TooFar new = ⊥
+IsStoreRefusal old (Passed at) new = IsPassed old at new
+IsStoreRefusal old Memory new = Unit {0}
+
+-- revisions were added, up to a revision that is the floor now, and nothing is kept
+pub record HasAdded (old : MirrorLogData) (revisions : List RevisionData) (to : ℕ) (new : MirrorLogData) : Type 0 where
+  pub selection : new.selection ≡ old.selection
+  pub kept : new.kept ≡ []
+  pub log : new.log ≡ grown old.log revisions
+  pub end : to ≡ end_of new.log
+  pub floor : new.told.floor ≡ to
+
+abbrev pub CommitsAll : MirrorLogData → List RevisionData → Result ℕ RebaseNo → MirrorLogData → Type 0
+CommitsAll old revisions (Ok to) new = HasAdded old revisions to new
+CommitsAll old revisions (Err why) new = Rests old new × IsStoreRefusal old why new
+
+-- ---- refusals
+
+-- the store's, of revisions
+abbrev pub add_refusal : HearNo → RebaseNo
+add_refusal (hear.Passed at) = Passed at
+add_refusal hear.Memory = Memory
+
+-- and of a state
+abbrev pub read_refusal : UpNo → RebaseNo
+read_refusal (up.Compacted asked floor) = Passed floor
+read_refusal (up.Future asked current) = Passed current
+read_refusal (up.Cut opened now) = Passed now
+read_refusal up.Memory = Memory
+
+-- there are no revisions between
+abbrev pub bridge_refusal : BridgeNo → RebaseNo
+bridge_refusal between.OtherLog = OtherLog
+bridge_refusal between.TooFar = TooFar
+bridge_refusal between.Memory = Memory

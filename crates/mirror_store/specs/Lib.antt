@@ -1,3 +1,0 @@
-pub mod MirrorLogs
-pub mod Kept
-pub mod Rebasing
