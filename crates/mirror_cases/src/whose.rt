@@ -6,7 +6,7 @@ ghost use Rattle.kube_meta.specs.Names.{IsNamespace};
 use case_rows::{Wording, plain, split, tell_row};
 use edge_io::{MemSink, MemSource};
 use kube_meta::{Memory, Resource, Row, Text, is_namespace};
-use mirror_opening::{LinkNo, Opening};
+use mirror_link::{LinkNo, Opening};
 use select_all::Selection;
 use std::alloc::Global;
 

@@ -12,9 +12,9 @@ use Rattle.mirror_law.proofs.FollowLemmas.{followings_begin}
 use Rattle.mirror_link.specs.Beginning.{Begins, resume_request}
 use Rattle.mirror_link.specs.Peers.{IsPeer, IsAskOf}
 use Rattle.mirror_link.specs.Views.{MirrorData}
-use Rattle.mirror_opening.specs.Openings.{OpeningData, IsOpeningOf, opened_lines}
-use Rattle.mirror_opening.specs.Refusals.{reading_refusal}
-use Rattle.mirror_opening.specs.declared.refusal.LinkNo.{LinkNo}
+use Rattle.mirror_link.specs.Openings.{OpeningData, IsOpeningOf, opened_lines}
+use Rattle.mirror_link.specs.OpeningRefusals.{reading_refusal}
+use Rattle.mirror_link.specs.declared.link_refusal.LinkNo.{LinkNo}
 use Rattle.rev_log.specs.Logs.{Log, end_of}
 use Rattle.select_all.specs.declared.selection.Selection.{Selection}
 use Rattle.select_all.specs.Streams.{TransitionData}

@@ -12,11 +12,11 @@ use Rattle.mirror_link.specs.declared.heard.Heard.{Heard}
 use Rattle.mirror_link.specs.declared.heard.Heard.TheVariants as heard
 use Rattle.mirror_link.proofs.HearLemmas.{hears_text, of_line}
 use Rattle.mirror_link.proofs.LineLemmas.{stays}
-use Rattle.mirror_opening.proofs.AnswerLemmas.{quiet}
-use Rattle.mirror_opening.specs.Asking.{CountsReads}
-use Rattle.mirror_opening.specs.Refusals.{reading_refusal}
-use Rattle.mirror_opening.specs.declared.refusal.LinkNo.{LinkNo}
-use Rattle.mirror_opening.specs.declared.refusal.LinkNo.TheVariants as no
+use Rattle.mirror_link.proofs.AnswerLemmas.{quiet}
+use Rattle.mirror_link.specs.Asking.{CountsReads}
+use Rattle.mirror_link.specs.OpeningRefusals.{reading_refusal}
+use Rattle.mirror_link.specs.declared.link_refusal.LinkNo.{LinkNo}
+use Rattle.mirror_link.specs.declared.link_refusal.LinkNo.TheVariants as no
 use Rattle.mirror_log.specs.MirrorLogs.{MirrorLogData}
 use Rattle.watch_lines.specs.Laws.{LinesReadBack}
 

@@ -15,8 +15,8 @@ use Rattle.mirror_link.specs.Views.{MirrorData, IsMirror, log_part}
 use Rattle.mirror_link.specs.declared.heard.Heard.{Heard}
 use Rattle.mirror_link.specs.declared.heard.Heard.TheVariants as heard
 use Rattle.mirror_link.proofs.FollowLemmas.{Hears as Premises, event_follows, event_mirrors, mark_follows, mark_mirrors}
-use Rattle.mirror_opening.specs.declared.refusal.LinkNo.{LinkNo}
-use Rattle.mirror_opening.specs.declared.refusal.LinkNo.TheVariants as no
+use Rattle.mirror_link.specs.declared.link_refusal.LinkNo.{LinkNo}
+use Rattle.mirror_link.specs.declared.link_refusal.LinkNo.TheVariants as no
 use Rattle.mirror_log.specs.MirrorLogs.{MirrorLogData, Takes, TakesSome}
 use Rattle.rev_log.specs.Logs.{Log, end_of, grown}
 use Rattle.select_all.specs.declared.selection.Selection.{Selection}

@@ -1,3 +1,6 @@
+pub mod AnswerLemmas
+pub mod RowLemmas
+pub mod StepLemmas
 pub mod FollowLemmas
 pub mod HearLemmas
 pub mod LineLemmas

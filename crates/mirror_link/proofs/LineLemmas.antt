@@ -10,8 +10,8 @@ use Rattle.mirror_link.specs.Lines.{HearsRead, HearsText, IsBounded, TakesRead, 
 use Rattle.mirror_link.specs.Refusals.{taking_refusal, hearing_refusal}
 use Rattle.mirror_link.specs.declared.heard.Heard.{Heard}
 use Rattle.mirror_link.specs.declared.heard.Heard.TheVariants as heard
-use Rattle.mirror_opening.specs.declared.refusal.LinkNo.{LinkNo}
-use Rattle.mirror_opening.specs.declared.refusal.LinkNo.TheVariants as no
+use Rattle.mirror_link.specs.declared.link_refusal.LinkNo.{LinkNo}
+use Rattle.mirror_link.specs.declared.link_refusal.LinkNo.TheVariants as no
 use Rattle.mirror_log.specs.MirrorLogs.{MirrorLogData, Hears}
 use Rattle.mirror_log.specs.declared.refusal.MirrorNo.{MirrorNo}
 use Rattle.mirror_log.specs.declared.refusal.MirrorNo.TheVariants as mirror

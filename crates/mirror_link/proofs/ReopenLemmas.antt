@@ -13,12 +13,12 @@ use Rattle.mirror_link.specs.Views.{MirrorData, IsMirror}
 use Rattle.mirror_link.specs.declared.heard.Heard.{Heard}
 use Rattle.mirror_link.proofs.CallLemmas.{view}
 use Rattle.mirror_link.proofs.HearLemmas.{follows_as}
-use Rattle.mirror_opening.proofs.AnswerLemmas.{asked}
-use Rattle.mirror_opening.specs.Asking.{IsAsked}
-use Rattle.mirror_opening.specs.Openings.{OpeningData, opened_lines}
-use Rattle.mirror_opening.specs.Reading.{HasNoOpening}
-use Rattle.mirror_opening.specs.declared.refusal.LinkNo.{LinkNo}
-use Rattle.mirror_opening.specs.declared.refusal.LinkNo.TheVariants.{WriteFault}
+use Rattle.mirror_link.proofs.AnswerLemmas.{asked}
+use Rattle.mirror_link.specs.Asking.{IsAsked}
+use Rattle.mirror_link.specs.Openings.{OpeningData, opened_lines}
+use Rattle.mirror_link.specs.Reading.{HasNoOpening}
+use Rattle.mirror_link.specs.declared.link_refusal.LinkNo.{LinkNo}
+use Rattle.mirror_link.specs.declared.link_refusal.LinkNo.TheVariants.{WriteFault}
 use Rattle.mirror_log.specs.MirrorLogs.{MirrorLogData, Rests}
 use Rattle.mirror_log.specs.Rebasing.{IsRebased, Rebases}
 use Rattle.mirror_log.specs.declared.refusal.RebaseNo.{RebaseNo}

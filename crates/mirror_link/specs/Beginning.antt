@@ -6,10 +6,10 @@ use Rattle.line_stream.specs.Heads.{BeginsChunks, RefusesResponse, at_body}
 use Rattle.line_stream.specs.Readers.{ReaderData}
 use Rattle.line_stream.specs.declared.refusal.LineNo.{LineNo}
 use Rattle.mirror_law.specs.Mirrors.{opened_log}
-use Rattle.mirror_opening.specs.Openings.{OpeningData}
-use Rattle.mirror_opening.specs.Refusals.{reading_refusal}
-use Rattle.mirror_opening.specs.declared.refusal.LinkNo.{LinkNo}
-use Rattle.mirror_opening.specs.declared.refusal.LinkNo.TheVariants.{WriteFault, Memory}
+use Rattle.mirror_link.specs.Openings.{OpeningData}
+use Rattle.mirror_link.specs.OpeningRefusals.{reading_refusal}
+use Rattle.mirror_link.specs.declared.link_refusal.LinkNo.{LinkNo}
+use Rattle.mirror_link.specs.declared.link_refusal.LinkNo.TheVariants.{WriteFault, Memory}
 use Rattle.rev_log.specs.Logs.{end_of}
 use Rattle.mirror_link.specs.Views.{MirrorData}
 

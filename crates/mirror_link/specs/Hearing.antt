@@ -16,14 +16,14 @@ use Rattle.watch_lines.specs.declared.peer_line.PeerLine.{PeerLine}
 use Rattle.mirror_law.specs.Mirrors.{IsMirrorOf}
 use Rattle.mirror_law.specs.Following.{Follows}
 use Rattle.mirror_log.specs.MirrorLogs.{Takes, TakesSome, seen_to}
-use Rattle.mirror_opening.specs.Refusals.{reading_refusal}
+use Rattle.mirror_link.specs.OpeningRefusals.{reading_refusal}
 use Rattle.mirror_link.specs.Peers.{IsPeer, IsAskOf}
 use Rattle.mirror_link.specs.Lines.{line_fault}
 use Rattle.mirror_link.specs.Views.{MirrorData, log_part}
 use Rattle.mirror_link.specs.declared.heard.Heard.{Heard}
 use Rattle.mirror_link.specs.declared.heard.Heard.TheVariants as heard
-use Rattle.mirror_opening.specs.declared.refusal.LinkNo.{LinkNo}
-use Rattle.mirror_opening.specs.declared.refusal.LinkNo.TheVariants as no
+use Rattle.mirror_link.specs.declared.link_refusal.LinkNo.{LinkNo}
+use Rattle.mirror_link.specs.declared.link_refusal.LinkNo.TheVariants as no
 
 -- the mirror follows a peer's lines
 abbrev pub FollowsIn : Log → ℕ → ℕ → List Line → MirrorData → Type 0

@@ -12,8 +12,8 @@ use Rattle.mirror_link.specs.Hearing.{FollowsIn}
 use Rattle.mirror_link.specs.Lines.{line_fault}
 use Rattle.mirror_link.specs.Peers.{IsPeer, IsAskOf}
 use Rattle.mirror_link.specs.Views.{MirrorData, IsMirror, log_part}
-use Rattle.mirror_opening.specs.declared.refusal.LinkNo.{LinkNo}
-use Rattle.mirror_opening.specs.declared.refusal.LinkNo.TheVariants as no
+use Rattle.mirror_link.specs.declared.link_refusal.LinkNo.{LinkNo}
+use Rattle.mirror_link.specs.declared.link_refusal.LinkNo.TheVariants as no
 
 -- nothing is wrong with a line, unless it is too far behind the last
 abbrev pub IsAtMostGap : Option LinkNo → Type 0

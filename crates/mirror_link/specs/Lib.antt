@@ -1,3 +1,7 @@
+pub mod OpeningRefusals
+pub mod Openings
+pub mod Reading
+pub mod Asking
 pub mod Views
 pub mod Refusals
 pub mod Peers

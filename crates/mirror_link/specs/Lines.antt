@@ -8,8 +8,8 @@ use Rattle.watch_lines.specs.declared.peer_line.PeerLine.{PeerLine}
 use Rattle.watch_lines.specs.declared.peer_line.PeerLine.TheVariants as peer
 use Rattle.watch_rules.specs.Bodies.{Line}
 use Rattle.mirror_log.specs.Faults.{event_fault, mark_fault}
-use Rattle.mirror_opening.specs.declared.refusal.LinkNo.{LinkNo}
-use Rattle.mirror_opening.specs.declared.refusal.LinkNo.TheVariants as no
+use Rattle.mirror_link.specs.declared.link_refusal.LinkNo.{LinkNo}
+use Rattle.mirror_link.specs.declared.link_refusal.LinkNo.TheVariants as no
 use Rattle.mirror_log.specs.MirrorLogs.{MirrorLogData, Takes, TakesSome, seen_to}
 use Rattle.mirror_link.specs.Refusals.{taking_refusal}
 use Rattle.mirror_link.specs.declared.heard.Heard.{Heard}

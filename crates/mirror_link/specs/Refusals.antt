@@ -2,8 +2,8 @@
 use Rattle.std.specs.Prelude.{ℕ, Option, None, Some, Result, Ok, Err}
 use Rattle.mirror_log.specs.declared.take_refusal.TakeNo.{TakeNo}
 use Rattle.mirror_log.specs.declared.take_refusal.TakeNo.TheVariants as take
-use Rattle.mirror_opening.specs.declared.refusal.LinkNo.{LinkNo}
-use Rattle.mirror_opening.specs.declared.refusal.LinkNo.TheVariants.{BadLine, Order, Gap, OtherLog, Passed, Memory}
+use Rattle.mirror_link.specs.declared.link_refusal.LinkNo.{LinkNo}
+use Rattle.mirror_link.specs.declared.link_refusal.LinkNo.TheVariants.{BadLine, Order, Gap, OtherLog, Passed, Memory}
 use Rattle.mirror_log.specs.declared.refusal.MirrorNo.{MirrorNo}
 use Rattle.mirror_log.specs.declared.refusal.MirrorNo.TheVariants as mirror
 use Rattle.mirror_log.specs.declared.refusal.RebaseNo.{RebaseNo}

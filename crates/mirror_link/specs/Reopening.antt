@@ -10,9 +10,9 @@ use Rattle.watch_rules.specs.declared.ask.WatchAsk.{WatchAsk}
 use Rattle.watch_rules.specs.Bodies.{BeginsBody}
 use Rattle.mirror_log.specs.Rebasing.{Rebases}
 use Rattle.mirror_log.specs.declared.refusal.RebaseNo.{RebaseNo}
-use Rattle.mirror_opening.specs.Openings.{OpeningData, IsOpeningOf, opened_lines}
-use Rattle.mirror_opening.specs.Reading.{HasOpening, HasNoOpening}
-use Rattle.mirror_opening.specs.declared.refusal.LinkNo.{LinkNo}
+use Rattle.mirror_link.specs.Openings.{OpeningData, IsOpeningOf, opened_lines}
+use Rattle.mirror_link.specs.Reading.{HasOpening, HasNoOpening}
+use Rattle.mirror_link.specs.declared.link_refusal.LinkNo.{LinkNo}
 use Rattle.mirror_link.specs.Hearing.{FollowsIn}
 use Rattle.mirror_link.specs.Peers.{IsPeer, IsAskOf}
 use Rattle.mirror_link.specs.Refusals.{rebasing_refusal}

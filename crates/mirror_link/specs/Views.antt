@@ -9,7 +9,7 @@ use Rattle.rev_log.specs.Logs.{Log, grown}
 use Rattle.select_all.specs.Reading.{IsRead}
 use Rattle.select_all.specs.declared.selection.Selection.{Selection}
 use Rattle.select_all.specs.Streams.{TransitionData}
-use Rattle.mirror_opening.specs.declared.refusal.LinkNo.{LinkNo}
+use Rattle.mirror_link.specs.declared.link_refusal.LinkNo.{LinkNo}
 use Rattle.mirror_log.specs.MirrorLogs.{MirrorLogData}
 use Rattle.mirror_link.specs.declared.heard.Heard.{Heard}
 

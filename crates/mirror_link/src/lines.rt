@@ -6,10 +6,10 @@ ghost use Rattle.up_api.specs.Sections.{Learns};
 ghost use Rattle.mirror_link.specs.Lines.{HearsRead, HearsText, IsBounded};
 
 use crate::Heard;
+use crate::link_refusal::LinkNo;
 use crate::refusals::hearing_refusal;
 use kube_meta::{Obj, Resource};
 use mirror_log::MirrorLog;
-use mirror_opening::LinkNo;
 use select_all::Kind;
 use std::alloc::Global;
 use std::sync::Wait;

@@ -4,8 +4,8 @@ ghost use Rattle.std.specs.Prelude.{◌≡◌, Option, Result};
 ghost use Rattle.mirror_link.specs.Refusals as refusals;
 
 use crate::Heard;
+use crate::link_refusal::LinkNo;
 use mirror_log::{MirrorNo, RebaseNo, TakeNo};
-use mirror_opening::LinkNo;
 
 // Why a line isn't taken.
 fn taking_refusal(why: TakeNo) -> LinkNo

@@ -3,7 +3,7 @@ use Rattle.std.proofs.Common.{◌≡◌, ℕ, List, [], ◌∷◌, ◌++◌, Som
 use Rattle.kube_meta.specs.Rows.{RowData}
 use Rattle.kube_meta.specs.declared.resources.Resource.TheVariants.{Pods}
 use Rattle.select_all.specs.declared.selection.Kind.TheVariants.{Added}
-use Rattle.mirror_opening.specs.Reading.{AreTexts, most_opening}
+use Rattle.mirror_link.specs.Reading.{AreTexts, most_opening}
 use Rattle.line_stream.specs.Streams.{ReadingsAgree}
 use Rattle.watch_lines.specs.Laws.{LinesAreOne, as_read}
 use Rattle.watch_lines.specs.Lines.{IsPeerLine}

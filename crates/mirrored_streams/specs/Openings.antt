@@ -1,7 +1,7 @@
 -- Openings, as bytes determine them.
 use Rattle.std.specs.Prelude.{◌≡◌, ℕ, List, ◌++◌}
-use Rattle.mirror_opening.specs.Openings.{OpeningData}
-use Rattle.mirror_opening.specs.Reading.{HasOpening}
+use Rattle.mirror_link.specs.Openings.{OpeningData}
+use Rattle.mirror_link.specs.Reading.{HasOpening}
 
 -- bytes have one opening at most, by its rows and their base, and bytes that follow don't change it
 abbrev pub OpeningsAreOne : Type 0

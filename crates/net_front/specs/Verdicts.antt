@@ -1,7 +1,7 @@
 -- What a mirror does about its peer.
 use Rattle.std.specs.Prelude.{◌==◌, Option, Some, None, if◌then◌else◌}
-use Rattle.mirror_opening.specs.declared.refusal.LinkNo.{LinkNo}
-use Rattle.mirror_opening.specs.declared.refusal.LinkNo.TheVariants.{BadHead, BadChunk, BadLine, Order, Gap, Refused, Told, CutShort, ReadFault, WriteFault, TooLong, OtherLog, Passed, Memory}
+use Rattle.mirror_link.specs.declared.link_refusal.LinkNo.{LinkNo}
+use Rattle.mirror_link.specs.declared.link_refusal.LinkNo.TheVariants.{BadHead, BadChunk, BadLine, Order, Gap, Refused, Told, CutShort, ReadFault, WriteFault, TooLong, OtherLog, Passed, Memory}
 use Rattle.net_front.specs.declared.verdicts.Next.{Next}
 use Rattle.net_front.specs.declared.verdicts.Next.TheVariants.{Again, Anew, End}
 use Rattle.net_front.specs.declared.verdicts.Stop.{Stop}

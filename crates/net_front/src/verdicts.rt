@@ -1,12 +1,12 @@
 //! What a mirror does about its peer.
 
 ghost use Rattle.std.specs.Prelude.{◌≡◌};
-ghost use Rattle.mirror_opening.specs.declared.refusal.LinkNo.TheVariants as no;
+ghost use Rattle.mirror_link.specs.declared.link_refusal.LinkNo.TheVariants as no;
 ghost use Rattle.net_front.specs.Verdicts.{line_next, opening_next, standing_next, next_by, next_after};
 
 use crate::end::AtEnd;
 use crate::standing::Standing;
-use mirror_opening::LinkNo;
+use mirror_link::LinkNo;
 
 /// What a mirror does next about its peer.
 #[derive(Clone, Copy, Debug)]

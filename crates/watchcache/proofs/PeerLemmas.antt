@@ -4,10 +4,10 @@ use Rattle.std.specs.Prelude.{Result, IfErr}
 use Rattle.command_line.specs.declared.asked.ServeOptions.{ServeOptions}
 use Rattle.edge_io.specs.Counts.{Rose}
 use Rattle.edge_io.specs.Sent.{Sent}
-use Rattle.mirror_opening.specs.Asking.{IsAsked}
-use Rattle.mirror_opening.specs.Openings.{OpeningData}
-use Rattle.mirror_opening.specs.declared.refusal.LinkNo.{LinkNo}
-use Rattle.mirror_opening.specs.declared.refusal.LinkNo.TheVariants.{WriteFault}
+use Rattle.mirror_link.specs.Asking.{IsAsked}
+use Rattle.mirror_link.specs.Openings.{OpeningData}
+use Rattle.mirror_link.specs.declared.link_refusal.LinkNo.{LinkNo}
+use Rattle.mirror_link.specs.declared.link_refusal.LinkNo.TheVariants.{WriteFault}
 use Rattle.watchcache.specs.Run.{RunsMirror, RunsServer, SendsNone, SendsOpening}
 
 -- what holds of all that a source has left holds of what its peer sends, where that is told

@@ -19,10 +19,10 @@ use Rattle.load_gen.specs.Figures.{figure_lines}
 use Rattle.load_gen.specs.Loads.{IsLoad}
 use Rattle.sess_serve.specs.NewLogs.{new_pass, terms}
 use Rattle.load_gen.specs.declared.figures.Figures.{Figures}
-use Rattle.mirror_opening.specs.Openings.{OpeningData, IsOpeningOf}
-use Rattle.mirror_opening.specs.Reading.{HasOpening, HasNoOpening}
-use Rattle.mirror_opening.specs.declared.refusal.LinkNo.{LinkNo}
-use Rattle.mirror_opening.specs.declared.refusal.LinkNo.TheVariants.{ReadFault, WriteFault, Memory as NoMemory}
+use Rattle.mirror_link.specs.Openings.{OpeningData, IsOpeningOf}
+use Rattle.mirror_link.specs.Reading.{HasOpening, HasNoOpening}
+use Rattle.mirror_link.specs.declared.link_refusal.LinkNo.{LinkNo}
+use Rattle.mirror_link.specs.declared.link_refusal.LinkNo.TheVariants.{ReadFault, WriteFault, Memory as NoMemory}
 use Rattle.net_front.specs.Ends.{most_connections}
 use Rattle.rev_front.specs.Passes.{Pass}
 use Rattle.rev_log.specs.Changes.{RevisionData}

@@ -3,8 +3,8 @@ use Rattle.std.specs.Prelude.{ℕ, List, [], ◌∷◌, ◌++◌, Result, Ok, Er
 use Rattle.std.specs.List.{concat}
 use Rattle.body_check.specs.declared.judging.Checked.{Checked}
 use Rattle.body_check.specs.declared.judging.Checked.TheVariants.{Lawful, Unlawful}
-use Rattle.mirror_opening.specs.Refusals.{refusal_name as link_name}
-use Rattle.mirror_opening.specs.declared.refusal.LinkNo.{LinkNo}
+use Rattle.mirror_link.specs.OpeningRefusals.{refusal_name as link_name}
+use Rattle.mirror_link.specs.declared.link_refusal.LinkNo.{LinkNo}
 use Rattle.watch_record.specs.declared.refusals.RecordNo.{RecordNo}
 use Rattle.watch_record.specs.declared.refusals.RecordNo.TheVariants.{TooLong, BadHeader, NoBody, BadLog, BadFloor, BadAsk, Memory}
 

@@ -1,7 +1,7 @@
 //! What helps whoever runs the program, on standard error, beside what it prints.
 
 use command_line::{Fault, complaint};
-use mirror_opening::LinkNo;
+use mirror_link::LinkNo;
 use std::alloc::Global;
 use std::io::Eprint;
 use watch_record::RecordNo;

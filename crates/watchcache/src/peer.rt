@@ -4,7 +4,7 @@ ghost use Rattle.std.specs.Prelude.{◌≡◌, ◌<◌, ◌^◌, IfErr, IfOk};
 ghost use Rattle.command_line.specs.Words.{AreServed};
 ghost use Rattle.edge_io.specs.Counts.{Rose};
 ghost use Rattle.edge_io.specs.Sent.{sent_through};
-ghost use Rattle.mirror_opening.specs.Asking.{CountsReads};
+ghost use Rattle.mirror_link.specs.Asking.{CountsReads};
 ghost use Rattle.watchcache.specs.Run.{IsOfAllPods, IsTold, Opens, Refuses, RunsEither, RunsMirror, use_of, use_with};
 ghost use Rattle.watchcache.specs.Texts.{peer_line};
 
@@ -15,7 +15,7 @@ use crate::telling::tell;
 use bells::Rung;
 use edge_io::{Clock, Listener, Net, Sink, Source};
 use kube_meta::{Memory, Resource};
-use mirror_opening::{LinkNo, Opening};
+use mirror_link::{LinkNo, Opening};
 use net_front::{Host, Redial};
 use select_all::Selection;
 use std::alloc::Global;

@@ -2,7 +2,7 @@ use Rattle.std.proofs.Common.{Some, Ok, Err, refl, subst}
 use Rattle.mirror_log.specs.Faults.{event_fault}
 use Rattle.mirror_link.specs.Lines.{HearsRead}
 use Rattle.mirror_link.proofs.LineLemmas.{as_view, heard_as}
-use Rattle.mirror_opening.specs.declared.refusal.LinkNo.{LinkNo}
+use Rattle.mirror_link.specs.declared.link_refusal.LinkNo.{LinkNo}
 use Rattle.rev_log.specs.Logs.{end_of}
 use Rattle.select_all.specs.Streams.{TransitionData}
 use Rattle.watch_lines.specs.declared.peer_line.PeerLine.TheVariants as peer

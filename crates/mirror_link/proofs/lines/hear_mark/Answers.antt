@@ -2,7 +2,7 @@ use Rattle.std.proofs.Common.{Some, Ok, Err, refl, subst}
 use Rattle.mirror_log.specs.Faults.{mark_fault}
 use Rattle.mirror_link.specs.Lines.{HearsRead}
 use Rattle.mirror_link.proofs.LineLemmas.{as_view, heard_as, open_mark}
-use Rattle.mirror_opening.specs.declared.refusal.LinkNo.{LinkNo}
+use Rattle.mirror_link.specs.declared.link_refusal.LinkNo.{LinkNo}
 use Rattle.rev_log.specs.Logs.{end_of}
 use Rattle.watch_lines.specs.declared.peer_line.PeerLine.TheVariants as peer
 use Rattle.watch_rules.specs.Bodies.{Bookmark}

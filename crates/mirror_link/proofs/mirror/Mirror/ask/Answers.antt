@@ -5,9 +5,9 @@ use Rattle.mirror_link.specs.Beginning.{resume_request}
 use Rattle.mirror_link.specs.Views.{MirrorData}
 use Rattle.mirror_link.proofs.BeginLemmas.{begins, begins_none}
 use Rattle.mirror_link.proofs.mirror.Mirror.ask.Goals as goal
-use Rattle.mirror_opening.specs.Asking.{IsAsked}
-use Rattle.mirror_opening.specs.declared.refusal.LinkNo.{LinkNo}
-use Rattle.mirror_opening.proofs.AnswerLemmas.{asked, not_asked, no_write}
+use Rattle.mirror_link.specs.Asking.{IsAsked}
+use Rattle.mirror_link.specs.declared.link_refusal.LinkNo.{LinkNo}
+use Rattle.mirror_link.proofs.AnswerLemmas.{asked, not_asked, no_write}
 
 pub returns-clause-reads : goal.returns-clause-reads
 returns-clause-reads g c =

@@ -7,12 +7,12 @@ ghost use Rattle.kube_meta.specs.Names.{IsNamespace};
 ghost use Rattle.kube_meta.specs.declared.resources.Resource.TheVariants.{Pods};
 ghost use Rattle.select_all.specs.Reading.{IsRead};
 ghost use Rattle.line_stream.specs.Requests.{request_text};
-ghost use Rattle.mirror_opening.specs.Asking.{CountsReads, IsAsked};
-ghost use Rattle.mirror_opening.specs.Openings.{IsOpeningOf};
-ghost use Rattle.mirror_opening.specs.Reading.{Opens};
+ghost use Rattle.mirror_link.specs.Asking.{CountsReads, IsAsked};
+ghost use Rattle.mirror_link.specs.Openings.{IsOpeningOf};
+ghost use Rattle.mirror_link.specs.Reading.{Opens};
 
 use crate::LinkNo;
-use crate::lines::read_rows;
+use crate::opening_lines::read_rows;
 use edge_io::{Sink, Source};
 use kube_meta::{Row, Text};
 use line_stream::{LineReader, Start, ask_watch};
@@ -50,7 +50,7 @@ pub struct Parts {
 }
 
 impl Model for Opening {
-    ghost use Rattle.mirror_opening.specs.Openings.{OpeningData, IsOpeningOf};
+    ghost use Rattle.mirror_link.specs.Openings.{OpeningData, IsOpeningOf};
 
     ghost Value = { OpeningData };
 

@@ -2,9 +2,9 @@
 
 ghost use Rattle.std.specs.Prelude.{◌≡◌, ◌++◌, ◌∷◌, OnOk, ℕ, List, [], ◌≤◌, Some};
 ghost use Rattle.edge_io.specs.Told.{prepended};
-ghost use Rattle.mirror_opening.specs.Asking.{CountsReads};
-ghost use Rattle.mirror_opening.specs.Reading.{Adds, ReadsRows, Steps, most_opening};
-ghost use Rattle.mirror_opening.specs.Reading as reading;
+ghost use Rattle.mirror_link.specs.Asking.{CountsReads};
+ghost use Rattle.mirror_link.specs.Reading.{Adds, ReadsRows, Steps, most_opening};
+ghost use Rattle.mirror_link.specs.Reading as reading;
 ghost use Rattle.select_all.specs.declared.selection.Selection.{Selection as Asked};
 ghost use Rattle.watch_lines.specs.declared.peer_line.PeerLine.TheVariants as peer;
 

@@ -10,7 +10,7 @@ use Rattle.edge_io.specs.Told.{prepended}
 use Rattle.edge_io.proofs.ToldLemmas.{prepended-prepended}
 use Rattle.line_stream.specs.Heads.{AnswersHead, BeginsChunks, RefusesResponse, at_body}
 use Rattle.line_stream.specs.declared.refusal.LineNo.{LineNo}
-use Rattle.mirror_opening.specs.Refusals.{reading_refusal}
+use Rattle.mirror_link.specs.OpeningRefusals.{reading_refusal}
 use Rattle.line_stream.specs.Readers.{LinesData, ReaderData, ReadsText, Spends}
 use Rattle.select_all.specs.declared.selection.Selection.{Selection}
 use Rattle.select_all.specs.Selecting.{selects}
@@ -19,9 +19,9 @@ use Rattle.watch_lines.specs.Lines.{IsPeerLine, ReadsPeerLine}
 use Rattle.watch_lines.specs.Stored.{IsStored}
 use Rattle.watch_lines.specs.declared.peer_line.PeerLine.{PeerLine}
 use Rattle.watch_rules.specs.Bodies.{Told, Closing, initial, initial_lines}
-use Rattle.mirror_opening.specs.Reading.{most_opening, AreTexts, Adds, Steps, HasRows, HasRowsAt, HasNoRows}
-use Rattle.mirror_opening.specs.declared.refusal.LinkNo.{LinkNo}
-use Rattle.mirror_opening.proofs.RowLemmas.{rising_push, all_upto, map_push, zip_push}
+use Rattle.mirror_link.specs.Reading.{most_opening, AreTexts, Adds, Steps, HasRows, HasRowsAt, HasNoRows}
+use Rattle.mirror_link.specs.declared.link_refusal.LinkNo.{LinkNo}
+use Rattle.mirror_link.proofs.RowLemmas.{rising_push, all_upto, map_push, zip_push}
 
 -- a line that was read, and what it makes of the rows
 pub stepped : (s : Selection) (rows : List RowData) (old : ReaderData) (bytes : List ℕ) (left : Option (List ℕ)) (text : List ℕ) (new : ReaderData) (found : Option PeerLine)

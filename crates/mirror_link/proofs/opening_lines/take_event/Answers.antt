@@ -1,7 +1,7 @@
 use Rattle.std.proofs.Common.{◌≡◌, List, true, refl, sym, ◌∙◌, subst}
 use Rattle.kube_meta.specs.Rows.{RowData}
-use Rattle.mirror_opening.specs.Reading.{is_above_last}
-use Rattle.mirror_opening.proofs.lines.take_event.Goals as goal
+use Rattle.mirror_link.specs.Reading.{is_above_last}
+use Rattle.mirror_link.proofs.opening_lines.take_event.Goals as goal
 
 pub returns-in-Ok : goal.returns-in-Ok
 returns-in-Ok c = (

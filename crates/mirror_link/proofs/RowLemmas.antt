@@ -12,7 +12,7 @@ use Rattle.std.proofs.lemmas.Cmp.{nat_list_cmp_total}
 use Rattle.std.proofs.lemmas.List.Elements.{All-from_recursion}
 use Rattle.std.proofs.lemmas.Bool.Decides.{nat_tests}
 use Rattle.kube_meta.specs.Rows.{RowData, key_of, AreRising}
-use Rattle.mirror_opening.specs.Reading.{is_above_last, are_upto}
+use Rattle.mirror_link.specs.Reading.{is_above_last, are_upto}
 
 less : (o : Ordering) → is_lt o ≡ true → o ≡ Less
 less Less is = refl

@@ -4,9 +4,9 @@ use Rattle.kube_meta.specs.declared.resources.Resource.TheVariants.{Pods}
 use Rattle.line_stream.specs.Answers.{AnswersLine}
 use Rattle.line_stream.specs.declared.lines.Step.{Step}
 use Rattle.watch_lines.specs.Lines.{ReadsPeerLine}
-use Rattle.mirror_opening.proofs.AnswerLemmas.{adds_quietly}
-use Rattle.mirror_opening.proofs.StepLemmas.{stepped}
-use Rattle.mirror_opening.proofs.lines.next_row.Goals as goal
+use Rattle.mirror_link.proofs.AnswerLemmas.{adds_quietly}
+use Rattle.mirror_link.proofs.StepLemmas.{stepped}
+use Rattle.mirror_link.proofs.opening_lines.next_row.Goals as goal
 
 pub returns-in-Ok-clause-reads : goal.returns-in-Ok-clause-reads
 returns-in-Ok-clause-reads g c =

@@ -1,8 +1,8 @@
 -- Behind the head each line adds a row, and takes some of the data that may be taken, or is the last.
 use Rattle.std.proofs.Common.{ℕ, ◌++◌, Option, Ok, ◌∙◌, subst}
-use Rattle.mirror_opening.specs.Reading.{Steps}
-use Rattle.mirror_opening.proofs.StepLemmas.{begun, headless, taken_on, room_falls, rows_go_on, rows_end, rows_stop}
-use Rattle.mirror_opening.proofs.lines.read_rows.Goals as goal
+use Rattle.mirror_link.specs.Reading.{Steps}
+use Rattle.mirror_link.proofs.StepLemmas.{begun, headless, taken_on, room_falls, rows_go_on, rows_end, rows_stop}
+use Rattle.mirror_link.proofs.opening_lines.read_rows.Goals as goal
 
 pub returns-in-Err-clause-reads : goal.returns-in-Err-clause-reads
 returns-in-Err-clause-reads g c =

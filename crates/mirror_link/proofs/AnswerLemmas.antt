@@ -13,11 +13,11 @@ use Rattle.watch_lines.specs.declared.peer_line.PeerLine.TheVariants as peer
 use Rattle.line_stream.specs.AskAnswers.{Asks}
 use Rattle.line_stream.specs.declared.asking.AskNo.{AskNo}
 use Rattle.line_stream.specs.declared.asking.AskNo.TheVariants as ask
-use Rattle.mirror_opening.specs.Asking.{IsAsked, CountsReads}
-use Rattle.mirror_opening.specs.Reading.{Adds, HasNoRows, HasNoOpening, opening_fault, is_above_last, are_upto}
-use Rattle.mirror_opening.specs.Refusals.{reading_refusal, asking_refusal}
-use Rattle.mirror_opening.specs.declared.refusal.LinkNo.{LinkNo}
-use Rattle.mirror_opening.specs.declared.refusal.LinkNo.TheVariants.{BadHead, BadLine, Told, ReadFault, WriteFault, Memory}
+use Rattle.mirror_link.specs.Asking.{IsAsked, CountsReads}
+use Rattle.mirror_link.specs.Reading.{Adds, HasNoRows, HasNoOpening, opening_fault, is_above_last, are_upto}
+use Rattle.mirror_link.specs.OpeningRefusals.{reading_refusal, asking_refusal}
+use Rattle.mirror_link.specs.declared.link_refusal.LinkNo.{LinkNo}
+use Rattle.mirror_link.specs.declared.link_refusal.LinkNo.TheVariants.{BadHead, BadLine, Told, ReadFault, WriteFault, Memory}
 
 -- an answer that is no fault of the source
 pub quiet : (A : Type 0) (why : LinkNo) (old new : ℕ) → ¬ (why ≡ ReadFault) → new ≡ old → CountsReads {A = A} (Err why) old new

@@ -1,7 +1,7 @@
 //! Why a mirror doesn't hear a line.
 
 ghost use Rattle.std.specs.Prelude.{◌≡◌};
-ghost use Rattle.mirror_opening.specs.Refusals as refusals;
+ghost use Rattle.mirror_link.specs.OpeningRefusals as refusals;
 
 use kube_meta::Memory;
 use line_stream::{AskNo, LineNo};
@@ -65,7 +65,7 @@ impl LinkNo {
 
 impl From<LineNo> for LinkNo {
     ghost use Rattle.std.specs.Prelude.{◌≡◌};
-    ghost use Rattle.mirror_opening.specs.Refusals.{reading_refusal};
+    ghost use Rattle.mirror_link.specs.OpeningRefusals.{reading_refusal};
 
     ghost from_gives = { λ fault refusal. refusal ≡ reading_refusal fault };
 
@@ -85,7 +85,7 @@ impl From<LineNo> for LinkNo {
 
 impl From<AskNo> for LinkNo {
     ghost use Rattle.std.specs.Prelude.{◌≡◌};
-    ghost use Rattle.mirror_opening.specs.Refusals.{asking_refusal};
+    ghost use Rattle.mirror_link.specs.OpeningRefusals.{asking_refusal};
 
     ghost from_gives = { λ fault refusal. refusal ≡ asking_refusal fault };
 
@@ -99,7 +99,7 @@ impl From<AskNo> for LinkNo {
 
 impl From<Memory> for LinkNo {
     ghost use Rattle.std.specs.Prelude.{◌≡◌};
-    ghost use Rattle.mirror_opening.specs.declared.refusal.LinkNo.TheVariants as no;
+    ghost use Rattle.mirror_link.specs.declared.link_refusal.LinkNo.TheVariants as no;
 
     ghost from_gives = { λ _ refusal. refusal ≡ no.Memory };
 

@@ -1,8 +1,8 @@
 use Rattle.std.proofs.Common.{◌≡◌, ℕ, List}
 use Rattle.edge_io.specs.Told.{prepended}
-use Rattle.mirror_opening.specs.Reading.{HasRows}
-use Rattle.mirror_opening.proofs.StepLemmas.{room_in}
-use Rattle.mirror_opening.proofs.lines.read_rows.Given as goal
+use Rattle.mirror_link.specs.Reading.{HasRows}
+use Rattle.mirror_link.proofs.StepLemmas.{room_in}
+use Rattle.mirror_link.proofs.opening_lines.read_rows.Given as goal
 
 -- the bytes that were taken are a head and the events of the rows, and the source counted no fault
 abbrev pub invariant-loop-base : goal.invariant-loop-base

@@ -4,12 +4,12 @@ use Rattle.line_stream.specs.Requests.{request_text}
 use Rattle.line_stream.specs.declared.start.Start.TheVariants.{State}
 use Rattle.edge_io.proofs.ToldLemmas.{prepended-nil}
 use Rattle.edge_io.specs.Sent.{sent_through}
-use Rattle.mirror_opening.specs.Asking.{IsAsked}
-use Rattle.mirror_opening.specs.Openings.{OpeningData}
-use Rattle.mirror_opening.specs.Reading.{HasNoOpening}
-use Rattle.mirror_opening.specs.declared.refusal.LinkNo.{LinkNo}
-use Rattle.mirror_opening.proofs.AnswerLemmas.{asked, not_asked, unasked, was_asked}
-use Rattle.mirror_opening.proofs.opening.Opening.read.Goals as goal
+use Rattle.mirror_link.specs.Asking.{IsAsked}
+use Rattle.mirror_link.specs.Openings.{OpeningData}
+use Rattle.mirror_link.specs.Reading.{HasNoOpening}
+use Rattle.mirror_link.specs.declared.link_refusal.LinkNo.{LinkNo}
+use Rattle.mirror_link.proofs.AnswerLemmas.{asked, not_asked, unasked, was_asked}
+use Rattle.mirror_link.proofs.opening.Opening.read.Goals as goal
 
 pub returns-in-Err-clause-asks : goal.returns-in-Err-clause-asks
 returns-in-Err-clause-asks g c =

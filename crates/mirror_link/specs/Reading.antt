@@ -21,10 +21,10 @@ use Rattle.watch_lines.specs.Stored.{IsToldAt}
 use Rattle.watch_lines.specs.declared.peer_line.PeerLine.{PeerLine}
 use Rattle.watch_lines.specs.declared.peer_line.PeerLine.TheVariants as peer
 use Rattle.watch_rules.specs.Bodies.{Line, Told, Closing, initial, initial_lines}
-use Rattle.mirror_opening.specs.Openings.{OpeningData, AreOpened, opened_lines}
-use Rattle.mirror_opening.specs.Refusals.{reading_refusal}
-use Rattle.mirror_opening.specs.declared.refusal.LinkNo.{LinkNo}
-use Rattle.mirror_opening.specs.declared.refusal.LinkNo.TheVariants as no
+use Rattle.mirror_link.specs.Openings.{OpeningData, AreOpened, opened_lines}
+use Rattle.mirror_link.specs.OpeningRefusals.{reading_refusal}
+use Rattle.mirror_link.specs.declared.link_refusal.LinkNo.{LinkNo}
+use Rattle.mirror_link.specs.declared.link_refusal.LinkNo.TheVariants as no
 
 -- the most bytes of data in which an opening has to end
 abbrev pub most_opening : ℕ

@@ -1,4 +1,0 @@
-pub mod Refusals
-pub mod Openings
-pub mod Reading
-pub mod Asking
