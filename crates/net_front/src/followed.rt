@@ -1,6 +1,6 @@
 //! The peer of a mirror, as the threads of its server know it.
 
-use request_counts::Peer;
+use crate::peer::Peer;
 use std::sync::atomic::AtomicBool;
 use std::sync::atomic::Ordering::SeqCst;
 

@@ -1,7 +1,11 @@
-//! Many connections at once: threads that accept and serve them, over clients of one log.
+//! Many connections at once: threads that accept and serve them, over clients of one log, and count for monitors
+//! what these answer.
 #![tactic(auto)]
 
 mod clock;
+mod codes;
+mod counting;
+mod counts;
 mod disconnects;
 mod doorbell;
 mod end;
@@ -12,6 +16,7 @@ mod host;
 mod house;
 mod intake;
 mod mirror;
+mod peer;
 mod probes;
 mod pump;
 mod redial;

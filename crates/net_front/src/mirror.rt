@@ -4,6 +4,7 @@ ghost use Rattle.std.specs.Prelude.{◌≡◌, ◌↔◌, ◌<◌, ◌≤◌, �
 ghost use Rattle.net_front.specs.Ends.{MayEnd, most_connections};
 ghost use Rattle.up_api.specs.Settings.{AreInRange};
 
+use crate::counts::Counts;
 use crate::followed::Followed;
 use crate::following::follow_beside;
 use crate::intake::Served;
@@ -14,7 +15,6 @@ use bells::Rung;
 use edge_io::{Clock, Listener, Source};
 use kube_meta::Memory;
 use mirror_link::Mirror;
-use request_counts::Counts;
 use shared_client::Cacher;
 use std::alloc::Global;
 use std::thread;

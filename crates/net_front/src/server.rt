@@ -4,6 +4,7 @@ ghost use Rattle.std.specs.Prelude.{◌≡◌, ◌↔◌, ◌<◌, ◌≤◌, �
 ghost use Rattle.net_front.specs.Ends.{MayEnd, most_connections};
 ghost use Rattle.up_api.specs.Settings.{AreInRange};
 
+use crate::counts::Counts;
 use crate::host::{keep_house, work_side_by_side};
 use crate::intake::{Intake, Limit, Served};
 use crate::pump::pump;
@@ -12,7 +13,6 @@ use crate::tally::Tally;
 use bells::Rung;
 use edge_io::{Clock, Listener};
 use kube_meta::Memory;
-use request_counts::Counts;
 use shared_client::Cacher;
 use std::alloc::Global;
 use std::marker::Brand;

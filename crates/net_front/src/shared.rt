@@ -3,6 +3,7 @@
 ghost use Rattle.std.specs.Prelude.{◌≡◌, true, IsSome};
 ghost use Rattle.up_api.specs.Settings.{AreInRange};
 
+use crate::counts::Counts;
 use crate::disconnects::Disconnects;
 use crate::doorbell::Doorbell;
 use crate::end::End;
@@ -11,7 +12,6 @@ use crate::house::House;
 use crate::intake::{Intake, Limit};
 use crate::tally::Tally;
 use edge_io::Listener;
-use request_counts::Counts;
 use shared_client::Cacher;
 use std::alloc::Global;
 use std::io::Eprint;
