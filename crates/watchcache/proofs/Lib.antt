@@ -1,3 +1,5 @@
+pub mod OptionLemmas
+pub mod WordLemmas
 pub mod PeerLemmas
 pub mod ServerLemmas
 pub mod InputLemmas

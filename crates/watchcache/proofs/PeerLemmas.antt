@@ -1,7 +1,7 @@
 -- What a server that mirrors a peer comes to.
 use Rattle.std.proofs.Common.{◌≡◌, subst, inl, inr, ℕ, List, Option, Some, None, Ok, Err, IfSome}
 use Rattle.std.specs.Prelude.{Result, IfErr}
-use Rattle.command_line.specs.declared.asked.ServeOptions.{ServeOptions}
+use Rattle.watchcache.specs.declared.asked.ServeOptions.{ServeOptions}
 use Rattle.edge_io.specs.Counts.{Rose}
 use Rattle.edge_io.specs.Sent.{Sent}
 use Rattle.mirror_link.specs.Asking.{IsAsked}

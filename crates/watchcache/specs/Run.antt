@@ -3,13 +3,13 @@ use Rattle.std.specs.Prelude.{◌≡◌, ℕ, ◌+◌, ◌<◌, ◌≤◌, ◌�
 use Rattle.body_check.specs.Judging.{IsJudged}
 use Rattle.body_check.specs.declared.judging.Checked.{Checked}
 use Rattle.body_check.specs.declared.judging.Checked.TheVariants.{Lawful, Unlawful}
-use Rattle.command_line.specs.Words.{ReadsWords}
-use Rattle.command_line.specs.declared.asked.Asked.{Asked}
-use Rattle.command_line.specs.declared.asked.Asked.TheVariants.{Help, Version, Session, Serve, Load, Check}
-use Rattle.command_line.specs.declared.asked.LoadOptions.{LoadOptions}
-use Rattle.command_line.specs.declared.asked.ServeOptions.{ServeOptions}
-use Rattle.command_line.specs.declared.asked.WordsNo.{WordsNo}
-use Rattle.command_line.specs.declared.asked.WordsNo.TheVariants.{Bad, Memory}
+use Rattle.watchcache.specs.Words.{ReadsWords}
+use Rattle.watchcache.specs.declared.asked.Asked.{Asked}
+use Rattle.watchcache.specs.declared.asked.Asked.TheVariants.{Help, Version, Session, Serve, Load, Check}
+use Rattle.watchcache.specs.declared.asked.LoadOptions.{LoadOptions}
+use Rattle.watchcache.specs.declared.asked.ServeOptions.{ServeOptions}
+use Rattle.watchcache.specs.declared.asked.WordsNo.{WordsNo}
+use Rattle.watchcache.specs.declared.asked.WordsNo.TheVariants.{Bad, Memory}
 use Rattle.edge_io.specs.Counts.{Rose}
 use Rattle.edge_io.specs.Sent.{Sent, IsSentOn, IsBrokenOff}
 use Rattle.edge_io.specs.Told.{prepended, appended, Noted, IsExhausted}

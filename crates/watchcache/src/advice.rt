@@ -1,6 +1,7 @@
 //! What helps whoever runs the program, on standard error, beside what it prints.
 
-use command_line::{Fault, complaint};
+use crate::asked::Fault;
+use crate::complaints::complaint;
 use mirror_link::LinkNo;
 use std::alloc::Global;
 use std::io::Eprint;

@@ -1,10 +1,11 @@
 //! What is done for what the words of the command line ask for.
 
 ghost use Rattle.std.specs.Prelude.{◌<◌, ◌^◌, IfOk};
-ghost use Rattle.command_line.specs.Words.{IsInRange};
+ghost use Rattle.watchcache.specs.Words.{IsInRange};
 ghost use Rattle.edge_io.specs.Sent.{sent_through};
 ghost use Rattle.watchcache.specs.Run.{Does, ends_of, use_of};
 
+use crate::asked::{Asked, WordsNo};
 use crate::checks::check_record;
 use crate::loads::load;
 use crate::peer::serve_any;
@@ -13,7 +14,6 @@ use crate::session::run_session;
 use crate::statuses::OUT_OF_MEMORY;
 use crate::texts::{write_bad_line, write_help, write_version};
 use bells::Rung;
-use command_line::{Asked, WordsNo};
 use edge_io::{Clock, Listener, Net, Sink, Source};
 use net_front::{Host, Redial};
 use std::alloc::Global;

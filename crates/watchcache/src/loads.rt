@@ -4,8 +4,8 @@ ghost use Rattle.edge_io.specs.Sent.{sent_through};
 ghost use Rattle.std.specs.Prelude.{◌≤◌, ◌^◌};
 ghost use Rattle.watchcache.specs.Run.{TellsLoad};
 
+use crate::asked::LoadOptions;
 use crate::statuses::{DONE, OUT_OF_MEMORY, WRITE_FAULT};
-use command_line::LoadOptions;
 use edge_io::Sink;
 use load_gen::{LoadNo, run_load};
 use std::alloc::Global;

@@ -7,25 +7,31 @@
 #![tactic(auto)]
 
 mod advice;
+mod asked;
 mod checks;
 mod commands;
+mod complaints;
 mod inputs;
 mod loads;
+mod options;
 mod peer;
+mod reading;
 mod redial;
 mod server;
 mod session;
+mod settings;
 mod statuses;
 mod telling;
 mod texts;
+mod words;
 
 ghost use Rattle.edge_io.specs.Sent.{sent_through};
 ghost use Rattle.std.specs.Prelude.{◌≡◌, ◌<◌, ◌^◌, map, string_bytes};
 ghost use Rattle.watchcache.specs.Run.{IsRun, ends_of, use_of};
 
 use advice::say_fault;
+use asked::WordsNo;
 use bells::Rung;
-use command_line::{WordsNo, read_words};
 use commands::perform;
 use edge_io::{Clock, Listener, Net, ReadEnd, Sink, Source, StepClock, SystemClock, WriteEnd};
 use net_front::{Host, Redial};
@@ -36,6 +42,7 @@ use std::env::{self, Env};
 use std::io::{Eprint, ErrorKind};
 use std::process::ExitCode;
 use tcp_net::LoopbackNet;
+use words::read_words;
 
 /// Does all that the program does. `words` are those of the command line behind the program's name. Answers the exit
 /// status.

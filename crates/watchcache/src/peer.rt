@@ -1,7 +1,7 @@
 //! A server's beginning: an empty log, or what a peer has.
 
 ghost use Rattle.std.specs.Prelude.{◌≡◌, ◌<◌, ◌^◌, IfErr, IfOk};
-ghost use Rattle.command_line.specs.Words.{AreServed};
+ghost use Rattle.watchcache.specs.Words.{AreServed};
 ghost use Rattle.edge_io.specs.Counts.{Rose};
 ghost use Rattle.edge_io.specs.Sent.{sent_through};
 ghost use Rattle.mirror_link.specs.Asking.{CountsReads};

@@ -1,17 +1,17 @@
 //! A server of many connections, over one log.
 
 ghost use Rattle.std.specs.Prelude.{◌≡◌, ◌<◌, ◌≤◌, ◌^◌, ◌↔◌, [], IfNone, IfOk, IfSome, IsTrue, false, true};
-ghost use Rattle.command_line.specs.Words.{AreServed};
+ghost use Rattle.watchcache.specs.Words.{AreServed};
 ghost use Rattle.edge_io.specs.Sent.{sent_through};
 ghost use Rattle.net_front.specs.Ends.{MayEnd, most_connections};
 ghost use Rattle.up_api.specs.Settings.{AreInRange};
 ghost use Rattle.watchcache.specs.Run.{IsTold, RunsServer, TellsSessions, use_of};
 ghost use Rattle.watchcache.specs.Texts.{sessions};
 
+use crate::asked::ServeOptions;
 use crate::statuses::{DONE, NET_FAULT, OUT_OF_MEMORY};
 use crate::telling::tell;
 use bells::Rung;
-use command_line::ServeOptions;
 use edge_io::{Clock, Listener, Net, Sink, Source};
 use itoa::Buffer;
 use kube_meta::Memory;

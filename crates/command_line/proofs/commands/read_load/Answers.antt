@@ -1,9 +1,0 @@
-use Rattle.std.proofs.Common.{◌∙◌, sym, map, string_bytes}
-use Rattle.command_line.specs.Options.{load_of, load}
-use Rattle.command_line.proofs.OptionLemmas.{at_fault}
-use Rattle.command_line.proofs.commands.read_load.Goals as goal
-
-pub returns-clause-value : goal.returns-clause-value
-returns-clause-value c =
-    at_fault load _ load_of (map string_bytes c.args.words.now) _ c.in-Err.fault c.in_ok-command.ensures
-    c.in_ok-matches.ensures.faultless c.in_ok-matches.ensures.rows (sym c.load_options.ensures.value ∙ c.in-Err.is)

@@ -1,0 +1,207 @@
+-- The options of the commands: each takes one number, which lies in a range, and is usual where it isn't given. Which words
+-- give which value is clap's own rule for a command of these options.
+use Rattle.std.specs.Prelude.{◌≡◌, ◌≢◌, ◌⊎◌, ℕ, ◌^◌, List, [], ◌&&◌, Option, Some, None, is_some, Result, Ok, Err, nat_le, codes, if◌then◌else◌, ⊤}
+use Rattle.clap.specs.Words.{App, Row, Rule, Text, fault_of, first_of, matches_of, new_app, new_rule, with_rule}
+use Rattle.clap.specs.declared.error.kind.ErrorKind.{ErrorKind}
+use Rattle.clap.specs.declared.error.kind.ErrorKind.TheVariants.{OutOfMemory}
+use Rattle.watchcache.specs.declared.asked.LoadOptions.{LoadOptions}
+use Rattle.watchcache.specs.declared.asked.ServeOptions.{ServeOptions}
+use Rattle.watchcache.specs.declared.asked.OptionName.{OptionName}
+use Rattle.watchcache.specs.declared.asked.OptionName.TheVariants.{Window, WindowMax, FreshMs, Lane, Batch, History, BookmarkMs, TimeoutS, Port, Workers, Open, Connections, Peer, FirstRevision, From, Requests}
+use Rattle.watchcache.specs.declared.asked.Fault.{Fault}
+use Rattle.watchcache.specs.declared.asked.Fault.TheVariants.{Misused, OutOfRange, FirstWithPeer}
+use Rattle.watchcache.specs.declared.asked.WordsNo.{WordsNo}
+use Rattle.watchcache.specs.declared.asked.WordsNo.TheVariants.{Bad, Memory}
+use Rattle.kube_meta.specs.Revisions.{revision_of}
+use Rattle.kube_meta.specs.declared.revisions.RevNo.{RevNo}
+use Rattle.up_api.specs.Settings.{usual}
+use Rattle.up_api.specs.declared.settings.Settings.{Settings}
+
+-- the option `--name`
+abbrev pub option : Text → Rule
+option name = record (new_rule name) { long = Some name }
+
+-- a command with the options that set a server
+abbrev pub with_settings : App → App
+with_settings command =
+    with_rule (with_rule (with_rule (with_rule (with_rule (with_rule (with_rule (with_rule command
+    (option (codes "window"))) (option (codes "window-max"))) (option (codes "fresh-ms"))) (option (codes "lane")))
+    (option (codes "batch"))) (option (codes "history"))) (option (codes "bookmark-ms"))) (option (codes "timeout-s"))
+
+-- the command `session` as clap knows it, with the options that set a server
+abbrev pub session : App
+session = with_settings (new_app (codes "session"))
+
+-- the command `serve` as clap knows it: it is set as a session is, takes connections at a port, and has a
+-- peer or a first revision, or neither
+abbrev pub serve : App
+serve =
+    with_rule (with_rule (with_rule (with_rule (with_rule (with_rule (with_settings (new_app (codes "serve")))
+    (option (codes "port"))) (option (codes "workers"))) (option (codes "open"))) (option (codes "connections")))
+    (option (codes "peer"))) (option (codes "first-revision"))
+
+-- the command `load` as clap knows it: from what its requests are drawn, and how many
+abbrev pub load : App
+load = with_rule (with_rule (new_app (codes "load")) (option (codes "from"))) (option (codes "requests"))
+
+-- the command `check` as clap knows it, which has no options
+abbrev pub check : App
+check = new_app (codes "check")
+
+-- the name of an option, as it is written behind `--`
+abbrev pub option_text : OptionName → Text
+option_text Window = codes "window"
+option_text WindowMax = codes "window-max"
+option_text FreshMs = codes "fresh-ms"
+option_text Lane = codes "lane"
+option_text Batch = codes "batch"
+option_text History = codes "history"
+option_text BookmarkMs = codes "bookmark-ms"
+option_text TimeoutS = codes "timeout-s"
+option_text Port = codes "port"
+option_text Workers = codes "workers"
+option_text Open = codes "open"
+option_text Connections = codes "connections"
+option_text Peer = codes "peer"
+option_text FirstRevision = codes "first-revision"
+option_text From = codes "from"
+option_text Requests = codes "requests"
+
+-- what comes of a value that was read, or its fault
+abbrev pub and_then : {A B : Type 0} → (A → Result B Fault) → Result A Fault → Result B Fault
+and_then next (Ok value) = next value
+and_then next (Err fault) = Err fault
+
+-- the number, if it lies in the range from `low` to `high`
+abbrev pub bounded : OptionName → ℕ → ℕ → ℕ → Result ℕ Fault
+bounded name low high n = if nat_le low n && nat_le n high then Ok n else Err (OutOfRange name low high)
+
+-- the number that a text was read as, if it was read and lies in the range
+abbrev pub within : OptionName → ℕ → ℕ → Result ℕ RevNo → Result ℕ Fault
+within name low high (Ok n) = bounded name low high n
+within name low high (Err fault) = Err (OutOfRange name low high)
+
+-- what is given for an option, in decimal digits
+abbrev pub option_number : OptionName → ℕ → ℕ → ℕ → Option Text → Result ℕ Fault
+option_number name low high default None = Ok default
+option_number name low high default (Some text) = within name low high (revision_of text)
+
+-- what is given for an option that has no usual number, if anything is
+abbrev pub optional_number : OptionName → ℕ → ℕ → Option Text → Result (Option ℕ) Fault
+optional_number name low high None = Ok None
+optional_number name low high (Some text) = and_then (λ n. Ok (Some n)) (within name low high (revision_of text))
+
+-- the same of what clap found
+abbrev pub number : List Row → OptionName → ℕ → ℕ → ℕ → Result ℕ Fault
+number rows name low high default = option_number name low high default (first_of (option_text name) rows)
+
+-- and of an option that has no usual number
+abbrev pub optional : List Row → OptionName → ℕ → ℕ → Result (Option ℕ) Fault
+optional rows name low high = optional_number name low high (first_of (option_text name) rows)
+
+-- ---- what the options of a command give; or the first fault, in the order in which the options are looked at
+
+-- the settings with what is given of a watch's times: seconds that it lasts, and milliseconds between its bookmarks
+abbrev pub with_watches : List Row → Settings → Result Settings Fault
+with_watches rows s =
+    and_then (λ bookmark. and_then (λ timeout. Ok (record s { bookmark_ms = bookmark; timeout_s = timeout }))
+    (number rows TimeoutS 1 1000000 usual.timeout_s))
+    (number rows BookmarkMs 1 86400000 usual.bookmark_ms)
+
+-- the settings with what is given of how much waits for a watcher and is told at once, and of a watch's times
+abbrev pub with_turns : List Row → Settings → Result Settings Fault
+with_turns rows s =
+    and_then (λ lane. and_then (λ batch. with_watches rows (record s { lane = lane; batch = batch }))
+    (number rows Batch 1 10000 usual.batch))
+    (number rows Lane 1 1024 usual.lane)
+
+-- the settings with what is given of how long changes are kept, in milliseconds, of how many states are, and of watches
+abbrev pub with_ages : List Row → Settings → Result Settings Fault
+with_ages rows s =
+    and_then (λ fresh. and_then (λ history. with_turns rows (record s { fresh_ms = fresh; history = history }))
+    (number rows History 1 1000000 usual.history))
+    (number rows FreshMs 1 86400000 usual.fresh_ms)
+
+-- the settings that are given; the greatest window is at least the window, and is the window where it isn't given
+abbrev pub settings_of : List Row → Result Settings Fault
+settings_of rows =
+    and_then (λ window. and_then (λ most. with_ages rows (record usual { window = window; window_max = most }))
+    (number rows WindowMax window 102400 window))
+    (number rows Window 1 102400 usual.window)
+
+-- a server's options with the revision of its empty log, 1 where none is given; none may be where there is a peer, whose list
+-- says where a mirror's log begins
+abbrev pub with_first : List Row → ServeOptions → Result ServeOptions Fault
+with_first rows options =
+    if is_some options.peer && is_some (first_of (option_text FirstRevision) rows) then Err FirstWithPeer
+    else and_then (λ first. Ok (record options { first = first })) (number rows FirstRevision 1 (2 ^ 62) 1)
+
+-- a server's options with what is given of its peer, and of where its log begins
+abbrev pub with_peer : List Row → ServeOptions → Result ServeOptions Fault
+with_peer rows options =
+    and_then (λ given. with_first rows (record options { peer = given })) (optional rows Peer 1 65535)
+
+-- how a server is set: the settings, and what is given of its port, its workers, the connections that it takes, its peer and
+-- its log
+abbrev pub with_connections : List Row → Settings → Result ServeOptions Fault
+with_connections rows settings =
+    and_then (λ port. and_then (λ workers. and_then (λ open_at_once. and_then (λ connections. with_peer rows (record { port = port; workers = workers; «open» = open_at_once; connections = connections; peer = None; first = 1; settings = settings }))
+    (number rows Connections 0 (2 ^ 62) 0))
+    (number rows Open 1 65536 16384))
+    (number rows Workers 1 64 4))
+    (number rows Port 0 65535 8001)
+
+-- how a server is set by all options of `serve`
+abbrev pub serve_of : List Row → Result ServeOptions Fault
+serve_of rows = and_then (λ settings. with_connections rows settings) (settings_of rows)
+
+-- the load that the options of `load` ask for
+abbrev pub load_of : List Row → Result LoadOptions Fault
+load_of rows =
+    and_then (λ from. and_then (λ requests. Ok (record { from = from; requests = requests }))
+    (number rows Requests 0 100000 1000))
+    (number rows From 0 (2 ^ 62) 1)
+
+-- ---- the words of a command
+
+-- clap found a fault with them
+abbrev pub IsMisused : App → List Text → Fault → Type 0
+IsMisused command words fault = (fault ≡ Misused) × (fault_of command words ≢ [])
+
+-- clap finds no fault with the words, and their options give this, or are at fault; or clap finds one
+abbrev pub ReadsOptions : {A : Type 0} → App → (List Row → Result A Fault) → List Text → Result A WordsNo → Type 0
+ReadsOptions command options_of words (Ok options) =
+    (fault_of command words ≡ []) × (options_of (matches_of command words) ≡ Ok options)
+ReadsOptions command options_of words (Err (Bad fault)) =
+    IsMisused command words fault ⊎ ((fault_of command words ≡ []) × (options_of (matches_of command words) ≡ Err fault))
+ReadsOptions command options_of words (Err Memory) = ⊤
+
+-- the words of the command `session` give these settings, or are refused
+abbrev pub ReadsSettings : List Text → Result Settings WordsNo → Type 0
+ReadsSettings words answer = ReadsOptions session settings_of words answer
+
+-- the words of the command `serve` set a server so, or are refused
+abbrev pub ReadsServe : List Text → Result ServeOptions WordsNo → Type 0
+ReadsServe words answer = ReadsOptions serve serve_of words answer
+
+-- the words of the command `load` ask for this load, or are refused
+abbrev pub ReadsLoad : List Text → Result LoadOptions WordsNo → Type 0
+ReadsLoad words answer = ReadsOptions load load_of words answer
+
+-- a check has no options, so clap alone refuses its words
+abbrev pub ReadsCheck : List Text → Result Unit WordsNo → Type 0
+ReadsCheck words (Ok nothing) = fault_of check words ≡ []
+ReadsCheck words (Err (Bad fault)) = IsMisused check words fault
+ReadsCheck words (Err Memory) = ⊤
+
+-- ---- why words are refused
+
+-- clap found a fault with them, or there was no memory
+abbrev pub HasFault : App → List Text → WordsNo → Type 0
+HasFault command words (Bad fault) = IsMisused command words fault
+HasFault command words Memory = ⊤
+
+-- why, by the kind of clap's error
+abbrev pub refusal : ErrorKind → WordsNo
+refusal OutOfMemory = Memory
+refusal other = Bad Misused
