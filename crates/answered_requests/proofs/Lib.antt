@@ -1,8 +1,0 @@
-pub mod WriteLemmas
-pub mod ReachLemmas
-pub mod AnswerLemmas
-pub mod AloneLemmas
-pub mod ReadsLemmas
-pub mod ChangesLemmas
-pub mod DeterminedLemmas
-pub mod LoadLemmas

@@ -1,5 +1,0 @@
-use Rattle.answered_requests.proofs.DeterminedLemmas.{are_determined}
-use Rattle.answered_requests.proofs.laws.replies_are_determined.Goals as goal
-
-pub returns : goal.returns
-returns c = are_determined c.answers_agree.ensures c.refusals_agree.ensures c.routes_are_not_refused.ensures

@@ -1,7 +1,0 @@
-use Rattle.hub_world.proofs.CallLemmas.{opened}
-use Rattle.hub_world.proofs.watches.open.Goals as goal
-
-pub returns : goal.returns
-returns g c =
-    let call = c.open_lane.ensures in
-    opened c.open_lane.result (λ r. r.0) c.args.hub.now c.open_lane.new.self c.args.selection.now c.args.at c.requires call.number call.same call.opened

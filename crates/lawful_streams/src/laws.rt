@@ -1,8 +1,0 @@
-//! The laws.
-
-ghost use Rattle.lawful_streams.specs.Streams.{StreamsAreLawful};
-
-/// The lines of a watch, as a session writes whole objects, are lawful over the log that is known at its end.
-pub fn streams_are_lawful()
-    ensures { StreamsAreLawful }
-{}

@@ -1,0 +1,14 @@
+pub mod HubLemmas
+pub mod CallLemmas
+pub mod TurnLemmas
+pub mod StreamLemmas
+pub mod ReadLemmas
+pub mod OneLemmas
+pub mod WriteLemmas
+pub mod ReachLemmas
+pub mod AnswerLemmas
+pub mod ReadsLemmas
+pub mod ChangesLemmas
+pub mod AloneLemmas
+pub mod DeterminedLemmas
+pub mod LoadLemmas

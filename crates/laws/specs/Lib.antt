@@ -1,0 +1,11 @@
+pub mod HubSteps
+pub mod LawfulStreams
+pub mod MirroredStreams
+pub mod Openings
+pub mod Writing
+pub mod Served
+pub mod Hindered
+pub mod Due
+pub mod Answered
+pub mod Determined
+pub mod Loads

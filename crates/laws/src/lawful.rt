@@ -1,0 +1,8 @@
+//! The laws.
+
+ghost use Rattle.laws.specs.LawfulStreams.{StreamsAreLawful};
+
+/// The lines of a watch, as a session writes whole objects, are lawful over the log that is known at its end.
+pub fn streams_are_lawful()
+    ensures { StreamsAreLawful }
+{}

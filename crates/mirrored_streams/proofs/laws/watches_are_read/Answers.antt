@@ -1,5 +1,0 @@
-use Rattle.mirrored_streams.proofs.ReadLemmas.{watches_are_read}
-use Rattle.mirrored_streams.proofs.laws.watches_are_read.Goals as goal
-
-pub returns : goal.returns
-returns c = watches_are_read c.lines_read_back.ensures c.texts_have_no_line_feed.ensures
