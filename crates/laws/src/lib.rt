@@ -1,8 +1,8 @@
 //! Laws of several crates together, and nothing else: no program calls what stands here, it is there to be proved.
 //!
 //! Each call of a hub, the cache of one resource with its lanes, is a step of the world of log, caches and clients: a
-//! function of `hub_feeds` or `hub_watches` makes one call and promises the step, by what that call promises; a hub that
-//! promised less would be refused here. What a session writes to a watch is judged to be lawful over its log
+//! function of `hub_feeds` or `hub_watches` makes one call and promises the step, by what that call promises; a hub
+//! that promised less would be refused here. What a session writes to a watch is judged to be lawful over its log
 //! (`lawful`), and a mirror reads it as the lines of a lawful body; bytes have one opening (`mirrored`). A request of a
 //! session gets its 200, 201 or stream, unless something stands in its way; and, where nobody else holds the log, it
 //! gets them if the log before it has what it asks for, replies are determined, and with them the figures of a load

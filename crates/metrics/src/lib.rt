@@ -1,5 +1,5 @@
-//! What a server tells a monitor: the metrics of a log, of its caches and of their clients; and their text, version 0.0.4
-//! of the text format of Prometheus.
+//! What a server tells a monitor: the metrics of a log, of its caches and of their clients; and their text, version
+//! 0.0.4 of the text format of Prometheus.
 #![tactic(auto)]
 
 mod caches;
