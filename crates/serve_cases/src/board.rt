@@ -2,7 +2,7 @@
 
 ghost use Rattle.std.specs.Prelude.{◌≤◌, length, IfSome};
 
-use case_rows::Wording;
+use case_rows::{Wording, number, split};
 use std::alloc::{AllocError, Global};
 use std::sync::{Mutex, Wait};
 use std::thread;
@@ -38,25 +38,17 @@ pub struct Board<R> {
     pub rt: R,
     wires: Vec<Mutex<Wire>>,
     connections: usize,
-    /// The connections that the mirror dials; none where nobody is there.
-    pub dials: Vec<Option<usize>>,
+    /// The connections that the mirror dials; 0 where nobody is there.
+    pub dials: Vec<usize>,
 }
 
 impl<R: Wait + Drop> Board<R> {
-    /// A board of so many connections, on which nothing was written.
-    pub fn new(
-        rt: R,
-        alloc: Global,
-        connections: usize,
-        dials: Vec<Option<usize>>,
-    ) -> Result<Board<R>, AllocError> {
-        let mut wires = Vec::new(alloc);
-        for _ in 0..connections.saturating_add(dials.len()).saturating_add(1) {
-            wires.push(Mutex::new(Wire {
-                text: Vec::new(alloc),
-                is_cut: false,
-            }))?;
-        }
+    /// A board of the connections of a case, on which nothing was written.
+    pub fn new(rt: R, alloc: Global, case: &str) -> Result<Board<R>, AllocError> {
+        let connections = case.matches("\nconnection ").count();
+        let dials = dials_of(alloc, case)?;
+        let most = connections.saturating_add(dials.len());
+        let wires = wires_up_to(alloc, most)?;
         Ok(Board {
             rt,
             wires,
@@ -73,7 +65,7 @@ impl<R: Wait + Drop> Board<R> {
     /// The wire on which the mirror asks over a connection, if it dials that.
     pub fn asked_on(&self, connection: usize) -> Option<usize> {
         for at in 0..self.dials.len() {
-            if self.dials.get(at).copied() == Some(Some(connection)) {
+            if self.dials[at] == connection {
                 return Some(self.ask_wire(at));
             }
         }
@@ -81,9 +73,9 @@ impl<R: Wait + Drop> Board<R> {
     }
 
     /// Whether a wire was written this.
-    pub fn has(&self, number: usize, part: &[u8]) -> bool {
+    pub fn has(&self, number: usize, part: &str) -> bool {
         match self.wires.get(number) {
-            Some(wire) => contains(wire.lock(&self.rt).text.as_slice(), part),
+            Some(wire) => contains(wire.lock(&self.rt).text.as_slice(), part.as_bytes()),
             None => false,
         }
     }
@@ -104,10 +96,9 @@ impl<R: Wait + Drop> Board<R> {
     }
 
     /// Tells what a wire was written, if something else is wanted.
-    pub fn compare(&self, number: usize, wanted: &[u8], told: &mut Wording) {
-        match self.wires.get(number) {
-            Some(wire) => tell_otherwise(wanted, wire.lock(&self.rt).text.as_slice(), told),
-            None => tell_otherwise(wanted, b"", told),
+    pub fn compare(&self, number: usize, wanted: &str, told: &mut Wording) {
+        if let Some(wire) = self.wires.get(number) {
+            tell_otherwise(wanted, wire.lock(&self.rt).text.as_slice(), told);
         }
     }
 
@@ -123,20 +114,22 @@ impl<R: Wait + Drop> Board<R> {
 }
 
 impl<R: Wait + Drop + std::time::Clock> Board<R> {
-    /// Waits for all signs, and answers whether they came in time.
-    pub fn all_come(&self, signs: &[Sign]) -> bool {
-        for sign in signs {
-            if !self.comes(sign) {
+    /// Waits for the signs behind each line's first word, and answers whether all came in time.
+    pub fn all_come(&self, lines: &str, word: &str) -> bool {
+        for line in lines.lines() {
+            let (first, sign) = split(line);
+            if first == word && !self.comes(sign) {
                 return false;
             }
         }
         true
     }
 
-    // Waits for one.
-    fn comes(&self, sign: &Sign) -> bool {
+    /// Waits for a sign: the number of a wire, and a text that it is to be written.
+    pub fn comes(&self, sign: &str) -> bool {
+        let (wire, text) = split(sign);
         for _ in 0..LOOKS {
-            if self.has(sign.number, sign.text.as_slice()) {
+            if self.has(number(wire) as usize, text) {
                 return true;
             }
             thread::sleep(&self.rt, Duration::from_millis(1));
@@ -157,6 +150,29 @@ impl<R: Wait + Drop + std::time::Clock> Board<R> {
         }
         0
     }
+}
+
+// The connections that the mirror of a case dials.
+fn dials_of(alloc: Global, case: &str) -> Result<Vec<usize>, AllocError> {
+    let mut dials = Vec::new(alloc);
+    for line in case.lines() {
+        if let Some(connection) = line.strip_prefix("dials ") {
+            dials.push(number(connection) as usize)?;
+        }
+    }
+    Ok(dials)
+}
+
+// The wires with the numbers from 0 up to this one.
+fn wires_up_to(alloc: Global, most: usize) -> Result<Vec<Mutex<Wire>>, AllocError> {
+    let mut wires = Vec::new(alloc);
+    for _ in 0..most.saturating_add(1) {
+        wires.push(Mutex::new(Wire {
+            text: Vec::new(alloc),
+            is_cut: false,
+        }))?;
+    }
+    Ok(wires)
 }
 
 // Whether a text contains another one.
@@ -180,21 +196,9 @@ pub fn copy_from(text: &[u8], at: usize, most: usize, buf: &mut [u8]) -> usize
 }
 
 /// Tells both texts, if they differ.
-pub fn tell_otherwise(wanted: &[u8], text: &[u8], told: &mut Wording) {
-    if wanted != text {
-        tell_text("    wanted: ", wanted, told);
-        tell_text("    is:     ", text, told);
+pub fn tell_otherwise(wanted: &str, text: &[u8], told: &mut Wording) {
+    if wanted.as_bytes() != text {
+        let text = str::from_utf8(text).unwrap_or("(no UTF-8)");
+        told.show(&format_args!("    wanted: {wanted}\n    is:     {text}\n"));
     }
-}
-
-fn tell_text(name: &str, text: &[u8], told: &mut Wording) {
-    let text = str::from_utf8(text).unwrap_or("(no UTF-8)");
-    told.show(&format_args!("{name}{text}\n"));
-}
-
-/// A text that a wire is to be written.
-#[derive(Drop)]
-pub struct Sign {
-    pub number: usize,
-    pub text: Vec<u8>,
 }

@@ -1,17 +1,22 @@
 //! The ends of connections in memory, each of which others may see: a source may wait until another connection was
 //! written some text, and a clock shows a late time once its own was.
 
-ghost use Rattle.std.specs.Prelude.{◌≡◌, ◌≤◌, length, None, ⊤};
+ghost use Rattle.std.specs.Prelude.{◌≡◌, ◌≤◌, length, None, IfOk, ⊤};
 
 use crate::board::{Board, copy_from};
-use crate::case::{Input, Output, Plan, Times};
+use crate::case::{number_in, tell_bytes, words_of};
 use bells::{Bell, NO_PEER, Rung};
+use case_rows::{Wording, number, split};
 use edge_io::{Clock, Failed, Listener, Reading, Sink, Source};
+use kube_meta::Memory;
 use std::alloc::Global;
 use std::collections::VecDeque;
 use std::sync::{Arc, Wait};
 use std::thread;
 use std::time::Duration;
+
+/// More bytes than a connection has.
+const UNCUT: u64 = 1 << 62;
 
 /// How often a clock looks whether it is late.
 const TURNS: u64 = 1_000;
@@ -28,7 +33,8 @@ const LATE_MS: u64 = 1_000_000_000;
 pub struct CaseSource<'a, R> {
     board: &'a Board<R>,
     wire: Option<usize>,
-    input: Input,
+    lines: &'a str,
+    text: String,
     at: usize,
     faults: u64,
 }
@@ -51,22 +57,27 @@ impl<'a, R: Wait + Drop + std::time::Clock> Source for CaseSource<'a, R> {
     ghost faults = { λ source. source.faults };
 
     fn read(&mut self, buf: &mut [u8]) -> Result<usize, Failed> {
-        if self.at == 0 && !self.board.all_come(self.input.waits.as_slice()) {
-            self.at = self.input.bytes.len();
+        if self.at == 0 && !self.board.all_come(self.lines, "waits") {
+            self.at = self.text.len();
             self.wire = None;
         }
         if let Some(wire) = self.wire {
             return Ok(self.read_wire(wire, buf));
         }
-        if self.at as u64 >= self.input.breaks {
+        let end = number_in(self.lines, "reads", UNCUT);
+        if self.at as u64 >= end {
             self.faults = self.faults.saturating_add(1);
             return Err(Failed);
         }
-        if self.at >= self.input.bytes.len() {
-            self.board.all_come(self.input.lasts.as_slice());
+        if self.at >= self.text.len() {
+            self.board.all_come(self.lines, "lasts");
         }
-        let most = room(self.input.breaks, self.at as u64);
-        let n = copy_from(self.input.bytes.as_slice(), self.at, most, buf);
+        let n = copy_from(
+            self.text.as_bytes(),
+            self.at,
+            room(end, self.at as u64),
+            buf,
+        );
         self.at = self.at.saturating_add(n);
         Ok(n)
     }
@@ -82,25 +93,30 @@ fn room(end: u64, at: u64) -> usize {
 pub struct CaseSink<'a, R> {
     board: &'a Board<R>,
     number: usize,
-    output: Output,
+    lines: &'a str,
     taken: u64,
     faults: u64,
 }
 
 impl<'a, R: Wait + Drop + std::time::Clock> CaseSink<'a, R> {
-    // How many of so many bytes are taken; where a sign doesn't come in time none are.
+    // How many of so many bytes are taken: those up to where the connection is cut, and behind the place at which it
+    // holds none where a sign doesn't come in time.
     fn taken_of(&self, count: usize) -> usize
         ensures { result ≤ count }
     {
-        let count = count.min(room(self.output.breaks, self.taken));
-        if self.taken < self.output.holds_at {
-            return count.min(room(self.output.holds_at, self.taken));
+        let count = count.min(room(number_in(self.lines, "writes", UNCUT), self.taken));
+        let Some(words) = words_of(self.lines, "holds") else {
+            return count;
+        };
+        let (at, sign) = split(words);
+        let at = number(at);
+        if self.taken < at {
+            return count.min(room(at, self.taken));
         }
-        if self.board.all_come(self.output.holds.as_slice()) {
-            count
-        } else {
-            0
+        if self.board.comes(sign) {
+            return count;
         }
+        0
     }
 }
 
@@ -135,15 +151,19 @@ impl<'a, R: Wait + Drop + std::time::Clock> Sink for CaseSink<'a, R> {
 pub struct CaseClock<'a, R> {
     board: &'a Board<R>,
     number: usize,
-    times: Times,
+    lines: &'a str,
     bell: Option<Arc<Bell, Global>>,
     turns: u64,
     last: u64,
 }
 
 impl<'a, R: Wait + Drop> CaseClock<'a, R> {
-    fn has(&self, text: &[u8]) -> bool {
-        !text.is_empty() && self.board.has(self.number, text)
+    // Whether the connection was written the text behind a word, if there is one.
+    fn has(&self, word: &str) -> bool {
+        match words_of(self.lines, word) {
+            Some(text) => self.board.has(self.number, text),
+            None => false,
+        }
     }
 }
 
@@ -154,15 +174,15 @@ impl<'a, R: Wait + Drop + std::time::Clock> Clock for CaseClock<'a, R> {
 
     fn now(&mut self) -> Reading {
         self.turns = self.turns.saturating_add(1);
-        if self.has(self.times.minute.as_slice()) {
+        if self.has("minute") {
             self.last = self.last.max(MINUTE_MS);
         }
-        if self.turns > TURNS || self.has(self.times.late.as_slice()) {
+        if self.turns > TURNS || self.has("late") {
             self.last = self.last.max(LATE_MS);
         }
         Reading {
             ms: self.last,
-            stop: self.has(self.times.stop.as_slice()),
+            stop: self.has("stop"),
         }
     }
 
@@ -205,64 +225,99 @@ impl Clock for StillClock {
     fn rest(&mut self) {}
 }
 
-/// The ends of a connection, and its clock.
-pub type CaseEnds<'a, R> = (CaseSource<'a, R>, CaseSink<'a, R>, CaseClock<'a, R>);
-
-/// The ends of a connection, which reads what a wire is written, if one is named.
-pub fn ends_of<'a, R>(board: &'a Board<R>, plan: Plan, wire: Option<usize>) -> CaseEnds<'a, R> {
+/// The ends of the connection of a number, by its lines. It reads what a wire is written, if one is named.
+pub fn ends_of<'a, R>(
+    alloc: Global,
+    board: &'a Board<R>,
+    number: usize,
+    lines: &'a str,
+    wire: Option<usize>,
+) -> Result<(CaseSource<'a, R>, CaseSink<'a, R>), Memory> {
+    let mut text = Wording::new(alloc);
+    tell_bytes(alloc, lines, "bytes", &mut text)?;
     let source = CaseSource {
         board,
         wire,
-        input: plan.input,
+        lines,
+        text: text.whole()?,
         at: 0,
         faults: 0,
     };
     let sink = CaseSink {
         board,
-        number: plan.number,
-        output: plan.output,
+        number,
+        lines,
         taken: 0,
         faults: 0,
     };
-    let clock = CaseClock {
-        board,
-        number: plan.number,
-        times: plan.times,
-        bell: plan.bell,
-        turns: 0,
-        last: 0,
-    };
-    (source, sink, clock)
+    Ok((source, sink))
 }
+
+/// The ends of a connection, and its clock.
+type CaseEnds<'a, R> = (CaseSource<'a, R>, CaseSink<'a, R>, CaseClock<'a, R>);
 
 /// A listener that hands out connections, the first one first, and may fail in between.
 #[derive(Drop)]
 pub struct CaseListener<'a, R> {
+    alloc: Global,
     board: &'a Board<R>,
-    waiting: VecDeque<Plan>,
-    fails: Option<u64>,
+    waiting: VecDeque<&'a str>,
+    fails: u64,
     given: u64,
     /// How often accepting failed.
     pub faults: u64,
 }
 
 impl<'a, R> CaseListener<'a, R> {
-    /// A listener of these connections. Where `fails` is a number, accepting fails once so many were given.
+    /// A listener of the connections of a server, at which accepting may fail once so many were given.
     pub fn new(
+        alloc: Global,
         board: &'a Board<R>,
-        waiting: VecDeque<Plan>,
-        fails: Option<u64>,
-    ) -> CaseListener<'a, R>
-        ensures given { result.given ≡ 0 }
-        ensures faults { result.faults ≡ 0 }
+        server: &'a str,
+    ) -> Result<CaseListener<'a, R>, Memory>
+        ensures given { IfOk result (λ listener. listener.given ≡ 0) }
+        ensures faults { IfOk result (λ listener. listener.faults ≡ 0) }
     {
-        CaseListener {
+        let mut waiting = VecDeque::new(alloc);
+        for connection in server.split("\nconnection ").skip(1) {
+            waiting.push_back(connection)?;
+        }
+        Ok(CaseListener {
+            alloc,
             board,
             waiting,
-            fails,
+            fails: number_in(server, "fails", UNCUT),
             given: 0,
             faults: 0,
-        }
+        })
+    }
+}
+
+impl<'a, R: Wait + Drop> CaseListener<'a, R> {
+    // The ends of a connection, whose first line is its number.
+    fn ends(&self, connection: &'a str) -> Result<CaseEnds<'a, R>, Memory> {
+        let (name, lines) = connection.split_once('\n').unwrap_or((connection, ""));
+        let number = number(name) as usize;
+        let wire = self.board.asked_on(number);
+        let bell = bell_of(self.alloc, lines)?;
+        let (source, sink) = ends_of(self.alloc, self.board, number, lines, wire)?;
+        let clock = CaseClock {
+            board: self.board,
+            number,
+            lines,
+            bell,
+            turns: 0,
+            last: 0,
+        };
+        Ok((source, sink, clock))
+    }
+}
+
+// The bell of a connection's clock, if it has one.
+fn bell_of(alloc: Global, lines: &str) -> Result<Option<Arc<Bell, Global>>, Memory> {
+    match words_of(lines, "bell") {
+        Some(_) => Ok(Some(Arc::new(alloc, Bell::new())?)),
+        None => Ok(None),
     }
 }
 
@@ -282,17 +337,22 @@ impl<'a, R: Wait + Drop + std::time::Clock + Send + Sync> Listener for CaseListe
     ghost over = { λ listener. listener.waiting.items ≡ [] };
 
     fn accept(&mut self) -> Result<Option<CaseEnds<'a, R>>, Failed> {
-        if self.fails == Some(self.given) {
+        if self.fails == self.given {
             self.faults += 1;
             return Err(Failed);
         }
-        match self.waiting.pop_front() {
-            Some(plan) => {
+        let Some(connection) = self.waiting.pop_front() else {
+            return Ok(None);
+        };
+        match self.ends(connection) {
+            Ok(ends) => {
                 self.given += 1;
-                let wire = self.board.asked_on(plan.number);
-                Ok(Some(ends_of(self.board, plan, wire)))
+                Ok(Some(ends))
             }
-            None => Ok(None),
+            Err(_) => {
+                self.faults += 1;
+                Err(Failed)
+            }
         }
     }
 }

@@ -11,8 +11,8 @@ mod ends;
 mod mirroring;
 mod serving;
 
-use case::Case;
-use case_rows::{Tally, Wording, says_nothing};
+use case::tell_unknown;
+use case_rows::{Tally, Wording};
 use serving::{Host, serve_case};
 use std::alloc::{AllocError, Global};
 use std::rt::Runtime;
@@ -37,58 +37,32 @@ fn run_file<R: Runtime + Host>(
     text: &str,
     tally: &mut Tally,
 ) -> io::Result<()> {
-    let (front, cases) = text.split_once("\ncase ").unwrap_or((text, ""));
-    if !is_silent(front) {
-        println!(rt; "before the first case: {front}")?;
-        tally.count(false);
-    }
-    for case in cases.split("\ncase ") {
+    for case in text.split("\ncase ").skip(1) {
         run_case(rt, alloc, case, tally)?;
     }
     Ok(())
 }
 
-/// Whether no line says anything.
-fn is_silent(text: &str) -> bool {
-    for line in text.lines() {
-        if !says_nothing(line) {
-            return false;
-        }
-    }
-    true
-}
-
-/// Runs a case, whose first line is its name, and counts it. One that comes out otherwise is printed.
+/// Runs a case, whose first line is its name, and counts it. What comes out otherwise is printed.
 fn run_case<R: Runtime + Host>(
     rt: R,
     alloc: Global,
     case: &str,
     tally: &mut Tally,
 ) -> io::Result<()> {
-    let (name, lines) = case.split_once('\n').unwrap_or((case, ""));
-    let others = others_of(rt, alloc, lines)?;
+    let others = others_of(rt, alloc, case)?;
     tally.count(others.is_empty());
-    if !others.is_empty() {
-        println!(rt; "{name}")?;
-        print!(rt; "{others}")?;
+    if others.is_empty() {
+        return Ok(());
     }
-    Ok(())
+    let (name, _) = case.split_once('\n').unwrap_or((case, ""));
+    print!(rt; "{name}\n{others}")
 }
 
-/// What comes out otherwise.
-fn others_of<R: Host>(rt: R, alloc: Global, lines: &str) -> Result<String, AllocError> {
+/// What comes out otherwise in a case; nothing, where all is as it is wanted.
+fn others_of<R: Host>(rt: R, alloc: Global, case: &str) -> Result<String, AllocError> {
     let mut told = Wording::new(alloc);
-    tell_others(rt, alloc, lines, &mut told)?;
+    tell_unknown(case, &mut told);
+    serve_case(rt, alloc, case, &mut told)?;
     told.whole()
-}
-
-fn tell_others<R: Host>(
-    rt: R,
-    alloc: Global,
-    lines: &str,
-    told: &mut Wording,
-) -> Result<(), AllocError> {
-    let mut case = Case::new(alloc);
-    case.take_lines(alloc, lines, told)?;
-    serve_case(rt, alloc, case, told)
 }

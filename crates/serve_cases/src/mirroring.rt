@@ -3,7 +3,7 @@
 ghost use Rattle.std.specs.Prelude.{◌≡◌, true};
 
 use crate::board::Board;
-use crate::case::{Plan, ServerPlan};
+use crate::case::number_in;
 use crate::ends::{CaseListener, CaseSink, CaseSource, StillClock, ends_of};
 use crate::serving::{Host, tell_end};
 use case_rows::Wording;
@@ -35,15 +35,15 @@ impl<'a, R: Wait + Drop + std::time::Clock + Send + Sync> Redial for CaseRedial<
     type K = CaseSink<'a, R>;
 
     fn redial(&mut self, _port: u16) -> Result<(CaseSource<'a, R>, CaseSink<'a, R>), Failed> {
-        let dialled = self.board.dials.get(self.at).copied();
-        let plan = Plan::new(self.alloc, self.board.ask_wire(self.at));
+        let dialled = self.board.dials.get(self.at).copied().unwrap_or(0);
+        let wire = self.board.ask_wire(self.at);
         self.at = self.at.saturating_add(1);
-        match dialled {
-            Some(Some(connection)) => {
-                let (source, sink, _) = ends_of(self.board, plan, Some(connection));
-                Ok((source, sink))
-            }
-            _ => Err(Failed),
+        if dialled == 0 {
+            return Err(Failed);
+        }
+        match ends_of(self.alloc, self.board, wire, "", Some(dialled)) {
+            Ok(ends) => Ok(ends),
+            Err(_) => Err(Failed),
         }
     }
 
@@ -65,11 +65,11 @@ impl<'a, R: Wait + Drop + std::time::Clock + Send + Sync> Redial for CaseRedial<
     }
 }
 
-/// Serves by a mirror, if one is named, over the connections that it dials, and answers how that ended.
+/// Serves by a mirror, if there is one, over the connections that it dials, and answers how that ended.
 pub fn serve_mirrored<R: Host>(
     alloc: Global,
     board: &Board<R>,
-    mirror: Option<ServerPlan>,
+    mirror: Option<&str>,
 ) -> Result<String, Memory> {
     let mut told = Wording::new(alloc);
     if let Some(server) = mirror {
@@ -82,7 +82,7 @@ pub fn serve_mirrored<R: Host>(
 fn serve_peer<R: Host>(
     alloc: Global,
     board: &Board<R>,
-    server: ServerPlan,
+    server: &str,
     told: &mut Wording,
 ) -> Result<(), Memory> {
     let mut redial = CaseRedial {
@@ -117,19 +117,20 @@ fn opening_of<R: Host>(
 
 // Serves over a new log that begins with this opening.
 fn serve_opening<'a, R: Host>(
-    server: ServerPlan,
+    server: &str,
     opening: Opening,
     source: &mut CaseSource<'a, R>,
     redial: &mut CaseRedial<'a, R>,
     told: &mut Wording,
 ) -> Result<(), Memory> {
+    let server = String::from_str(redial.alloc, server)?;
     let made = blank(redial.alloc, opening.base())?;
     serve_log::<Brand, R>(made, server, opening, source, redial, told)
 }
 
 fn serve_log<'a, N: LogFacts + Send + Sync, R: Host>(
     made: Blank<Revision>,
-    server: ServerPlan,
+    server: String,
     opening: Opening,
     source: &mut CaseSource<'a, R>,
     redial: &mut CaseRedial<'a, R>,
@@ -143,13 +144,12 @@ fn serve_log<'a, N: LogFacts + Send + Sync, R: Host>(
 {
     let (alloc, board) = (redial.alloc, redial.board);
     let settings = Settings::usual();
+    let listener = CaseListener::new(alloc, board, server.as_str())?;
     let mut mirror = Mirror::<N, R>::new(board.rt, alloc, opening, made, settings.history)?;
     let cacher = Cacher::new(board.rt, alloc, mirror.door()?, &settings)?;
     let mut clock = StillClock;
-    let listener = CaseListener::new(board, server.plans, server.fails);
-    let workers = server.workers.clamp(1, 64);
-    let open = server.open.unwrap_or(0);
-    let connections = server.connections.min(1_000);
+    let workers = number_in(server.as_str(), "workers", 4).clamp(1, 64) as usize;
+    let open = number_in(server.as_str(), "open", 0);
     let served = serve_mirror(
         &board.rt,
         alloc,
@@ -162,7 +162,7 @@ fn serve_log<'a, N: LogFacts + Send + Sync, R: Host>(
         &mut clock,
         workers,
         open,
-        connections,
+        0,
         &settings,
     )?;
     tell_end(&served, told);

@@ -4,17 +4,16 @@ ghost use Rattle.std.specs.Prelude.{◌≡◌, [], false};
 ghost use Rattle.up_api.specs.Settings.{AreInRange};
 
 use crate::board::{Board, tell_otherwise};
-use crate::case::{Case, ServerPlan, Wanted, Whose};
+use crate::case::{number_in, tell_bytes, tell_words, words_of};
 use crate::ends::{CaseListener, StillClock};
 use crate::mirroring::serve_mirrored;
-use case_rows::Wording;
+use case_rows::{Wording, number};
 use kube_meta::Memory;
 use net_front::{Served, serve_all, serve_open};
 use rev_front::{Blank, blank};
 use rev_log::Revision;
 use shared_client::Cacher;
 use std::alloc::Global;
-use std::collections::VecDeque;
 use std::io::Eprint;
 use std::marker::Brand;
 use std::sync::Wait;
@@ -31,37 +30,66 @@ impl<R: Wait + Threads + std::time::Clock + Eprint + Copy + Send + Sync + Drop> 
 pub fn serve_case<R: Host>(
     rt: R,
     alloc: Global,
-    case: Case,
+    case: &str,
     told: &mut Wording,
 ) -> Result<(), Memory> {
-    let connections = case.wanted.texts.len();
-    let board = Board::new(rt, alloc, connections, case.dials)?;
-    let ends = serve_both(alloc, &board, case.servers)?;
-    tell_outcome(&board, &case.wanted, ends.as_bytes(), told);
+    let board = Board::new(rt, alloc, case)?;
+    serve_on(alloc, &board, case, told)
+}
+
+// The same on a board on which nothing was written.
+fn serve_on<R: Host>(
+    alloc: Global,
+    board: &Board<R>,
+    case: &str,
+    told: &mut Wording,
+) -> Result<(), Memory> {
+    let ends = serve_both(alloc, board, case)?;
+    tell_outcome(alloc, board, case, ends.as_str(), told)
+}
+
+// Tells what came out otherwise: of what the mirror says, of what connections get back, and of how the servers end.
+fn tell_outcome<R: Host>(
+    alloc: Global,
+    board: &Board<R>,
+    case: &str,
+    ends: &str,
+    told: &mut Wording,
+) -> Result<(), Memory> {
+    let mut wanted = Wording::new(alloc);
+    tell_words(case, "says", &mut wanted);
+    board.compare(0, wanted.whole()?.as_str(), told);
+    for connection in case.split("\nconnection ").skip(1) {
+        tell_connection(alloc, board, connection, told)?;
+    }
+    let mut wanted = Wording::new(alloc);
+    tell_words(case, "end", &mut wanted);
+    tell_otherwise(wanted.whole()?.as_str(), ends.as_bytes(), told);
     Ok(())
 }
 
-// Tells what came out otherwise.
-fn tell_outcome<R: Host>(board: &Board<R>, wanted: &Wanted, ends: &[u8], told: &mut Wording) {
-    board.compare(0, wanted.news.as_slice(), told);
-    let mut number: usize = 0;
-    for text in wanted.texts.iter() {
-        number = number.saturating_add(1);
-        board.compare(number, text.as_slice(), told);
-    }
-    tell_otherwise(wanted.ends.as_slice(), ends, told);
+// Tells what a connection got back, if something else is wanted.
+fn tell_connection<R: Host>(
+    alloc: Global,
+    board: &Board<R>,
+    connection: &str,
+    told: &mut Wording,
+) -> Result<(), Memory> {
+    let (name, lines) = connection.split_once('\n').unwrap_or((connection, ""));
+    let mut wanted = Wording::new(alloc);
+    tell_bytes(alloc, lines, "wants", &mut wanted)?;
+    board.compare(number(name) as usize, wanted.whole()?.as_str(), told);
+    Ok(())
 }
 
 // Serves by all servers, one after the other, and by the mirror's beside them, which is the last one. Answers how they
 // ended.
-fn serve_both<R: Host>(
-    alloc: Global,
-    board: &Board<R>,
-    servers: VecDeque<ServerPlan>,
-) -> Result<String, Memory> {
-    let mut servers = servers;
-    let mirror = mirror_of(&mut servers);
-    let serving = || serve_in_turn(alloc, board, servers);
+fn serve_both<R: Host>(alloc: Global, board: &Board<R>, case: &str) -> Result<String, Memory> {
+    let (own, mirror) = match case.split_once("\nserver mirror") {
+        Some((own, mirror)) => (own, Some(mirror)),
+        None => (case, None),
+    };
+    let serving = || serve_in_turn(alloc, board, own);
     let mirroring = || serve_mirrored(alloc, board, mirror);
     let (served, mirrored) = thread::join(&board.rt, serving, mirroring);
     let mut ends = served?;
@@ -69,48 +97,23 @@ fn serve_both<R: Host>(
     Ok(ends)
 }
 
-// Takes the mirror's server, if there is one.
-fn mirror_of(servers: &mut VecDeque<ServerPlan>) -> Option<ServerPlan> {
-    match servers.back() {
-        Some(server) if server.whose == Whose::Mirror => servers.pop_back(),
-        _ => None,
-    }
-}
-
 // Serves by these servers, one after the other, and answers how they ended.
-fn serve_in_turn<R: Host>(
-    alloc: Global,
-    board: &Board<R>,
-    servers: VecDeque<ServerPlan>,
-) -> Result<String, Memory> {
+fn serve_in_turn<R: Host>(alloc: Global, board: &Board<R>, lines: &str) -> Result<String, Memory> {
     let mut told = Wording::new(alloc);
-    serve_logs(alloc, board, servers, &mut told)?;
+    for servers in lines.split("\nserver anew") {
+        serve_new(alloc, board, servers, &mut told)?;
+    }
     told.whole()
 }
 
-// Serves over one new log after the other.
-fn serve_logs<R: Host>(
-    alloc: Global,
-    board: &Board<R>,
-    servers: VecDeque<ServerPlan>,
-    told: &mut Wording,
-) -> Result<(), Memory> {
-    let mut servers = servers;
-    for _ in 0..servers.len() {
-        if !servers.is_empty() {
-            serve_new(alloc, board, &mut servers, told)?;
-        }
-    }
-    Ok(())
-}
-
-// Serves by the first server, of a new log, and by those of the same log behind it.
+// Serves by servers of a new log, one after the other.
 fn serve_new<R: Host>(
     alloc: Global,
     board: &Board<R>,
-    servers: &mut VecDeque<ServerPlan>,
+    servers: &str,
     told: &mut Wording,
 ) -> Result<(), Memory> {
+    let servers = String::from_str(alloc, servers)?;
     let made = blank(alloc, 1)?;
     serve_log::<Brand, R>(alloc, board, made, servers, told)
 }
@@ -119,7 +122,7 @@ fn serve_log<N: LogFacts + Send + Sync, R: Host>(
     alloc: Global,
     board: &Board<R>,
     made: Blank<Revision>,
-    servers: &mut VecDeque<ServerPlan>,
+    servers: String,
     told: &mut Wording,
 ) -> Result<(), Memory>
     requires name { made ≡ N.log }
@@ -129,15 +132,8 @@ fn serve_log<N: LogFacts + Send + Sync, R: Host>(
 {
     let store: Store<N> = Store::new(alloc, made, Settings::usual().history)?;
     let door = StoreDoor::new(board.rt, store)?;
-    for _ in 0..servers.len() {
-        let Some(server) = servers.pop_front() else {
-            return Ok(());
-        };
+    for server in servers.as_str().split("\nserver again") {
         serve_over(alloc, board, &door, server, told)?;
-        match servers.front() {
-            Some(next) if next.whose == Whose::Same => {}
-            _ => return Ok(()),
-        }
     }
     Ok(())
 }
@@ -147,7 +143,7 @@ fn serve_over<N: LogFacts + Send + Sync, R: Host>(
     alloc: Global,
     board: &Board<R>,
     door: &StoreDoor<N, R>,
-    server: ServerPlan,
+    server: &str,
     told: &mut Wording,
 ) -> Result<(), Memory>
     requires window { N.window ≡ 100 }
@@ -161,7 +157,7 @@ fn serve_over<N: LogFacts + Send + Sync, R: Host>(
 fn serve<N: LogFacts + Send + Sync, R: Host>(
     alloc: Global,
     board: &Board<R>,
-    server: ServerPlan,
+    server: &str,
     cacher: &Cacher<N, R>,
     settings: &Settings,
     told: &mut Wording,
@@ -169,10 +165,10 @@ fn serve<N: LogFacts + Send + Sync, R: Host>(
     requires settings { AreInRange settings.now }
 {
     let mut clock = StillClock;
-    let listener = CaseListener::new(board, server.plans, server.fails);
-    let workers = server.workers.clamp(1, 64);
-    let connections = server.connections.min(1_000);
-    let served = match server.open {
+    let listener = CaseListener::new(alloc, board, server)?;
+    let workers = number_in(server, "workers", 4).clamp(1, 64) as usize;
+    let connections = number_in(server, "connections", 0).min(1_000);
+    let served = match words_of(server, "open") {
         None => serve_all(
             &board.rt,
             alloc,
@@ -190,7 +186,7 @@ fn serve<N: LogFacts + Send + Sync, R: Host>(
             cacher,
             &mut clock,
             workers,
-            open,
+            number(open),
             connections,
             settings,
         ),

@@ -8,14 +8,21 @@
 ghost use Rattle.std.specs.Prelude.{◌≡◌, [], false};
 ghost use Rattle.up_api.specs.Settings.{AreInRange};
 
+mod asks;
+mod caches;
 mod play;
+mod seat;
+mod settings;
+mod steps;
 mod storm;
+mod told;
 
+use caches::{Caches, Followers};
 use case_rows::{Lines, Tally};
-use client_cases::Start;
 use play::Stage;
 use rev_front::{Blank, blank};
 use rev_log::Revision;
+use settings::settings_of;
 use shared_client::Cacher;
 use std::alloc::Global;
 use std::marker::Brand;
@@ -34,24 +41,24 @@ impl<R: Runtime + Wait + Threads + std::time::Clock + Copy + Send + Sync + Drop>
 fn main(rt: HostRuntime) -> io::Result<()> {
     let mut tally = Tally::new();
     for file in env::args(&rt)?.skip(1) {
-        run_file(rt, rt.alloc(), file.as_str(), &mut tally)?;
+        let text = fs::read_to_string(&rt, file.as_str())?;
+        run_file(rt, rt.alloc(), file.as_str(), text.as_str(), &mut tally)?;
     }
     println!(rt; "{} rows, {} mismatches", tally.rows, tally.mismatches)
 }
 
 /// Runs a script on a new log. Its first line says how all is set.
-fn run_file<R: Host>(rt: R, alloc: Global, file: &str, tally: &mut Tally) -> io::Result<()> {
-    let text = fs::read_to_string(&rt, file)?;
-    let (first, rows) = text
-        .as_str()
-        .split_once('\n')
-        .unwrap_or((text.as_str(), ""));
-    let settings = Start::read(first).settings();
-    let rows = Lines {
-        file,
-        first: 2,
-        text: rows,
-    };
+fn run_file<R: Host>(
+    rt: R,
+    alloc: Global,
+    file: &str,
+    text: &str,
+    tally: &mut Tally,
+) -> io::Result<()> {
+    let (first, text) = text.split_once('\n').unwrap_or((text, ""));
+    let settings = settings_of(first);
+    let first = 2;
+    let rows = Lines { file, first, text };
     run_script::<Brand, R>(rt, alloc, blank(alloc, 1)?, &settings, rows, tally)
 }
 
@@ -88,22 +95,24 @@ fn run_rows_on<N: LogFacts + Send + Sync, R: Host>(
     requires settings { AreInRange settings.now }
 {
     let cacher = Cacher::new(rt, alloc, door.again()?, settings)?;
-    let played = play_rows(rt, alloc, &cacher, door, rows, tally);
+    let followers = Followers {
+        rt,
+        cacher: &cacher,
+        door,
+    };
+    let played = play_rows(rt, alloc, &followers, rows, tally);
     cacher.close();
     played
 }
 
 /// Plays the rows of a script by clients of these caches.
-fn play_rows<N: LogFacts + Send + Sync, R: Host>(
+fn play_rows<M: Caches, R: Host>(
     rt: R,
     alloc: Global,
-    cacher: &Cacher<N, R>,
-    door: &StoreDoor<N, R>,
+    caches: &M,
     rows: Lines<'_>,
     tally: &mut Tally,
 ) -> io::Result<()> {
-    let mut stage = Stage::new(rt, alloc, cacher, door);
-    let played = stage.play(alloc, rows, tally);
-    stage.close();
-    played
+    let mut stage = Stage::new(rt, alloc, caches);
+    stage.play(alloc, rows, tally)
 }

@@ -1,71 +1,275 @@
-//! Storms: writers, watchers and operations at once, over the clients of one log, each in a thread of its own.
+//! A storm: writers, watchers and operations at once, over the clients of one log, each in a thread of its own.
 
-use crate::Host;
-use case_rows::Wording;
+use crate::asks::{list_ask, selected, write_ask};
+use crate::caches::Caches;
+use crate::seat::Seat;
+use crate::told::Told;
+use case_rows::{Draws, Wording, number, split};
 use client_api::Client;
-use client_cases::{
-    Part, Progress, Seat, Storm, WATCHERS, WRITERS, newest_of, outcome, play_part, sum_of,
-};
 use kube_meta::Memory;
+use select_all::{Meaning, Selection};
 use shared_client::Cacher;
 use std::alloc::Global;
 use std::sync::Wait;
+use std::sync::atomic::AtomicU64;
+use std::sync::atomic::Ordering::SeqCst;
 use std::thread::{self, Threads};
+use std::time::Duration;
 use up_api::LogFacts;
+use up_store::{Operate, WriteAsk};
 
-/// What a storm leaves, in words: `right`, or what isn't.
-pub fn weather<N: LogFacts + Send + Sync, R: Host>(
-    rt: R,
+/// How many write. One more makes operations.
+const WRITERS: usize = 8;
+
+/// How many watch.
+const WATCHERS: usize = 64;
+
+/// How many pods are written in turns.
+const PODS: u64 = 40;
+
+/// How many operations are made.
+const OPERATIONS: u64 = 40;
+
+/// How many turns a watcher takes at most, and how often a part looks whether it may go on.
+const TURNS: u64 = 40_000;
+
+/// A storm: the seed of its draws, how many writes each writer asks for, how far it is, and what it came to.
+#[derive(Drop)]
+pub struct Storm {
+    seed: u64,
+    writes: u64,
+    // How many watchers have begun, and how many writers and operators aren't done.
+    begun: AtomicU64,
+    busy: AtomicU64,
+    // How many things were wrong, how many writes were accepted, and how many lines were told.
+    wrongs: AtomicU64,
+    accepted: AtomicU64,
+    lines: AtomicU64,
+}
+
+impl Storm {
+    /// What words say. Nobody has begun, and none is done.
+    pub fn of_words(words: &str) -> Storm {
+        let (seed, writes) = split(words);
+        Storm {
+            seed: number(seed),
+            writes: number(writes),
+            begun: AtomicU64::new(0),
+            busy: AtomicU64::new(WRITERS as u64 + 1),
+            wrongs: AtomicU64::new(0),
+            accepted: AtomicU64::new(0),
+            lines: AtomicU64::new(0),
+        }
+    }
+
+    // What it leaves, having led from one revision to another: `right`, or what isn't.
+    fn tell(&self, first: u64, last: u64, told: &mut Wording) {
+        let (wrongs, accepted) = (self.wrongs.load(SeqCst), self.accepted.load(SeqCst));
+        if wrongs > 0 {
+            told.show(&format_args!("{wrongs} things went wrong"));
+        } else if last != first.saturating_add(accepted) {
+            told.show(&format_args!("{accepted} writes accepted, from {first} to {last}"));
+        } else if accepted == 0 || self.lines.load(SeqCst) == 0 {
+            told.add("little was done");
+        } else {
+            told.add("right");
+        }
+    }
+}
+
+/// Plays a storm, and tells what it leaves: `right`, or what isn't.
+pub fn weather<M: Caches>(
     alloc: Global,
-    cacher: &Cacher<N, R>,
-    storm: Storm,
+    caches: &M,
+    storm: &Storm,
     told: &mut Wording,
 ) -> Result<(), Memory> {
-    let first = newest(alloc, cacher.client()?)?;
-    let sum = rage(&rt, alloc, cacher, storm)?;
-    let last = newest(alloc, cacher.client()?)?;
-    outcome(first, last, sum, told);
+    let first = newest(alloc, caches.client()?)?;
+    caches.rage(alloc, storm)?;
+    let last = newest(alloc, caches.client()?)?;
+    storm.tell(first, last, told);
+    Ok(())
+}
+
+/// Plays all parts of a storm, side by side, each by a client of its own.
+pub fn play_all<
+    N: LogFacts + Send + Sync,
+    R: Threads + Wait + std::time::Clock + Copy + Send + Sync,
+>(rt: &R, alloc: Global, cacher: &Cacher<N, R>, storm: &Storm) -> Result<(), Memory> {
+    let part = |number: usize| play::<N, R>(*rt, alloc, cacher, storm, number);
+    let _ = thread::map_indices(rt, alloc, WRITERS + 1 + WATCHERS, &part)?;
     Ok(())
 }
 
 // The revision that the log has reached, as this client tells, which is let go.
 fn newest<C: Client + Drop>(alloc: Global, client: C) -> Result<u64, Memory> {
-    newest_of(alloc, &mut Seat::new(client))
+    let mut seat = Seat::new(client);
+    let ask = list_ask(alloc, some_selection(alloc, 0)?, Meaning::MostRecent)?;
+    match seat.list(&ask) {
+        Ok(listed) => Ok(listed.rev),
+        Err(_) => Err(Memory),
+    }
 }
 
-// All parts of a storm, side by side.
-fn rage<N: LogFacts + Send + Sync, R: Threads + Wait + std::time::Clock + Copy + Send + Sync>(
-    rt: &R,
-    alloc: Global,
-    cacher: &Cacher<N, R>,
-    storm: Storm,
-) -> Result<Part, Memory> {
-    let progress = Progress::new();
-    let part = |number: usize| play::<N, R>(*rt, alloc, cacher, &progress, storm, number);
-    let parts = thread::map_indices(rt, alloc, WRITERS + 1 + WATCHERS, &part)?;
-    sum_of(parts.as_slice())
-}
-
-// Plays one part of the storm, by a client of its own.
+// Plays one part of a storm, and answers whether there was memory. It is wrong where there was none.
 fn play<N: LogFacts, R: Wait + std::time::Clock + Copy>(
     rt: R,
     alloc: Global,
     cacher: &Cacher<N, R>,
-    progress: &Progress,
-    storm: Storm,
+    storm: &Storm,
     number: usize,
-) -> Result<Part, Memory> {
-    play_by(rt, alloc, cacher.client()?, progress, storm, number)
+) -> bool {
+    let is_played = play_by(rt, alloc, cacher.client(), storm, number).is_ok();
+    if !is_played {
+        storm.wrongs.fetch_add(1, SeqCst);
+    }
+    is_played
 }
 
 // The same with this client, which is let go.
 fn play_by<C: Client + Drop, R: Wait + std::time::Clock + Copy>(
     rt: R,
     alloc: Global,
-    client: C,
-    progress: &Progress,
-    storm: Storm,
+    client: Result<C, Memory>,
+    storm: &Storm,
     number: usize,
-) -> Result<Part, Memory> {
-    play_part(rt, alloc, &mut Seat::new(client), progress, storm, number)
+) -> Result<(), Memory> {
+    let mut seat = Seat::new(client?);
+    let mut draws = Draws::from_seed(storm.seed.wrapping_add(number as u64));
+    if number > WRITERS {
+        let mut told = Told::new(alloc, some_selection(alloc, number)?);
+        return follow(rt, &mut seat, &mut draws, (storm, number), &mut told);
+    }
+    wait_until(rt, &storm.begun, WATCHERS as u64);
+    let played = if number == WRITERS {
+        operate(rt, &mut seat, &mut draws, storm.writes);
+        Ok(())
+    } else {
+        write(rt, alloc, &mut seat, &mut draws, storm)
+    };
+    storm.busy.fetch_sub(1, SeqCst);
+    played
+}
+
+// Asks for writes, and counts those that are accepted. None is older than the one before.
+fn write<C: Client, R: Wait + std::time::Clock + Copy>(
+    rt: R,
+    alloc: Global,
+    seat: &mut Seat<C>,
+    draws: &mut Draws,
+    storm: &Storm,
+) -> Result<(), Memory> {
+    let mut last = 0u64;
+    for _ in 0..storm.writes {
+        if let Ok(written) = seat.write(&some_write(alloc, draws)?) {
+            let wrongs = if last < written.rev { 0 } else { 1 };
+            storm.wrongs.fetch_add(wrongs, SeqCst);
+            storm.accepted.fetch_add(1, SeqCst);
+            last = written.rev;
+        }
+        doze(rt, draws.below(3));
+    }
+    Ok(())
+}
+
+// A write of some pod: it is created, replaced or removed, as is drawn.
+fn some_write(alloc: Global, draws: &mut Draws) -> Result<WriteAsk, Memory> {
+    let number = draws.below(PODS);
+    let app = match draws.below(4) {
+        0 => "a",
+        1 => "b",
+        2 => "c",
+        _ => "",
+    };
+    let verb = match draws.below(5) {
+        0 | 1 => "create",
+        2 | 3 => "replace",
+        _ => "remove",
+    };
+    let name = format!(in alloc; "p-{number}")?;
+    write_ask(alloc, verb, name.as_str(), app, "")
+}
+
+// One of eight selections of pods.
+fn some_selection(alloc: Global, number: usize) -> Result<Selection, Memory> {
+    let labels = match number % 8 {
+        0 => "",
+        1 => "app=a",
+        2 => "app!=a",
+        3 => "app in (a,b)",
+        4 => "!app",
+        5 => "app notin (b,c)",
+        6 => "app",
+        _ => "app=c",
+    };
+    selected(alloc, labels, "").ok_or(Memory)
+}
+
+// Cuts, compacts and restarts. A compaction that is refused changes nothing.
+fn operate<C: Client, R: Wait + std::time::Clock + Copy>(
+    rt: R,
+    seat: &mut Seat<C>,
+    draws: &mut Draws,
+    writes: u64,
+) {
+    for _ in 0..OPERATIONS {
+        doze(rt, draws.below(20));
+        let ask = match draws.below(4) {
+            0 => Operate::Cut,
+            1 => Operate::Restart,
+            _ => Operate::Compact {
+                at: draws.below(writes.max(1)).saturating_mul(WRITERS as u64),
+            },
+        };
+        let _ = seat.operate(ask);
+    }
+}
+
+// Watches until nobody is busy and all is told, and compares with lists by chance, and at the end. Each ninth watcher
+// doesn't read until nobody is busy.
+fn follow<C: Client, R: Wait + std::time::Clock + Copy>(
+    rt: R,
+    seat: &mut Seat<C>,
+    draws: &mut Draws,
+    place: (&Storm, usize),
+    told: &mut Told,
+) -> Result<(), Memory> {
+    let (storm, number) = place;
+    told.begin(seat)?;
+    storm.begun.fetch_add(1, SeqCst);
+    if number % 9 == 0 {
+        wait_until(rt, &storm.busy, 0);
+    }
+    for _ in 0..TURNS {
+        let is_last = storm.busy.load(SeqCst) == 0;
+        if told.turn(seat)? {
+            if is_last {
+                break;
+            }
+            if draws.below(8) == 0 {
+                told.compare(seat)?;
+            }
+            doze(rt, 1);
+        }
+    }
+    let is_listed = told.compare(seat)?;
+    told.expect(is_listed);
+    storm.wrongs.fetch_add(told.wrongs, SeqCst);
+    storm.lines.fetch_add(told.lines, SeqCst);
+    Ok(())
+}
+
+// Waits until a count is this one.
+fn wait_until<R: Wait + std::time::Clock + Copy>(rt: R, count: &AtomicU64, wanted: u64) {
+    for _ in 0..TURNS {
+        if count.load(SeqCst) == wanted {
+            return;
+        }
+        doze(rt, 1);
+    }
+}
+
+// Sleeps for so many milliseconds.
+fn doze<R: Wait + std::time::Clock + Copy>(rt: R, ms: u64) {
+    thread::sleep(&rt, Duration::from_millis(ms));
 }

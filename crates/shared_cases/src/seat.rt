@@ -5,7 +5,6 @@ ghost use Rattle.std.specs.Prelude.{◌≤◌, IsSome, IsTrue};
 use client_api::{Begun, Client, Got, ListNo, Listed, Took};
 use kube_meta::Memory;
 use list_rules::{GetAsk, ListAsk};
-use metrics::Metrics;
 use up_store::{OpNo, Operate, WriteAsk, WriteNo, Written};
 use watch_rules::WatchAsk;
 
@@ -44,16 +43,6 @@ impl<C: Client> Seat<C> {
     /// Does an operation.
     pub fn operate(&mut self, ask: Operate) -> Result<u64, OpNo> {
         self.client.operate(ask)
-    }
-
-    /// What a monitor is told.
-    pub fn metrics(&mut self) -> Result<Metrics, Memory> {
-        self.client.metrics()
-    }
-
-    /// Is told a time.
-    pub fn tick(&mut self, ms: u64) {
-        self.client.tick(ms);
     }
 
     /// Begins a watch. One that stands ends first.

@@ -66,8 +66,7 @@ impl Told {
         for shown in begun.initial.as_slice() {
             self.put(shown)?;
         }
-        self.expect(self.at <= begun.at);
-        self.at = begun.at;
+        self.move_to(begun.at);
         Ok(())
     }
 
@@ -88,12 +87,14 @@ impl Told {
         match took {
             Some(Took::Events { from, upto, lines }) => {
                 self.expect(*from == self.at);
-                self.take_lines(*upto, lines.as_slice())?;
+                for line in lines.as_slice() {
+                    self.take_line(line)?;
+                }
+                self.move_to(*upto);
                 Ok(Turn::Told)
             }
             Some(Took::Quiet { upto, .. }) => {
-                self.expect(self.at <= *upto);
-                self.at = *upto;
+                self.move_to(*upto);
                 Ok(Turn::Quiet)
             }
             Some(Took::Lost { at, floor }) => {
@@ -107,14 +108,10 @@ impl Told {
         }
     }
 
-    // Takes in the lines up to a revision: it isn't below the last one's.
-    fn take_lines(&mut self, upto: u64, lines: &[Line]) -> Result<(), Memory> {
-        for line in lines {
-            self.take_line(line)?;
-        }
-        self.expect(self.at <= upto);
-        self.at = upto;
-        Ok(())
+    // All is told up to a revision, which isn't below the last one.
+    fn move_to(&mut self, at: u64) {
+        self.expect(self.at <= at);
+        self.at = at;
     }
 
     // Takes in a line: revisions rise, what is added wasn't there, and what is changed or deleted was.
@@ -158,14 +155,10 @@ impl Told {
     fn expect_state(&mut self, listed: &Listed) {
         let mut is_right = listed.rev == self.at && listed.items.len() == self.rows.len();
         for shown in listed.items.rows() {
-            is_right = is_right && self.has(shown);
+            let row = shown.row();
+            is_right = is_right && self.rows.get(&row.obj.key) == Some(&row.rev);
         }
         self.expect(is_right);
-    }
-
-    fn has(&self, shown: &Arc<Shown>) -> bool {
-        let row = shown.row();
-        self.rows.get(&row.obj.key) == Some(&row.rev)
     }
 
     /// Counts what isn't as it should be.

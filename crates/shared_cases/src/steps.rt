@@ -1,21 +1,18 @@
-//! What a client answers to a step.
+//! What a client answers to a step, in words.
 
-use crate::asks::{get_ask, list_ask, meaning, of_fields, start, watch_ask};
-use crate::metered::tell_metrics;
-use crate::pods::{creation, removal, replacement};
+use crate::asks::{get_ask, list_ask, meaning, selected, start, watch_ask, write_ask};
 use crate::seat::Seat;
-use crate::texts::{tell_lines, tell_rows};
-use case_rows::{Wording, number, split};
-use client_api::{Begun, Client, Got, ItemRows, ListNo, Listed, Took};
+use case_rows::{Wording, number, split, tell_row};
+use client_api::{Begun, Client, Got, ItemRows, Line, ListNo, Listed, Took};
 use kube_meta::Memory;
 use std::alloc::Global;
-use up_store::{OpNo, Operate, WriteAsk, WriteNo, Written};
+use up_store::{Operate, WriteAsk};
 
 /// The words of a step.
 type Words<'a> = (&'a str, &'a str, &'a str);
 
-/// What is told where the words of a selection are none.
-const NO_SELECTION: &str = "no selection";
+/// Of more objects or lines than this the first and the last are shown.
+const FEW: usize = 10;
 
 /// Tells the answer of a client to a step.
 pub fn answer<C: Client>(
@@ -29,41 +26,33 @@ pub fn answer<C: Client>(
     match verb {
         "create" | "replace" | "remove" => write(alloc, seat, (verb, first, second), told),
         "fill" => fill(alloc, seat, number(first), told),
-        "get" => get(alloc, seat, first, second, told),
+        "get" => get(alloc, seat, (verb, first, second), told),
         "list" | "count" => list(alloc, seat, (verb, first, second), told),
-        "watch" => watch(alloc, seat, first, second, told),
+        "watch" => watch(alloc, seat, (verb, first, second), told),
         "take" => take(seat, number(first), told),
-        "metrics" => metrics(seat, first, told),
-        _ => act(seat, verb, number(first), told),
+        _ => {
+            act(seat, verb, number(first), told);
+            Ok(())
+        }
     }
 }
 
 // The steps that need no memory.
-fn act<C: Client>(
-    seat: &mut Seat<C>,
-    verb: &str,
-    number: u64,
-    told: &mut Wording,
-) -> Result<(), Memory> {
+fn act<C: Client>(seat: &mut Seat<C>, verb: &str, number: u64, told: &mut Wording) {
     match verb {
-        "cut" => tell_operation(seat.operate(Operate::Cut), told),
-        "compact" => tell_operation(seat.operate(Operate::Compact { at: number }), told),
-        "restart" => tell_operation(seat.operate(Operate::Restart), told),
+        "cut" => operate(seat, Operate::Cut, told),
+        "compact" => operate(seat, Operate::Compact { at: number }, told),
+        "restart" => operate(seat, Operate::Restart, told),
         "end" => {
             seat.end_watch();
             told.add("ok");
         }
-        "tick" => {
-            seat.tick(number);
-            told.add("ok");
-        }
         _ => told.add("no such step"),
     }
-    Ok(())
 }
 
-fn tell_operation(operated: Result<u64, OpNo>, told: &mut Wording) {
-    match operated {
+fn operate<C: Client>(seat: &mut Seat<C>, ask: Operate, told: &mut Wording) {
+    match seat.operate(ask) {
         Ok(number) => told.show(&number),
         Err(no) => told.debug(&no),
     }
@@ -75,23 +64,15 @@ fn write<C: Client>(
     words: Words<'_>,
     told: &mut Wording,
 ) -> Result<(), Memory> {
-    tell_write(&seat.write(&write_ask(alloc, words)?), told);
+    let (verb, name, node) = words;
+    tell_write(seat, &write_ask(alloc, verb, name, "", node)?, told);
     Ok(())
 }
 
-fn write_ask(alloc: Global, words: Words<'_>) -> Result<WriteAsk, Memory> {
-    let (verb, name, node) = words;
-    match verb {
-        "create" => creation(alloc, name, "", node),
-        "replace" => replacement(alloc, name, "", node),
-        _ => removal(alloc, name),
-    }
-}
-
-fn tell_write(written: &Result<Written, WriteNo>, told: &mut Wording) {
-    match written {
+fn tell_write<C: Client>(seat: &mut Seat<C>, ask: &WriteAsk, told: &mut Wording) {
+    match seat.write(ask) {
         Ok(written) => told.show(&written.rev),
-        Err(no) => told.debug(no),
+        Err(no) => told.debug(&no),
     }
 }
 
@@ -109,25 +90,22 @@ fn fill<C: Client>(
     create_and_list(alloc, seat, pods, told)
 }
 
+// Creates the pod with this number, which is bound to a node by it.
 fn create_and_list<C: Client>(
     alloc: Global,
     seat: &mut Seat<C>,
     number: u64,
     told: &mut Wording,
 ) -> Result<(), Memory> {
-    tell_write(&seat.write(&numbered(alloc, number)?), told);
-    list(
+    let name = format!(in alloc; "p-{number}")?;
+    write(
         alloc,
         seat,
-        ("count", "newest", ""),
-        &mut Wording::new(alloc),
-    )
-}
-
-// The creation of a pod with this number, which is bound to a node by it.
-fn numbered(alloc: Global, number: u64) -> Result<WriteAsk, Memory> {
-    let name = format!(in alloc; "p-{number}")?;
-    creation(alloc, name.as_str(), "", node_of(number))
+        ("create", name.as_str(), node_of(number)),
+        told,
+    )?;
+    let words = ("count", "newest", "");
+    list(alloc, seat, words, &mut Wording::new(alloc))
 }
 
 // The node of a number.
@@ -142,20 +120,17 @@ fn node_of(number: u64) -> &'static str {
 fn get<C: Client>(
     alloc: Global,
     seat: &mut Seat<C>,
-    word: &str,
-    name: &str,
+    words: Words<'_>,
     told: &mut Wording,
 ) -> Result<(), Memory> {
+    let (_, word, name) = words;
     tell_got(&seat.get(&get_ask(alloc, word, name)?), told);
     Ok(())
 }
 
 fn tell_got(got: &Result<Got, ListNo>, told: &mut Wording) {
     match got {
-        Ok(got) => {
-            let rev = got.row.row().rev;
-            told.show(&format_args!("at {}: {rev}", got.at));
-        }
+        Ok(got) => told.show(&format_args!("at {}: {}", got.at, got.row.row().rev)),
         Err(no) => told.debug(no),
     }
 }
@@ -168,12 +143,12 @@ fn list<C: Client>(
     told: &mut Wording,
 ) -> Result<(), Memory> {
     let (verb, word, fields) = words;
-    match of_fields(alloc, fields) {
+    match selected(alloc, "", fields) {
         Some(selection) => {
             let ask = list_ask(alloc, selection, meaning(word))?;
             tell_list(&seat.list(&ask), verb == "count", told);
         }
-        None => told.add(NO_SELECTION),
+        None => told.add("no selection"),
     }
     Ok(())
 }
@@ -195,13 +170,13 @@ fn tell_list(listed: &Result<Listed, ListNo>, counts: bool, told: &mut Wording) 
 fn watch<C: Client>(
     alloc: Global,
     seat: &mut Seat<C>,
-    word: &str,
-    fields: &str,
+    words: Words<'_>,
     told: &mut Wording,
 ) -> Result<(), Memory> {
-    match of_fields(alloc, fields) {
+    let (_, word, fields) = words;
+    match selected(alloc, "", fields) {
         Some(selection) => tell_begun(&seat.watch(&watch_ask(selection, start(word))), told),
-        None => told.add(NO_SELECTION),
+        None => told.add("no selection"),
     }
     Ok(())
 }
@@ -241,11 +216,44 @@ fn tell_turn(took: &Option<Took>, told: &mut Wording) {
     }
 }
 
-fn metrics<C: Client>(
-    seat: &mut Seat<C>,
-    resource: &str,
-    told: &mut Wording,
-) -> Result<(), Memory> {
-    tell_metrics(&seat.metrics()?, resource, told);
-    Ok(())
+// Each of so many objects as `[p-1 2]`. Of many the first and the last are shown, and how many there are.
+fn tell_rows(rows: ItemRows<'_>, count: usize, told: &mut Wording) {
+    if count == 0 {
+        told.add("nothing");
+    }
+    let mut number: usize = 0;
+    for shown in rows {
+        if count <= FEW || number == 0 {
+            tell_row(shown.row(), told);
+        }
+        number = number.saturating_add(1);
+        if count > FEW && number == count {
+            told.add("..");
+            tell_row(shown.row(), told);
+            told.show(&format_args!(", {count} in all"));
+        }
+    }
+}
+
+// Each line as `[Added p-1 2]`. Of many the first and the last are shown, and how many there are.
+fn tell_lines(lines: &[Line], told: &mut Wording) {
+    let count = lines.len();
+    for number in 0..count {
+        let is_last = number.saturating_add(1) == count;
+        if count > FEW && is_last {
+            told.add("..");
+        }
+        if count <= FEW || number == 0 || is_last {
+            tell_line(&lines[number], told);
+        }
+    }
+    if count > FEW {
+        told.show(&format_args!(", {count} in all"));
+    }
+}
+
+fn tell_line(line: &Line, told: &mut Wording) {
+    let row = line.shown.row();
+    let name = row.obj.key.name();
+    told.show(&format_args!("[{:?} {name} {}]", line.kind, row.rev));
 }
