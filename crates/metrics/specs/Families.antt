@@ -1,13 +1,16 @@
 -- The families of samples that a monitor is told, by name, meaning and type. What Kubernetes' own server tells too has the
 -- name that it has there.
-use Rattle.std.specs.Prelude.{ℕ, List, [], ◌∷◌, codes}
+use Rattle.std.specs.Prelude.{ℕ, List, [], ◌∷◌, codes, if◌then◌else◌}
 use Rattle.metrics.specs.declared.caches.CacheMetrics.{CacheMetrics}
+use Rattle.metrics.specs.declared.served.Mirrored.{Mirrored}
 use Rattle.metrics.specs.declared.served.Verb.{Verb}
 use Rattle.metrics.specs.declared.served.Verb.TheVariants as verb
 use Rattle.metrics.specs.declared.families.Family.{Family}
 use Rattle.metrics.specs.declared.families.Family.TheVariants as family
 use Rattle.metrics.specs.declared.families.Figure.{Figure}
 use Rattle.metrics.specs.declared.families.Figure.TheVariants as figure
+use Rattle.metrics.specs.declared.families.MirrorFigure.{MirrorFigure}
+use Rattle.metrics.specs.declared.families.MirrorFigure.TheVariants as mirror
 
 -- ---- the figures of a cache
 
@@ -63,6 +66,44 @@ figure_of figure.Behind told = told.behind
 figure_of figure.Rebuilds told = told.rebuilds
 figure_of figure.Cuts told = told.cuts
 
+-- ---- the figures of a mirror
+
+-- all of them, in the order in which they are told
+unfoldable pub all_mirror_figures : List MirrorFigure
+all_mirror_figures = mirror.Following ∷ mirror.Revision ∷ mirror.HeardSeconds ∷ mirror.BeganAnew ∷ mirror.Lines ∷ []
+
+-- the name of the family of a figure
+abbrev pub mirror_name : MirrorFigure → List ℕ
+mirror_name mirror.Following = codes "watchcache_mirror_following"
+mirror_name mirror.Revision = codes "watchcache_mirror_revision"
+mirror_name mirror.HeardSeconds = codes "watchcache_mirror_heard_seconds"
+mirror_name mirror.BeganAnew = codes "watchcache_mirror_began_anew_total"
+mirror_name mirror.Lines = codes "watchcache_mirror_lines_total"
+
+-- what the samples of its family mean
+abbrev pub mirror_help : MirrorFigure → List ℕ
+mirror_help mirror.Following = codes "Whether the mirror follows its peer, by resource."
+mirror_help mirror.Revision = codes "Revision up to which the mirror has heard its peer, by resource."
+mirror_help mirror.HeardSeconds = codes "Seconds since the mirror last heard a line or a whole reply of its peer, by resource."
+mirror_help mirror.BeganAnew = codes "Counter of times the mirror began anew from all that its peer had, by resource."
+mirror_help mirror.Lines = codes "Counter of lines of its peer that the mirror has heard, by resource."
+
+-- the type of its family: a counter never falls while the server runs
+abbrev pub mirror_kind : MirrorFigure → List ℕ
+mirror_kind mirror.Following = codes "gauge"
+mirror_kind mirror.Revision = codes "gauge"
+mirror_kind mirror.HeardSeconds = codes "gauge"
+mirror_kind mirror.BeganAnew = codes "counter"
+mirror_kind mirror.Lines = codes "counter"
+
+-- its value: 1 where the mirror follows its peer, and 0 where it doesn't
+abbrev pub mirror_figure_of : MirrorFigure → Mirrored → ℕ
+mirror_figure_of mirror.Following told = if told.following then 1 else 0
+mirror_figure_of mirror.Revision told = told.revision
+mirror_figure_of mirror.HeardSeconds told = told.heard_seconds
+mirror_figure_of mirror.BeganAnew told = told.began_anew
+mirror_figure_of mirror.Lines told = told.lines
+
 -- ---- all families
 
 -- the name of a family
@@ -74,7 +115,7 @@ family_name (family.OfCaches of_cache) = figure_name of_cache
 family_name family.Connections = codes "watchcache_connections"
 family_name family.Events = codes "watchcache_events_sent_total"
 family_name family.Requests = codes "apiserver_request_total"
-family_name family.Following = codes "watchcache_mirror_following"
+family_name (family.OfMirrors of_mirror) = mirror_name of_mirror
 
 -- what its samples mean
 abbrev pub help_of : Family → List ℕ
@@ -85,7 +126,7 @@ help_of (family.OfCaches of_cache) = figure_help of_cache
 help_of family.Connections = codes "Number of open connections."
 help_of family.Events = codes "Counter of events told to watches."
 help_of family.Requests = codes "Counter of requests, by verb, resource and status code."
-help_of family.Following = codes "Whether the mirror follows its peer."
+help_of (family.OfMirrors of_mirror) = mirror_help of_mirror
 
 -- its type
 abbrev pub family_kind : Family → List ℕ
@@ -96,7 +137,7 @@ family_kind (family.OfCaches of_cache) = figure_kind of_cache
 family_kind family.Connections = codes "gauge"
 family_kind family.Events = codes "counter"
 family_kind family.Requests = codes "counter"
-family_kind family.Following = codes "gauge"
+family_kind (family.OfMirrors of_mirror) = mirror_kind of_mirror
 
 -- ---- requests
 

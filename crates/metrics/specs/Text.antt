@@ -1,19 +1,21 @@
 -- What a monitor is told, as text: families of samples, each behind two lines that say its meaning and its type (version
 -- 0.0.4 of the text format of Prometheus). Lines are joined by line feeds: the one that ends the last line isn't part of
 -- the text. A family that has no samples is left out.
-use Rattle.std.specs.Prelude.{ℕ, ◌==◌, ◌++◌, List, [], ◌∷◌, length, codes, decimal, Option, Some, None, Bool, true, false, if◌then◌else◌}
+use Rattle.std.specs.Prelude.{ℕ, ◌==◌, ◌++◌, List, [], ◌∷◌, length, codes, decimal, Option, Some, None, if◌then◌else◌}
 use Rattle.std.specs.List.{flat_map}
 use Rattle.kube_meta.specs.Resources.{group_of, version_of, plural_of}
 use Rattle.kube_meta.specs.declared.resources.Resource.{Resource}
 use Rattle.kube_meta.specs.declared.resources.Resource.TheVariants.{Pods, ConfigMaps, Deployments}
 use Rattle.metrics.specs.declared.caches.Metrics.{Metrics}
 use Rattle.metrics.specs.declared.caches.CacheMetrics.{CacheMetrics}
+use Rattle.metrics.specs.declared.served.Mirrored.{Mirrored}
 use Rattle.metrics.specs.declared.served.RequestCount.{RequestCount}
 use Rattle.metrics.specs.declared.served.Served.{Served}
-use Rattle.metrics.specs.Families.{family_name, help_of, family_kind, figure_of, all_figures, verb_name}
+use Rattle.metrics.specs.Families.{family_name, help_of, family_kind, figure_of, all_figures, mirror_figure_of, all_mirror_figures, verb_name}
 use Rattle.metrics.specs.declared.families.Family.{Family}
 use Rattle.metrics.specs.declared.families.Family.TheVariants as family
 use Rattle.metrics.specs.declared.families.Figure.{Figure}
+use Rattle.metrics.specs.declared.families.MirrorFigure.{MirrorFigure}
 use Rattle.metrics.specs.declared.text.Cached.{Cached}
 
 -- the two lines in front of a family's samples
@@ -83,17 +85,27 @@ abbrev pub requests_text : List RequestCount → List ℕ
 requests_text requests =
     if length requests == 0 then [] else 10 ∷ head family.Requests ++ flat_map request_sample requests
 
--- of a mirror, 1 where it follows its peer and 0 where it doesn't
-abbrev pub following_text : Option Bool → List ℕ
-following_text None = []
-following_text (Some true) = next_alone family.Following 1
-following_text (Some false) = next_alone family.Following 0
+-- the label of a resource that is mirrored
+unfoldable pub mirror_label : Resource → List ℕ
+mirror_label r = codes "{resource=\"" ++ plural_of r ++ codes "\"}"
+
+-- the figure of one mirror
+abbrev pub mirror_sample : MirrorFigure → Mirrored → List ℕ
+mirror_sample of mirror = sample (family.OfMirrors of) (mirror_label mirror.resource) (mirror_figure_of of mirror)
+
+-- a figure of all mirrors
+abbrev pub mirror_text : List Mirrored → MirrorFigure → List ℕ
+mirror_text mirrors of = 10 ∷ head (family.OfMirrors of) ++ flat_map (mirror_sample of) mirrors
+
+-- all figures of all mirrors; none where there is no mirror
+abbrev pub mirrors_text : List Mirrored → List ℕ
+mirrors_text mirrors = if length mirrors == 0 then [] else flat_map (mirror_text mirrors) all_mirror_figures
 
 -- what a server counts of what it served
 abbrev pub counts_text : Served → List ℕ
 counts_text served =
     next_alone family.Connections served.connections ++ next_alone family.Events served.events
-    ++ requests_text served.requests.items ++ following_text served.following
+    ++ requests_text served.requests.items ++ mirrors_text served.mirrors.items
 
 -- nothing of that where none counts it
 abbrev pub served_text : Option Served → List ℕ

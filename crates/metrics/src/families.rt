@@ -4,7 +4,7 @@ ghost use Rattle.std.specs.Prelude.{◌≡◌};
 ghost use Rattle.metrics.specs.Families as families;
 
 use crate::caches::CacheMetrics;
-use crate::served::Verb;
+use crate::served::{Mirrored, Verb};
 
 /// What the samples of a family tell.
 #[derive(Clone, Copy, Debug, PartialEq, Eq)]
@@ -17,7 +17,8 @@ pub(crate) enum Family {
     Connections,
     Events,
     Requests,
-    Following,
+    /// A figure of each mirror.
+    OfMirrors(MirrorFigure),
 }
 
 /// A figure of a cache.
@@ -47,6 +48,25 @@ pub(crate) const FIGURES: [Figure; 9] = [
     Figure::Cuts,
 ];
 
+/// A figure of a mirror.
+#[derive(Clone, Copy, Debug, PartialEq, Eq)]
+pub(crate) enum MirrorFigure {
+    Following,
+    Revision,
+    HeardSeconds,
+    BeganAnew,
+    Lines,
+}
+
+/// All figures of a mirror, in the order in which they are told.
+pub(crate) const MIRROR_FIGURES: [MirrorFigure; 5] = [
+    MirrorFigure::Following,
+    MirrorFigure::Revision,
+    MirrorFigure::HeardSeconds,
+    MirrorFigure::BeganAnew,
+    MirrorFigure::Lines,
+];
+
 impl Family {
     /// Its name.
     pub(crate) fn name(self) -> &'static str
@@ -60,7 +80,7 @@ impl Family {
             Family::Connections => "watchcache_connections",
             Family::Events => "watchcache_events_sent_total",
             Family::Requests => "apiserver_request_total",
-            Family::Following => "watchcache_mirror_following",
+            Family::OfMirrors(figure) => figure.name(),
         }
     }
 
@@ -76,7 +96,7 @@ impl Family {
             Family::Connections => "Number of open connections.",
             Family::Events => "Counter of events told to watches.",
             Family::Requests => { "Counter of requests, by verb, resource and status code." }
-            Family::Following => "Whether the mirror follows its peer.",
+            Family::OfMirrors(figure) => figure.help(),
         }
     }
 
@@ -86,6 +106,7 @@ impl Family {
     {
         match self {
             Family::OfCaches(figure) => figure.kind(),
+            Family::OfMirrors(figure) => figure.kind(),
             Family::Events | Family::Requests => "counter",
             _ => "gauge",
         }
@@ -155,6 +176,65 @@ impl Figure {
             Figure::Behind => told.behind,
             Figure::Rebuilds => told.rebuilds,
             Figure::Cuts => told.cuts,
+        }
+    }
+}
+
+impl MirrorFigure {
+    // The name of its family.
+    fn name(self) -> &'static str
+        ensures { result.now ≡ families.mirror_name self }
+    {
+        match self {
+            MirrorFigure::Following => "watchcache_mirror_following",
+            MirrorFigure::Revision => "watchcache_mirror_revision",
+            MirrorFigure::HeardSeconds => "watchcache_mirror_heard_seconds",
+            MirrorFigure::BeganAnew => "watchcache_mirror_began_anew_total",
+            MirrorFigure::Lines => "watchcache_mirror_lines_total",
+        }
+    }
+
+    // What the samples of its family mean.
+    fn help(self) -> &'static str
+        ensures { result.now ≡ families.mirror_help self }
+    {
+        match self {
+            MirrorFigure::Following => "Whether the mirror follows its peer, by resource.",
+            MirrorFigure::Revision => {
+                "Revision up to which the mirror has heard its peer, by resource."
+            }
+            MirrorFigure::HeardSeconds => {
+                "Seconds since the mirror last heard a line or a whole reply of its peer, by resource."
+            }
+            MirrorFigure::BeganAnew => {
+                "Counter of times the mirror began anew from all that its peer had, by resource."
+            }
+            MirrorFigure::Lines => {
+                "Counter of lines of its peer that the mirror has heard, by resource."
+            }
+        }
+    }
+
+    // The type of the samples of its family.
+    fn kind(self) -> &'static str
+        ensures { result.now ≡ families.mirror_kind self }
+    {
+        match self {
+            MirrorFigure::BeganAnew | MirrorFigure::Lines => "counter",
+            _ => "gauge",
+        }
+    }
+
+    /// Its value: 1 where the mirror follows its peer, and 0 where it doesn't.
+    pub(crate) fn value(self, told: &Mirrored) -> u64
+        ensures { result ≡ families.mirror_figure_of self told.now }
+    {
+        match self {
+            MirrorFigure::Following => { if told.following { 1 } else { 0 } }
+            MirrorFigure::Revision => told.revision,
+            MirrorFigure::HeardSeconds => told.heard_seconds,
+            MirrorFigure::BeganAnew => told.began_anew,
+            MirrorFigure::Lines => told.lines,
         }
     }
 }

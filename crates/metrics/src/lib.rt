@@ -5,9 +5,10 @@
 mod caches;
 mod families;
 mod lines;
+mod mirrors;
 mod served;
 mod text;
 
 pub use caches::{CacheMetrics, Metrics};
-pub use served::{RequestCount, Served, Verb};
+pub use served::{Mirrored, RequestCount, Served, Verb};
 pub use text::metrics_text;

@@ -12,8 +12,24 @@ pub struct Served {
     /// How many requests were answered, those of one kind and code together; kinds and codes of which there was none
     /// may be left out.
     pub requests: Vec<RequestCount>,
-    /// Of a mirror, whether it follows its peer.
-    pub following: Option<bool>,
+    /// Of a mirror, what it tells of each resource that it mirrors; of any other server there are none.
+    pub mirrors: Vec<Mirrored>,
+}
+
+/// What the mirror of one resource tells.
+#[derive(Clone, Copy, Debug, PartialEq, Eq)]
+pub struct Mirrored {
+    pub resource: Resource,
+    /// Whether it follows its peer.
+    pub following: bool,
+    /// The revision up to which it has heard its peer.
+    pub revision: u64,
+    /// How many seconds ago the last line or whole reply came from its peer.
+    pub heard_seconds: u64,
+    /// How often it began anew from all that its peer had.
+    pub began_anew: u64,
+    /// How many lines of its peer's watches it has heard.
+    pub lines: u64,
 }
 
 /// How many requests of one kind were answered by one code.

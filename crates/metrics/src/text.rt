@@ -10,6 +10,7 @@ use crate::families::{FIGURES, Family, Figure, verb_name};
 use crate::lines::{
     begin_sample, end_sample, put, put_alone, put_next_alone, put_next_head, put_number,
 };
+use crate::mirrors::put_mirrors;
 use crate::served::{RequestCount, Served};
 use kube_meta::{Memory, Resource};
 use std::alloc::Global;
@@ -152,17 +153,7 @@ fn put_counts(text: &mut Vec<u8>, served: &Served) -> Result<(), Memory>
     put_next_alone(text, Family::Connections, served.connections)?;
     put_next_alone(text, Family::Events, served.events)?;
     put_requests(text, served.requests.as_slice())?;
-    put_following(text, served.following)
-}
-
-fn put_following(text: &mut Vec<u8>, following: Option<bool>) -> Result<(), Memory>
-    ensures { OnOk result (text.new.items ≡ text.old.items ++ spec.following_text following) }
-{
-    match following {
-        Some(true) => put_next_alone(text, Family::Following, 1),
-        Some(false) => put_next_alone(text, Family::Following, 0),
-        None => Ok(()),
-    }
+    put_mirrors(text, served.mirrors.as_slice())
 }
 
 fn put_requests(text: &mut Vec<u8>, requests: &[RequestCount]) -> Result<(), Memory>
