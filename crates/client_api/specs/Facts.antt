@@ -1,25 +1,31 @@
 -- What a client tells of itself in contracts, and what holds of what it knows.
-use Rattle.std.specs.Prelude.{ℕ, ◌<◌, ◌≤◌, max, Option, Some, None, option_map, length, if◌then◌else◌}
+use Rattle.std.specs.Prelude.{ℕ, ◌<◌, ◌≤◌, max, true, Option, Some, None, option_map, length, if◌then◌else◌}
 use Rattle.kube_meta.specs.Resources.{same_resource}
 use Rattle.kube_meta.specs.declared.resources.Resource.{Resource}
 use Rattle.rev_front.specs.Passes.{Pass, IsPass, Extends}
 use Rattle.rev_log.specs.Changes.{RevisionData}
 use Rattle.rev_log.specs.Logs.{Fits}
 use Rattle.select_all.specs.declared.selection.Selection.{Selection}
+use Rattle.client_api.specs.declared.resources.Resources.{Resources}
 
 -- a watch: what it is of, and its position, the revision up to which all is told
 pub record Watched : Type 0 where
   pub selection : Selection
   pub position : ℕ
 
+-- all resources
+abbrev pub all_served : Resources
+all_served = record { pods = true; config_maps = true; deployments = true }
+
 -- The watch, if there is one; the greatest time that was told; how many changes of a resource the caches keep at
--- least; and, where nobody else holds the log, how many revisions its floor is behind its end at most. No call
--- changes the last two.
+-- least; where nobody else holds the log, how many revisions its floor is behind its end at most; and which resources
+-- the server has. No call changes the last three.
 pub record Facts : Type 0 where
   pub watching : Option Watched
   pub heard : ℕ
   pub window : ℕ
   pub sole_history : Option ℕ
+  pub resources : Resources
 
 -- how often the store's states and histories were read, and where the cache of each resource ends
 pub record Cached : Type 0 where

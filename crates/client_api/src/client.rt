@@ -18,6 +18,7 @@ ghost use Rattle.client_api.specs.Told.{IsToldRead, IsToldWrite, IsToldTx, IsTol
 ghost use Rattle.client_api.specs.Turns.{IsTurnAnswer, watch_left};
 
 use crate::answers::{Begun, Got, ListNo, Listed, Took};
+use crate::resources::Resources;
 use kube_meta::Memory;
 use list_rules::{GetAsk, ListAsk};
 use metrics::Metrics;
@@ -146,6 +147,10 @@ pub trait Client {
         ensures sole { whole self.old → SoleTake (pass self.old) result (pass self.new) }
         ensures kept { whole self.old → OnOk result (whole self.new) }
         ensures cached { whole self.old → cached self.new ≡ cached self.old };
+
+    /// Which resources its server has: all, or of a mirror those that it mirrors.
+    fn resources(&self) -> Resources
+        ensures { result ≡ (facts self.now).resources };
 
     /// Whether the log is kept up to date. That of a mirror isn't while it has lost its peer; any other always is.
     fn is_ready(&self) -> bool

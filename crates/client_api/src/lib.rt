@@ -11,6 +11,7 @@ mod client;
 mod items;
 mod laws;
 mod pages;
+mod resources;
 
 pub use answers::{Begun, Got, ListNo, Listed, Took};
 pub use client::Client;
@@ -19,4 +20,5 @@ pub use laws::{
     lists_agree, loads_are_ends, loads_are_fresh, looks_load, onwards_join, starts_tell, turns_tell,
 };
 pub use pages::{page, page_before, too_large};
+pub use resources::Resources;
 pub use watch_lane::Line;

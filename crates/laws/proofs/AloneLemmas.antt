@@ -22,6 +22,7 @@ use Rattle.watch_rules.specs.declared.ask.WatchAsk.{WatchAsk}
 use Rattle.watch_rules.specs.declared.starts.Start.{Start}
 use Rattle.client_api.specs.Alone.{known, IsSoleRead, SoleWrite, SoleTransact, SoleOperate}
 use Rattle.client_api.specs.declared.answers.ListNo.{ListNo}
+use Rattle.client_api.specs.declared.resources.Resources.{Resources}
 use Rattle.client_api.specs.declared.answers.ListNo.TheVariants.{Expired, TooLarge, Absent, Memory}
 use Rattle.client_api.specs.Told.{IsToldWrite, IsToldTx, IsToldOperation}
 use Rattle.sess_reply.specs.Replies.{unrouted, wrote, transacted, got, listed, operated, described, metered, unready, unwatched, bad_upgrade}
@@ -119,7 +120,8 @@ module _ (terms : Terms) (p q : Pass RevisionData) (req : Req) (lawful : IsPass 
         unless-hindered terms p (answered (replied (listed ask answer))) (routed.List ask) (list_outcome terms p q req ask answer says.0 says.1)
         (reach_clash p q ask.meaning lawful (floor-stays sole) in_reach))
     served_of (replied (operated ask answer)) to says sole = same-due (routed.Operate ask) _ to (done ask answer says.0 says.1 sole)
-    served_of (replied (described document)) to says sole = same-due (routed.Describe document) _ to (λ _. inl (record { answer_is = refl; status_is = refl }))
+    served_of (replied (described served document)) to says sole =
+        same-due (routed.Describe document) _ to (λ _. inl (record { answer_is = ap (λ (r : Resources). replied (described r document)) says.0; status_is = refl }))
     served_of (replied (metered told)) to says sole = same-due routed.Metrics _ to (λ _. (told, record { answer_is = refl; status_is = refl }, says))
     served_of (replied (unready probe)) to says sole =
         same-due (routed.Describe (document.Probe probe)) _ to (λ _. inr (probe, refl, says.0, record { answer_is = refl; status_is = refl }))

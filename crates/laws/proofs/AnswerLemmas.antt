@@ -31,6 +31,7 @@ use Rattle.client_api.specs.Gets.{IsGetAnswer}
 use Rattle.client_api.specs.Lists.{IsListAnswer}
 use Rattle.client_api.specs.Told.{IsToldRead, IsToldWrite, IsToldTx, IsToldOperation}
 use Rattle.client_api.specs.declared.answers.ListNo.{ListNo}
+use Rattle.client_api.specs.declared.resources.Resources.{Resources}
 use Rattle.client_api.specs.declared.answers.ListNo.TheVariants.{Expired, TooLarge, Absent, Memory}
 use Rattle.sess_reply.specs.Replies.{unrouted, wrote, transacted, got, listed, operated, described, metered, unready, unwatched, bad_upgrade}
 use Rattle.sess_turns.specs.Terms.{Terms}
@@ -147,7 +148,8 @@ module _ (terms : Terms) (p q : Pass RevisionData) (req : Req) where
     outcome_of (replied (got ask answer)) to says = same-route _ _ to (get_outcome ask answer says.0 says.1)
     outcome_of (replied (listed ask answer)) to says = same-route _ _ to (list_outcome ask answer says.0 says.1)
     outcome_of (replied (operated ask answer)) to says = same-route _ _ to (operation_outcome ask answer says.0 says.1)
-    outcome_of (replied (described document)) to says = same-route _ _ to (inl (inl (record { answer_is = refl; status_is = refl })))
+    outcome_of (replied (described served document)) to says =
+        same-route _ _ to (inl (inl (record { answer_is = ap (λ (r : Resources). replied (described r document)) says.0; status_is = refl })))
     outcome_of (replied (metered told)) to says = same-route routed.Metrics _ to (inl (told, record { answer_is = refl; status_is = refl }, says))
     outcome_of (replied (unready probe)) to says =
         same-route (routed.Describe (document.Probe probe)) _ to (inl (inr (probe, refl, says.0, record { answer_is = refl; status_is = refl })))

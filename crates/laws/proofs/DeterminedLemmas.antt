@@ -41,6 +41,7 @@ use Rattle.client_api.specs.Lists.{IsListAnswer}
 use Rattle.client_api.specs.Metered.{IsCacheMetrics, AreMetrics}
 use Rattle.client_api.specs.Told.{IsToldRead, IsToldWrite, IsToldTx, IsToldOperation}
 use Rattle.client_api.specs.declared.answers.ListNo.{ListNo}
+use Rattle.client_api.specs.declared.resources.Resources.{Resources}
 use Rattle.client_api.specs.declared.answers.ListNo.TheVariants.{TooLarge, Expired, Absent, Memory}
 use Rattle.client_api.specs.Starts.{StartsTooLarge}
 use Rattle.sess_reply.specs.Replies.{unrouted, wrote, transacted, got, listed, operated, described, metered, unready, unwatched, bad_upgrade}
@@ -86,38 +87,39 @@ low-operated Disconnect w after a is low_w = subst low (sym is) low_w
 
 -- ---- what describes the server, and metrics
 
-abbrev IsDescribedBy : Bool → Document → Answer → Type 0
-IsDescribedBy mirror text a =
-    (a ≡ replied (described text)) ⊎ ((probe : Probe) × (text ≡ document.Probe probe) × (mirror ≡ true) × (a ≡ replied (unready probe)))
+abbrev IsDescribedBy : Bool → Resources → Document → Answer → Type 0
+IsDescribedBy mirror served text a =
+    (a ≡ replied (described served text)) ⊎ ((probe : Probe) × (text ≡ document.Probe probe) × (mirror ≡ true) × (a ≡ replied (unready probe)))
 
 -- two answers, of which what is said is known
 moved-one : (mirror : Bool) (a b x y : Answer) → a ≡ x → b ≡ y → AreOne mirror x y → AreOne mirror a b
 moved-one mirror a b x y first second one =
     subst (λ (z : Answer × Answer). AreOne mirror z.0 z.1) {x = (x, y)} {y = (a, b)} (λ i. (sym first i, sym second i)) one
 
-same-described : (mirror : Bool) (text : Document) → AreOne mirror (replied (described text)) (replied (described text))
-same-described mirror document.Version = refl
-same-described mirror document.CoreVersions = refl
-same-described mirror document.Groups = refl
-same-described mirror document.AppsGroup = refl
-same-described mirror document.CoreResources = refl
-same-described mirror document.AppsResources = refl
-same-described mirror document.OpenApi = refl
-same-described mirror (document.Namespace ns) = refl
-same-described mirror (document.Probe probe) = inl refl
+same-described : (mirror : Bool) (served : Resources) (text : Document) → AreOne mirror (replied (described served text)) (replied (described served text))
+same-described mirror served document.Version = refl
+same-described mirror served document.CoreVersions = refl
+same-described mirror served document.Groups = refl
+same-described mirror served document.AppsGroup = refl
+same-described mirror served document.CoreResources = refl
+same-described mirror served document.AppsResources = refl
+same-described mirror served document.OpenApi = refl
+same-described mirror served (document.Namespace ns) = refl
+same-described mirror served (document.Probe probe) = inl refl
 
 same-probe : (a b : Probe) → document.Probe a ≡ document.Probe b → a ≡ b
 same-probe a b e = cc
 
-described-one : (mirror : Bool) (text : Document) (a b : Answer) → IsDescribedBy mirror text a → IsDescribedBy mirror text b → AreOne mirror a b
-described-one mirror text a b (inl is) (inl is') = moved-one mirror a b _ _ is is' (same-described mirror text)
-described-one mirror text a b (inl is) (inr is') =
-    moved-one mirror a b (replied (described (document.Probe is'.0))) (replied (unready is'.0))
-    (is ∙ ap (λ (t : Document). replied (described t)) is'.1) is'.3 (inr (is'.2, refl))
-described-one mirror text a b (inr is) (inl is') =
-    moved-one mirror a b (replied (unready is.0)) (replied (described (document.Probe is.0))) is.3
-    (is' ∙ ap (λ (t : Document). replied (described t)) is.1) (is.2, inr refl)
-described-one mirror text a b (inr is) (inr is') =
+described-one : (mirror : Bool) (served : Resources) (text : Document) (a b : Answer) → IsDescribedBy mirror served text a →
+    IsDescribedBy mirror served text b → AreOne mirror a b
+described-one mirror served text a b (inl is) (inl is') = moved-one mirror a b _ _ is is' (same-described mirror served text)
+described-one mirror served text a b (inl is) (inr is') =
+    moved-one mirror a b (replied (described served (document.Probe is'.0))) (replied (unready is'.0))
+    (is ∙ ap (λ (t : Document). replied (described served t)) is'.1) is'.3 (inr (is'.2, refl))
+described-one mirror served text a b (inr is) (inl is') =
+    moved-one mirror a b (replied (unready is.0)) (replied (described served (document.Probe is.0))) is.3
+    (is' ∙ ap (λ (t : Document). replied (described served t)) is.1) (is.2, inr (served, refl))
+described-one mirror served text a b (inr is) (inr is') =
     let same : is'.0 ≡ is.0 = same-probe is'.0 is.0 (sym is'.1 ∙ is.1) in
     moved-one mirror a b (replied (unready is.0)) (replied (unready is.0)) is.3
     (is'.3 ∙ ap (λ (p : Probe). replied (unready p)) same) (is.2, inl refl)
@@ -160,7 +162,7 @@ ByRoute terms history p req a q (routed.Transact asks) =
     × IsTransactionAnswer terms.base terms.mirror history asks (known p) (known q) x
 ByRoute terms history p req a q (routed.Operate ask) =
     (x : Result ℕ OpNo) × (a ≡ replied (operated ask x)) × IsToldOperation x × IsOperationReply p ask x q × SoleOperate p ask x q
-ByRoute terms history p req a q (routed.Describe document) = IsDescribedBy terms.mirror document a × IsSoleRead p q
+ByRoute terms history p req a q (routed.Describe document) = IsDescribedBy terms.mirror terms.resources document a × IsSoleRead p q
 ByRoute terms history p req a q routed.Metrics =
     (told : Metrics) × (a ≡ replied (metered told)) × AreMetrics terms.base p told q × IsSoleRead p q
 ByRoute terms history p req a q (routed.Watch ask) =
@@ -192,7 +194,8 @@ module _ (terms : Terms) (history : ℕ) (if-sole : (P : ℕ → Type 0) → IsS
   routes p q req (replied (got ask x)) to says sole plain = inl (record { route = routed.Get ask; is = to; by = (x, refl, says.0, says.1, sole) })
   routes p q req (replied (listed ask x)) to says sole plain = inl (record { route = routed.List ask; is = to; by = (x, refl, says.0, says.1, sole) })
   routes p q req (replied (operated ask x)) to says sole plain = inl (record { route = routed.Operate ask; is = to; by = (x, refl, says.0, says.1, sole) })
-  routes p q req (replied (described text)) to says sole plain = inl (record { route = routed.Describe text; is = to; by = (inl refl, sole) })
+  routes p q req (replied (described served text)) to says sole plain =
+      inl (record { route = routed.Describe text; is = to; by = (inl (ap (λ (r : Resources). replied (described r text)) says.0), sole) })
   routes p q req (replied (metered told)) to says sole plain = inl (record { route = routed.Metrics; is = to; by = (told, refl, says, sole) })
   routes p q req (replied (unready probe)) to says sole plain =
       inl (record { route = routed.Describe (document.Probe probe); is = to; by = (inr (probe, refl, says.0, refl), sole) })
@@ -247,7 +250,7 @@ module _ (terms : Terms) (history : ℕ) (if-sole : (P : ℕ → Type 0) → IsS
     by-one req a b (routed.Operate ask) by by' =
         let one = one_operation p q o r sound lawful lawful' same ask by.0 by'.0 by.2 by'.2 by.3 by'.3 by.4 by'.4 in
         (are-one a b (replied (operated ask by.0)) (replied (operated ask by'.0)) by.1 by'.1 (ap (λ (x : Result ℕ OpNo). replied (operated ask x)) one.0), one.1)
-    by-one req a b (routed.Describe text) by by' = (described-one terms.mirror text a b by.0 by'.0, reads-same by.1 by'.1)
+    by-one req a b (routed.Describe text) by by' = (described-one terms.mirror terms.resources text a b by.0 by'.0, reads-same by.1 by'.1)
     by-one req a b routed.Metrics by by' =
         let again : known r ≡ known q = reads-same by.3 by'.3 in
         (are-one a b (replied (metered by.0)) (replied (metered by'.0)) by.1 by'.1 (by'.0, refl, tell-alike terms.base q r again p o by.0 by'.0 by.2 by'.2), again)

@@ -69,15 +69,15 @@ same-code req (replied (listed ask (Err (list_no.TooLarge asked current)))) b is
 same-code req (replied (listed ask (Err (list_no.Absent at)))) b is = ap (reply_code req) is
 same-code req (replied (listed ask (Err list_no.Memory))) b is = ap (reply_code req) is
 same-code req (replied (operated ask answer)) b is = ap (reply_code req) is
-same-code req (replied (described document.Version)) b is = ap (reply_code req) is
-same-code req (replied (described document.CoreVersions)) b is = ap (reply_code req) is
-same-code req (replied (described document.Groups)) b is = ap (reply_code req) is
-same-code req (replied (described document.AppsGroup)) b is = ap (reply_code req) is
-same-code req (replied (described document.CoreResources)) b is = ap (reply_code req) is
-same-code req (replied (described document.AppsResources)) b is = ap (reply_code req) is
-same-code req (replied (described document.OpenApi)) b is = ap (reply_code req) is
-same-code req (replied (described (document.Namespace ns))) b is = ap (reply_code req) is
-same-code req (replied (described (document.Probe probe))) b is = elim is [
+same-code req (replied (described served document.Version)) b is = ap (reply_code req) is
+same-code req (replied (described served document.CoreVersions)) b is = ap (reply_code req) is
+same-code req (replied (described served document.Groups)) b is = ap (reply_code req) is
+same-code req (replied (described served document.AppsGroup)) b is = ap (reply_code req) is
+same-code req (replied (described served document.CoreResources)) b is = ap (reply_code req) is
+same-code req (replied (described served document.AppsResources)) b is = ap (reply_code req) is
+same-code req (replied (described served document.OpenApi)) b is = ap (reply_code req) is
+same-code req (replied (described served (document.Namespace ns))) b is = ap (reply_code req) is
+same-code req (replied (described served (document.Probe probe))) b is = elim is [
   | inl ready ↦ ap (reply_code req) ready
   | inr lost ↦ absurd (false≢true lost.0)
 ]

@@ -9,6 +9,7 @@ use Rattle.route_req.specs.declared.documents.Document.TheVariants as document
 use Rattle.metrics.specs.declared.caches.Metrics.{Metrics}
 use Rattle.metrics.specs.declared.caches.CacheMetrics.{CacheMetrics}
 use Rattle.client_api.specs.declared.answers.ListNo.TheVariants as list_no
+use Rattle.client_api.specs.declared.resources.Resources.{Resources}
 use Rattle.sess_reply.specs.Replies.{listed, described, metered, unready}
 use Rattle.sess_turns.specs.Terms.{Terms}
 use Rattle.sess_serve.specs.Answers.{Answer, replied, is_stream}
@@ -39,10 +40,11 @@ abbrev pub AreOne : Bool → Answer → Answer → Type 0
 AreOne mirror (replied (listed ask (Err (list_no.Expired asked floor)))) other =
     (n : ℕ) × (other ≡ replied (listed ask (Err (list_no.Expired asked n))))
 AreOne mirror (replied (metered told)) other = (again : Metrics) × (other ≡ replied (metered again)) × TellAlike told again
-AreOne mirror (replied (described (document.Probe probe))) other =
-    (other ≡ replied (described (document.Probe probe))) ⊎ ((mirror ≡ true) × (other ≡ replied (unready probe)))
+AreOne mirror (replied (described served (document.Probe probe))) other =
+    (other ≡ replied (described served (document.Probe probe))) ⊎ ((mirror ≡ true) × (other ≡ replied (unready probe)))
 AreOne mirror (replied (unready probe)) other =
-    (mirror ≡ true) × ((other ≡ replied (unready probe)) ⊎ (other ≡ replied (described (document.Probe probe))))
+    (mirror ≡ true)
+    × ((other ≡ replied (unready probe)) ⊎ ((served : Resources) × (other ≡ replied (described served (document.Probe probe)))))
 AreOne mirror answer other = other ≡ answer
 
 -- the same requests are answered by the same answers

@@ -42,10 +42,10 @@ pub record GetsStream (terms : Terms) (p : Pass RevisionData) (e : Exchange) (as
   pub starts : IsWatchStart terms.base p ask watch.begun opened
   pub turns : IsWatchTurns terms ask opened watch e.pass
 
--- the request is answered by what describes the server; but a mirror may answer that it fails the probe
+-- the request is answered by what describes the server with its resources; but a mirror may answer that it fails the probe
 abbrev pub GetsDescribed : Terms → Exchange → Document → Type 0
 GetsDescribed terms e text =
-    Gets e (described text) 200
+    Gets e (described terms.resources text) 200
     ⊎ ((probe : Probe) × (text ≡ document.Probe probe) × (terms.mirror ≡ true) × Gets e (unready probe) 503)
 
 -- What a request gets that asks for this. What describes the server: 200, or 503 where a mirror fails a probe. Metrics: 200,

@@ -27,7 +27,7 @@ use Rattle.api_errors.specs.declared.failures.Failure.{Failure}
 use Rattle.meta_view.specs.declared.form.Form.{Form}
 use Rattle.client_api.specs.Alone.{known, IsSoleRead}
 use Rattle.client_api.specs.Answers.{ListedData}
-use Rattle.client_api.specs.Facts.{Facts}
+use Rattle.client_api.specs.Facts.{Facts, all_served}
 use Rattle.client_api.specs.Fresh.{Meets}
 use Rattle.client_api.specs.Lists.{IsListed}
 use Rattle.local_client.specs.CachedLogs.{CachedLogData, IsNewLog, KnowsWhole, window_of}
@@ -52,17 +52,17 @@ use Rattle.load_gen.specs.Replies.{code_in, reply_code, codes_of, IsCode, AreRep
 
 served_new : (first : ℕ) (base : List RowData) (mirror : Bool) (facts : Facts) (log : CachedLogData) (settings : Settings)
     (session written : List ℕ) (q : Pass RevisionData) → first ≡ 1 → base ≡ [] → mirror ≡ false → settings ≡ usual →
-    facts.window ≡ window_of log → facts.sole_history ≡ Some log.store.history → IsNewLog first settings log →
+    facts.window ≡ window_of log → facts.sole_history ≡ Some log.store.history → facts.resources ≡ all_served → IsNewLog first settings log →
     IsLoadServed (terms_of base mirror facts settings) (KnowsWhole log) log.pass session written q →
     IsLoadServed (terms usual) (Unit {0}) (new_pass log.pass.seat) session written q
-served_new first base mirror facts log settings session written q first-is base-is own settings-are window-is alone-is new s =
+served_new first base mirror facts log settings session written q first-is base-is own settings-are window-is alone-is all-is new s =
     let in-settings : IsLoadServed (terms settings) (Unit {0}) (new_pass log.pass.seat) session written q =
     record {
       taken = s.taken;
       left = s.left;
       readings = s.readings;
       parted = s.parted;
-      served = of_new_log first base mirror facts log settings _ q Done first-is base-is own window-is alone-is new s.served;
+      served = of_new_log first base mirror facts log settings _ q Done first-is base-is own window-is alone-is all-is new s.served;
     } in
     subst (λ (x : Settings). IsLoadServed (terms x) (Unit {0}) (new_pass log.pass.seat) session written q) settings-are in-settings
 
@@ -102,7 +102,7 @@ known_code form (listed ask (Ok answer)) c e = of_said 200 Json _ c is_accepted 
 known_code form (listed ask (Err fault)) c e = of_told _ c e
 known_code form (operated ask (Ok value)) c e = of_said 200 Json _ c is_accepted e
 known_code form (operated ask (Err fault)) c e = of_told _ c e
-known_code form (described document) c e = of_said 200 (content_type_of document) _ c is_accepted e
+known_code form (described served document) c e = of_said 200 (content_type_of document) _ c is_accepted e
 known_code form (metered told) c e = of_said 200 MetricsText _ c is_accepted e
 known_code form (unready probe) c e = of_content (record { code = 503; retry = true; kind = PlainText; text = _ }) c (inr (inr (inl refl))) e
 known_code form (unwatched ask fault) c e = of_told _ c e
@@ -228,6 +228,7 @@ pub record IsPlayed (first : ℕ) (base : List RowData) (mirror : Bool) (facts :
   pub settings_are : settings ≡ usual
   pub window_is : facts.window ≡ window_of log
   pub history_is : facts.sole_history ≡ Some log.store.history
+  pub resources_are : facts.resources ≡ all_served
   pub new : IsNewLog first settings log
   pub served : IfOk played (λ sink. IsLoadServed (terms_of base mirror facts settings) (KnowsWhole log) log.pass session sink.written after.pass)
   pub kept : IfOk played (λ sink. KnowsWhole after)
@@ -243,7 +244,7 @@ figures_told first base mirror facts settings log after session requests q (Err 
 figures_told first base mirror facts settings log after session requests q (Ok sink) (Err memory) (Ok f) is tallies = absurd tallies
 figures_told first base mirror facts settings log after session requests q (Ok sink) (Ok list) (Ok f) is tallies =
     figures_are base log.pass.seat session requests sink list after.pass q f is.base_is
-    (served_new first base mirror facts log settings session sink.written after.pass is.first_is is.base_is is.own is.settings_are is.window_is is.history_is is.new is.served)
+    (served_new first base mirror facts log settings session sink.written after.pass is.first_is is.base_is is.own is.settings_are is.window_is is.history_is is.resources_are is.new is.served)
     is.kept.1 is.listed_all (is.sole is.kept) tallies
 
 pub requests_told : (requests : ℕ) (played : Result SinkState AllocError) (answered : Result ListedData AllocError) (result : Result Figures AllocError) →

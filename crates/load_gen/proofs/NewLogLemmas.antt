@@ -5,7 +5,8 @@ use Rattle.kube_meta.specs.Rows.{RowData}
 use Rattle.rev_front.specs.Passes.{Pass, empty_log, pass_from}
 use Rattle.rev_log.specs.Changes.{RevisionData}
 use Rattle.up_api.specs.declared.settings.Settings.{Settings}
-use Rattle.client_api.specs.Facts.{Facts}
+use Rattle.client_api.specs.Facts.{Facts, all_served}
+use Rattle.client_api.specs.declared.resources.Resources.{Resources}
 use Rattle.local_client.specs.CachedLogs.{CachedLogData, IsNewLog, KnowsWhole, window_of}
 use Rattle.sess_serve.specs.Ends.{Traffic}
 use Rattle.sess_serve.specs.Session.{IsSession}
@@ -30,23 +31,24 @@ known-whole t W p traffic q how whole s = record {
 
 -- what such a client's session is told once
 terms-are : (base : List RowData) (mirror : Bool) (facts : Facts) (settings : Settings) →
-    base ≡ [] → mirror ≡ false → facts.window ≡ settings.window → facts.sole_history ≡ Some settings.history →
+    base ≡ [] → mirror ≡ false → facts.window ≡ settings.window → facts.sole_history ≡ Some settings.history → facts.resources ≡ all_served →
     terms_of base mirror facts settings ≡ terms settings
-terms-are base mirror facts settings base-is own window-is alone-is =
-    ap (λ (b : List RowData). record { base = b; mirror = mirror; window = facts.window; sole_history = facts.sole_history; settings = settings }) base-is
-    ∙ ap (λ (m : Bool). record { base = []; mirror = m; window = facts.window; sole_history = facts.sole_history; settings = settings }) own
-    ∙ ap (λ (w : ℕ). record { base = []; mirror = false; window = w; sole_history = facts.sole_history; settings = settings }) window-is
-    ∙ ap (λ (a : Option ℕ). record { base = []; mirror = false; window = settings.window; sole_history = a; settings = settings }) alone-is
+terms-are base mirror facts settings base-is own window-is alone-is all-is =
+    ap (λ (b : List RowData). terms_of b mirror facts settings) base-is
+    ∙ ap (λ (m : Bool). terms_of [] m facts settings) own
+    ∙ ap (λ (w : ℕ). record { base = []; mirror = false; window = w; sole_history = facts.sole_history; resources = facts.resources; settings = settings }) window-is
+    ∙ ap (λ (a : Option ℕ). record { base = []; mirror = false; window = settings.window; sole_history = a; resources = facts.resources; settings = settings }) alone-is
+    ∙ ap (λ (r : Resources). record { base = []; mirror = false; window = settings.window; sole_history = Some settings.history; resources = r; settings = settings }) all-is
 
 -- a session of a client of a new log, in the settings that it was made with
 pub of_new_log : (first : ℕ) (base : List RowData) (mirror : Bool) (facts : Facts) (log : CachedLogData) (settings : Settings)
     (traffic : Traffic) (q : Pass RevisionData) (how : SessionEnd) → first ≡ 1 → base ≡ [] → mirror ≡ false →
-    facts.window ≡ window_of log → facts.sole_history ≡ Some log.store.history → IsNewLog first settings log →
+    facts.window ≡ window_of log → facts.sole_history ≡ Some log.store.history → facts.resources ≡ all_served → IsNewLog first settings log →
     IsSession (terms_of base mirror facts settings) (KnowsWhole log) log.pass traffic q how →
     IsSession (terms settings) (Unit {0}) (new_pass log.pass.seat) traffic q how
-of_new_log first base mirror facts log settings traffic q how first-is base-is own window-is alone-is new s =
+of_new_log first base mirror facts log settings traffic q how first-is base-is own window-is alone-is all-is new s =
     let terms-is = terms-are base mirror facts settings base-is own (window-is ∙ new.window_is)
-    (alone-is ∙ ap (λ (h : ℕ). Some h) new.history_is) in
+    (alone-is ∙ ap (λ (h : ℕ). Some h) new.history_is) all-is in
     let pass-is : log.pass ≡ new_pass log.pass.seat =
     new.pass_is ∙ ap (λ (n : ℕ). pass_from (empty_log n) log.pass.seat) first-is in
     let in-terms : IsSession (terms settings) (KnowsWhole log) log.pass traffic q how =

@@ -7,7 +7,7 @@ ghost use Rattle.local_client.specs.CachedLogs.{IsNewLog, known_log};
 use crate::making::new_caches;
 use crate::sole::SoleCaches;
 use cached_client::{Watch, begin, get, list, measure, stand, turn};
-use client_api::{Begun, Client, Got, ListNo, Listed, Took};
+use client_api::{Begun, Client, Got, ListNo, Listed, Resources, Took};
 use kube_meta::Memory;
 use list_rules::{GetAsk, ListAsk};
 use metrics::Metrics;
@@ -58,6 +58,7 @@ impl<N: LogFacts> LocalClient<N> {
 
 impl<N: LogFacts> Client for LocalClient<N> {
     ghost use Rattle.std.specs.Prelude.{Some};
+    ghost use Rattle.client_api.specs.Facts.{all_served};
     ghost use Rattle.up_store.specs.Stores.{KnowsAll};
     ghost use Rattle.local_client.specs.Caches.{cached_in, times_of, window_in};
 
@@ -72,6 +73,7 @@ impl<N: LogFacts> Client for LocalClient<N> {
       heard = c.heard;
       window = window_in c.caches.caches;
       sole_history = Some c.caches.store.history;
+      resources = all_served;
     } };
 
     ghost whole = { λ c. KnowsAll c.caches.store.whole c.told };
@@ -126,6 +128,10 @@ impl<N: LogFacts> Client for LocalClient<N> {
 
     fn metrics(&mut self) -> Result<Metrics, Memory> {
         measure(&mut self.caches, &mut self.told)
+    }
+
+    fn resources(&self) -> Resources {
+        Resources::ALL
     }
 
     fn is_ready(&self) -> bool {

@@ -1,8 +1,9 @@
 -- The texts by which the server describes itself, with the members that Kubernetes gives them (discovery in the API
 -- concepts; version.Info, APIVersions, APIGroupList, APIGroup, APIResourceList and Namespace in the API reference).
-use Rattle.std.specs.Prelude.{ℕ, ◌&&◌, List, [], ◌∷◌, ◌++◌, codes, map, filter, bytes_eq}
+use Rattle.std.specs.Prelude.{ℕ, List, [], ◌∷◌, ◌++◌, Bool, codes, if◌then◌else◌}
 use Rattle.std.specs.List.{concat}
-use Rattle.kube_meta.specs.Resources.{all_resources, plural_of, kind_of, group_of, version_of}
+use Rattle.client_api.specs.declared.resources.Resources.{Resources}
+use Rattle.kube_meta.specs.Resources.{plural_of, kind_of}
 use Rattle.kube_meta.specs.declared.resources.Resource.{Resource}
 use Rattle.kube_meta.specs.declared.resources.Resource.TheVariants.{Pods, ConfigMaps, Deployments}
 use Rattle.route_req.specs.declared.documents.Document.{Document}
@@ -41,15 +42,9 @@ abbrev pub namespaces_text : List ℕ
 namespaces_text =
     codes "{\"name\":\"namespaces\",\"singularName\":\"namespace\",\"namespaced\":false,\"kind\":\"Namespace\",\"verbs\":[\"get\"],\"shortNames\":[\"ns\"]}"
 
--- the resources of a group's version
-abbrev pub resources_in : List ℕ → List ℕ → List Resource
-resources_in group version = filter (λ r. bytes_eq group (group_of r) && bytes_eq version (version_of r)) all_resources
-
--- texts, joined by commas
-abbrev pub joined_items : List (List ℕ) → List ℕ
-joined_items [] = []
-joined_items (text ∷ []) = text
-joined_items (text ∷ next ∷ more) = text ++ 44 ∷ joined_items (next ∷ more)
+-- the resource behind others, if it is served
+abbrev pub item_of : Bool → Resource → List ℕ
+item_of is_served r = if is_served then 44 ∷ resource_text r else []
 
 -- ---- groups
 
@@ -70,22 +65,27 @@ empty_open_api = 10 ∷ 4 ∷ codes "2.0"
 
 -- ---- the whole
 
--- the text of a document: JSON, of a probe a plain text, and the OpenAPI document in protobuf
-abbrev pub document_text : Document → List ℕ
-document_text Version =
+-- the text of a document at a server that has these resources: JSON, of a probe a plain text, and the OpenAPI document in
+-- protobuf; without deployments there is nothing in the group `apps`
+abbrev pub document_text : Resources → Document → List ℕ
+document_text served Version =
     codes "{\"major\":\"1\",\"minor\":\"32\",\"gitVersion\":\"v1.32.0+watchcache\",\"gitCommit\":\"\",\"gitTreeState\":\"\",\"buildDate\":\"\",\"goVersion\":\"\",\"compiler\":\"\",\"platform\":\"\"}"
-document_text CoreVersions = codes "{\"kind\":\"APIVersions\",\"versions\":[\"v1\"],\"serverAddressByClientCIDRs\":[]}"
-document_text Groups = concat (codes "{\"kind\":\"APIGroupList\",\"apiVersion\":\"v1\",\"groups\":[{" ∷ apps_members ∷ codes "}]}" ∷ [])
-document_text AppsGroup = concat (codes "{\"kind\":\"APIGroup\",\"apiVersion\":\"v1\"," ∷ apps_members ∷ codes "}" ∷ [])
-document_text CoreResources =
+document_text served CoreVersions = codes "{\"kind\":\"APIVersions\",\"versions\":[\"v1\"],\"serverAddressByClientCIDRs\":[]}"
+document_text served Groups =
+    concat (codes "{\"kind\":\"APIGroupList\",\"apiVersion\":\"v1\",\"groups\":["
+    ∷ (if served.deployments then codes "{" ++ apps_members ++ codes "}" else []) ∷ codes "]}" ∷ [])
+document_text served AppsGroup =
+    concat (codes "{\"kind\":\"APIGroup\",\"apiVersion\":\"v1\","
+    ∷ (if served.deployments then apps_members else codes "\"name\":\"apps\",\"versions\":[]") ∷ codes "}" ∷ [])
+document_text served CoreResources =
     concat (codes "{\"kind\":\"APIResourceList\",\"groupVersion\":\"v1\",\"resources\":["
-    ∷ joined_items (namespaces_text ∷ map resource_text (resources_in (codes "") (codes "v1"))) ∷ codes "]}" ∷ [])
-document_text AppsResources =
+    ∷ namespaces_text ∷ item_of served.pods Pods ∷ item_of served.config_maps ConfigMaps ∷ codes "]}" ∷ [])
+document_text served AppsResources =
     concat (codes "{\"kind\":\"APIResourceList\",\"apiVersion\":\"v1\",\"groupVersion\":\"apps/v1\",\"resources\":["
-    ∷ joined_items (map resource_text (resources_in (codes "apps") (codes "v1"))) ∷ codes "]}" ∷ [])
-document_text OpenApi = empty_open_api
-document_text (Namespace name) =
+    ∷ (if served.deployments then resource_text Deployments else []) ∷ codes "]}" ∷ [])
+document_text served OpenApi = empty_open_api
+document_text served (Namespace name) =
     concat (codes "{\"kind\":\"Namespace\",\"apiVersion\":\"v1\",\"metadata\":{\"name\":\"" ∷ name
     ∷ codes "\",\"labels\":{\"kubernetes.io/metadata.name\":\"" ∷ name
     ∷ codes "\"}},\"spec\":{\"finalizers\":[\"kubernetes\"]},\"status\":{\"phase\":\"Active\"}}" ∷ [])
-document_text (Probe probe) = codes "ok"
+document_text served (Probe probe) = codes "ok"

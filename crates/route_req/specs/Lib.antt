@@ -1,4 +1,3 @@
-pub mod Documents
 pub mod Places
 pub mod Lookup
 pub mod Texts

@@ -9,14 +9,32 @@ pub(crate) const CORE_VERSIONS: &[u8] =
 pub(crate) const GROUPS: &[u8] =
     br#"{"kind":"APIGroupList","apiVersion":"v1","groups":[{"name":"apps","versions":[{"groupVersion":"apps/v1","version":"v1"}],"preferredVersion":{"groupVersion":"apps/v1","version":"v1"}}]}"#;
 
+pub(crate) const NO_GROUPS: &[u8] = br#"{"kind":"APIGroupList","apiVersion":"v1","groups":[]}"#;
+
 pub(crate) const APPS_GROUP: &[u8] =
     br#"{"kind":"APIGroup","apiVersion":"v1","name":"apps","versions":[{"groupVersion":"apps/v1","version":"v1"}],"preferredVersion":{"groupVersion":"apps/v1","version":"v1"}}"#;
 
-pub(crate) const CORE_RESOURCES: &[u8] =
-    br#"{"kind":"APIResourceList","groupVersion":"v1","resources":[{"name":"namespaces","singularName":"namespace","namespaced":false,"kind":"Namespace","verbs":["get"],"shortNames":["ns"]},{"name":"pods","singularName":"pod","namespaced":true,"kind":"Pod","verbs":["create","delete","get","list","update","watch"],"shortNames":["po"],"categories":["all"]},{"name":"configmaps","singularName":"configmap","namespaced":true,"kind":"ConfigMap","verbs":["create","delete","get","list","update","watch"],"shortNames":["cm"]}]}"#;
+pub(crate) const NO_APPS_GROUP: &[u8] =
+    br#"{"kind":"APIGroup","apiVersion":"v1","name":"apps","versions":[]}"#;
 
-pub(crate) const APPS_RESOURCES: &[u8] =
-    br#"{"kind":"APIResourceList","apiVersion":"v1","groupVersion":"apps/v1","resources":[{"name":"deployments","singularName":"deployment","namespaced":true,"kind":"Deployment","verbs":["create","delete","get","list","update","watch"],"shortNames":["deploy"],"categories":["all"]}]}"#;
+// Up to the namespaces.
+pub(crate) const CORE_FRONT: &[u8] =
+    br#"{"kind":"APIResourceList","groupVersion":"v1","resources":[{"name":"namespaces","singularName":"namespace","namespaced":false,"kind":"Namespace","verbs":["get"],"shortNames":["ns"]}"#;
+
+pub(crate) const APPS_FRONT: &[u8] =
+    br#"{"kind":"APIResourceList","apiVersion":"v1","groupVersion":"apps/v1","resources":["#;
+
+// Pods and config maps stand behind other resources.
+pub(crate) const PODS: &[u8] =
+    br#",{"name":"pods","singularName":"pod","namespaced":true,"kind":"Pod","verbs":["create","delete","get","list","update","watch"],"shortNames":["po"],"categories":["all"]}"#;
+
+pub(crate) const CONFIG_MAPS: &[u8] =
+    br#",{"name":"configmaps","singularName":"configmap","namespaced":true,"kind":"ConfigMap","verbs":["create","delete","get","list","update","watch"],"shortNames":["cm"]}"#;
+
+pub(crate) const DEPLOYMENTS: &[u8] =
+    br#"{"name":"deployments","singularName":"deployment","namespaced":true,"kind":"Deployment","verbs":["create","delete","get","list","update","watch"],"shortNames":["deploy"],"categories":["all"]}"#;
+
+pub(crate) const LIST_BACK: &[u8] = b"]}";
 
 pub(crate) const NAMESPACE_FRONT: &[u8] =
     br#"{"kind":"Namespace","apiVersion":"v1","metadata":{"name":""#;

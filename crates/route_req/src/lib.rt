@@ -3,7 +3,6 @@
 #![tactic(auto)]
 
 mod document_paths;
-mod document_texts;
 mod documents;
 mod laws;
 mod places;

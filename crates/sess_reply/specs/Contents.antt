@@ -5,7 +5,7 @@ use Rattle.std.specs.Prelude.{ℕ, List, [], ◌∷◌, codes, Bool, true, false
 use Rattle.kube_meta.specs.Keys.{name_of}
 use Rattle.kube_meta.specs.Rows.{RowData}
 use Rattle.kube_meta.specs.declared.resources.Resource.{Resource}
-use Rattle.route_req.specs.Documents.{document_text}
+use Rattle.sess_reply.specs.Documents.{document_text}
 use Rattle.route_req.specs.declared.documents.Document.{Document}
 use Rattle.route_req.specs.declared.documents.Document.TheVariants as document
 use Rattle.route_req.specs.declared.documents.Probe.{Probe}
@@ -33,6 +33,7 @@ use Rattle.meta_view.specs.declared.form.Form.TheVariants.{Whole}
 use Rattle.client_api.specs.declared.answers.ListNo.{ListNo}
 use Rattle.client_api.specs.declared.answers.ListNo.TheVariants.{Expired, TooLarge, Absent, Memory}
 use Rattle.client_api.specs.Answers.{GotData, ListedData}
+use Rattle.client_api.specs.declared.resources.Resources.{Resources}
 use Rattle.metrics.specs.declared.caches.Metrics.{Metrics}
 use Rattle.metrics.specs.Text.{metrics_text}
 
@@ -143,9 +144,14 @@ content_type_of (document.Probe asked) = PlainText
 content_type_of document.OpenApi = OpenApi
 content_type_of text = Json
 
--- what describes the server is said as it is
-abbrev pub described_content : Document → Option Content
-described_content text = Some (record { code = 200; retry = false; kind = content_type_of text; text = document_text text })
+-- what describes the server, which has these resources, is said as it is
+abbrev pub described_content : Resources → Document → Option Content
+described_content served document = Some (record {
+  code = 200;
+  retry = false;
+  kind = content_type_of document;
+  text = document_text served document;
+})
 
 -- ---- monitors
 

@@ -1,4 +1,5 @@
 pub mod Replies
 pub mod Contents
+pub mod Documents
 pub mod Sending
 pub mod Items

@@ -9,6 +9,8 @@ ghost use Rattle.sess_reply.specs.Sending.{Sends};
 
 use crate::Broken;
 use crate::body::send_typed_pieces;
+use crate::documents::pieces;
+use client_api::Resources;
 use edge_io::Sink;
 use http_send::ContentType;
 use route_req::Document;
@@ -24,10 +26,15 @@ fn content_type_of(document: &Document) -> ContentType
     }
 }
 
-/// Replies with what describes the server.
-pub fn send_described<K: Sink>(sink: &mut K, close: bool, document: &Document) -> Result<(), Broken>
-    ensures { Sends result (reply_text Whole close (described document.now)) (sent_through K.written K.settled K.faults sink.old sink.new) }
+/// Replies with what describes the server, which has these resources.
+pub fn send_described<K: Sink>(
+    sink: &mut K,
+    close: bool,
+    served: Resources,
+    document: &Document,
+) -> Result<(), Broken>
+    ensures { Sends result (reply_text Whole close (described served document.now)) (sent_through K.written K.settled K.faults sink.old sink.new) }
 {
-    let pieces = document.pieces();
+    let pieces = pieces(document, served);
     send_typed_pieces(sink, content_type_of(document), 200, false, close, &pieces)
 }

@@ -5,6 +5,8 @@
 mod body;
 mod broken;
 mod described;
+mod document_texts;
+mod documents;
 mod faults;
 mod form;
 mod items;

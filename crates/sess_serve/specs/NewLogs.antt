@@ -2,6 +2,7 @@
 use Rattle.std.specs.Prelude.{ℕ, [], false, Some}
 use Rattle.rev_front.specs.Passes.{Pass, empty_log, pass_from}
 use Rattle.rev_log.specs.Changes.{RevisionData}
+use Rattle.client_api.specs.Facts.{all_served}
 use Rattle.sess_turns.specs.Terms.{Terms}
 use Rattle.up_api.specs.declared.settings.Settings.{Settings}
 
@@ -10,6 +11,13 @@ abbrev pub new_pass : ℕ → Pass RevisionData
 new_pass seat = pass_from (empty_log 1) seat
 
 -- a log with no base rows, which is no mirror's and which nobody else holds; watches that are served from so many changes
--- back as the settings say, and the states of so many revisions
+-- back as the settings say, and the states of so many revisions; all resources
 abbrev pub terms : Settings → Terms
-terms settings = record { base = []; mirror = false; window = settings.window; sole_history = Some settings.history; settings = settings }
+terms settings = record {
+  base = [];
+  mirror = false;
+  window = settings.window;
+  sole_history = Some settings.history;
+  resources = all_served;
+  settings = settings;
+}

@@ -28,8 +28,8 @@ UnwatchedSays terms p ask (Expired asked floor) q = ⊥
 UnwatchedSays terms p ask (Absent at) q = ⊥
 UnwatchedSays terms p ask Memory q = ⊥
 
--- a reply tells what the client answered, which wasn't want of memory; where it wasn't asked nothing has changed; none but
--- a mirror fails a probe
+-- a reply tells what the client answered, which wasn't want of memory; where it wasn't asked nothing has changed; what is
+-- described are the server's resources; none but a mirror fails a probe
 abbrev pub ReplySays : Terms → Pass RevisionData → Reply → Pass RevisionData → Type 0
 ReplySays terms p (unrouted fault) q = p ≡ q
 ReplySays terms p (wrote ask answer) q = IsToldWrite answer × IsWriteReply terms.base terms.mirror p ask answer q
@@ -37,7 +37,7 @@ ReplySays terms p (transacted asks answer) q = IsToldTx answer × IsTransactionR
 ReplySays terms p (got ask answer) q = IsToldRead answer × IsGetAnswer terms.base p ask answer q
 ReplySays terms p (listed ask answer) q = IsToldRead answer × IsListAnswer terms.base p ask answer q
 ReplySays terms p (operated ask answer) q = IsToldOperation answer × IsOperationReply p ask answer q
-ReplySays terms p (described document) q = p ≡ q
+ReplySays terms p (described served document) q = (served ≡ terms.resources) × (p ≡ q)
 ReplySays terms p (metered told) q = AreMetrics terms.base p told q
 ReplySays terms p (unready probe) q = (terms.mirror ≡ true) × (p ≡ q)
 ReplySays terms p (unwatched ask fault) q = UnwatchedSays terms p ask fault q
@@ -83,7 +83,7 @@ IsAloneReply terms p (operated ask answer) q = SoleOperate p ask answer q
 IsAloneReply terms p (unrouted fault) q = IsSoleRead p q
 IsAloneReply terms p (got ask answer) q = IsSoleRead p q
 IsAloneReply terms p (listed ask answer) q = IsSoleRead p q
-IsAloneReply terms p (described document) q = IsSoleRead p q
+IsAloneReply terms p (described served document) q = IsSoleRead p q
 IsAloneReply terms p (metered told) q = IsSoleRead p q
 IsAloneReply terms p (unready probe) q = IsSoleRead p q
 IsAloneReply terms p (unwatched ask fault) q = IsSoleRead p q

@@ -189,7 +189,8 @@ fn passes<C: Client>(client: &C, probe: Probe) -> bool
     }
 }
 
-/// What describes the server: the client is asked for no more than whether it is ready, and whether it is to run on.
+/// What describes the server: the client is asked for no more than which resources that has, whether it is ready, and
+/// whether it is to run on.
 pub fn step_describe<C: Client, K: Sink>(
     client: &C,
     sink: &mut K,
@@ -204,6 +205,6 @@ pub fn step_describe<C: Client, K: Sink>(
         Document::Probe(probe) if !passes(client, *probe) => {
             by_reply(send_unready(sink, req.close, *probe))
         }
-        _ => by_reply(send_described(sink, req.close, document)),
+        _ => by_reply(send_described(sink, req.close, client.resources(), document)),
     }
 }

@@ -9,7 +9,7 @@ use crate::cacher::Cacher;
 use crate::shared::SharedCaches;
 use bells::Bell;
 use cached_client::{Watch, WatchLane, begin, get, list, measure, stand, turn};
-use client_api::{Begun, Client, Got, ListNo, Listed, Took};
+use client_api::{Begun, Client, Got, ListNo, Listed, Resources, Took};
 use kube_meta::Memory;
 use list_rules::{GetAsk, ListAsk};
 use metrics::Metrics;
@@ -78,6 +78,7 @@ impl<N: LogFacts, R: Wait + Copy> Drop for SharedClient<'_, N, R> {
 
 impl<N: LogFacts, R: Wait + Copy> Client for SharedClient<'_, N, R> {
     ghost use Rattle.std.specs.Prelude.{None};
+    ghost use Rattle.client_api.specs.Facts.{all_served};
 
     ghost base = { N.base };
 
@@ -85,7 +86,13 @@ impl<N: LogFacts, R: Wait + Copy> Client for SharedClient<'_, N, R> {
 
     ghost pass = { λ c. c.told };
 
-    ghost facts = { λ c. record { watching = c.watch; heard = c.heard; window = N.window; sole_history = None } };
+    ghost facts = { λ c. record {
+      watching = c.watch;
+      heard = c.heard;
+      window = N.window;
+      sole_history = None;
+      resources = all_served;
+    } };
 
     // others hold the log too
     ghost whole = { λ _. ⊥ };
@@ -144,6 +151,11 @@ impl<N: LogFacts, R: Wait + Copy> Client for SharedClient<'_, N, R> {
 
     fn metrics(&mut self) -> Result<Metrics, Memory> {
         measure(&mut self.caches, &mut self.told)
+    }
+
+    // Its server knows better where it is a mirror's, and tells that in its place.
+    fn resources(&self) -> Resources {
+        Resources::ALL
     }
 
     fn is_ready(&self) -> bool {

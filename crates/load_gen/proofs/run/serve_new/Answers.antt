@@ -1,4 +1,5 @@
 use Rattle.std.proofs.Common.{Some, refl}
+use Rattle.client_api.specs.Facts.{all_served}
 use Rattle.local_client.specs.CachedLogs.{known_log, window_of}
 use Rattle.load_gen.proofs.LoadLemmas.{figures_told, requests_told}
 use Rattle.load_gen.proofs.run.serve_new.Goals as goal
@@ -11,7 +12,7 @@ returns-clause-figures g c =
     let client = c.in_ok-client.client in
     let after = c.play-played.new.client in
     let end = c.list_all-listed.new.client in
-    figures_told _ _ _ (record { watching = client.watch; heard = client.heard; window = window_of (known_log client.caches client.told); sole_history = Some client.caches.store.history }) c.usual-settings.result (known_log client.caches client.told) (known_log after.caches after.told) c.args.session.items
+    figures_told _ _ _ (record { watching = client.watch; heard = client.heard; window = window_of (known_log client.caches client.told); sole_history = Some client.caches.store.history; resources = all_served }) c.usual-settings.result (known_log client.caches client.told) (known_log after.caches after.told) c.args.session.items
     c.args.requests end.told c.play-played.result c.list_all-listed.result c.figures.result
     (record {
       first_is = c.requires.first;
@@ -20,6 +21,7 @@ returns-clause-figures g c =
       settings_are = c.usual-settings.ensures.is;
       window_is = refl;
       history_is = refl;
+      resources_are = refl;
       new = c.in_ok-client.ensures.log;
       served = c.play-played.ensures.served;
       kept = c.play-played.ensures.kept c.in_ok-client.ensures.log.whole;

@@ -19,6 +19,7 @@ returns-in-Probe g c = λ s.
 
 pub returns-in_default : goal.returns-in_default
 returns-in_default g c = λ s.
-    sends _ _ _ _ _ _ c.by_reply-in_default.result c.send_described.result c.by_reply-in_default.ensures (described c.args.document.now) c.requires refl (onwards_do_join.0 _)
+    sends _ _ _ _ _ _ c.by_reply-in_default.result c.send_described.result c.by_reply-in_default.ensures (described c.resources.result c.args.document.now) c.requires
+    (c.resources.ensures, refl) (onwards_do_join.0 _)
     (λ w. sole-same _ _ refl)
     c.send_described.ensures
