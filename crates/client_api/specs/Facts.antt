@@ -1,7 +1,8 @@
 -- What a client tells of itself in contracts, and what holds of what it knows.
-use Rattle.std.specs.Prelude.{ℕ, ◌<◌, ◌≤◌, max, true, Option, Some, None, option_map, length, if◌then◌else◌}
+use Rattle.std.specs.Prelude.{ℕ, ◌<◌, ◌≤◌, max, Bool, true, Option, Some, None, option_map, length, if◌then◌else◌}
 use Rattle.kube_meta.specs.Resources.{same_resource}
 use Rattle.kube_meta.specs.declared.resources.Resource.{Resource}
+use Rattle.kube_meta.specs.declared.resources.Resource.TheVariants.{Pods, ConfigMaps, Deployments}
 use Rattle.rev_front.specs.Passes.{Pass, IsPass, Extends}
 use Rattle.rev_log.specs.Changes.{RevisionData}
 use Rattle.rev_log.specs.Logs.{Fits}
@@ -12,6 +13,12 @@ use Rattle.client_api.specs.declared.resources.Resources.{Resources}
 pub record Watched : Type 0 where
   pub selection : Selection
   pub position : ℕ
+
+-- whether a resource is among these
+abbrev pub is_among : Resources → Resource → Bool
+is_among these Pods = these.pods
+is_among these ConfigMaps = these.config_maps
+is_among these Deployments = these.deployments
 
 -- all resources
 abbrev pub all_served : Resources

@@ -3,7 +3,7 @@
 ghost use Rattle.std.specs.Prelude.{◌≡◌, ◌<◌, ◌≤◌, IfSome};
 
 use kube_meta::{Memory, Resource};
-use metrics::{RequestCount, Served, Verb};
+use metrics::{Mirrored, RequestCount, Served, Verb};
 use std::alloc::Global;
 use std::sync::atomic::AtomicU64;
 use std::sync::atomic::Ordering::SeqCst;
@@ -83,8 +83,8 @@ impl Counts {
         }
     }
 
-    /// What a monitor is told: each count by itself, as it stands when it is read.
-    pub fn served(&self, following: Option<bool>) -> Result<Served, Memory> {
+    /// What a monitor is told, and this of mirrors: each count by itself, as it stands when it is read.
+    pub fn served(&self, mirrors: Vec<Mirrored>) -> Result<Served, Memory> {
         let mut requests = Vec::new(self.alloc);
         for verb in VERBS {
             for resource in RESOURCES {
@@ -105,7 +105,7 @@ impl Counts {
             connections: self.connections.load(SeqCst),
             events: self.events.load(SeqCst),
             requests,
-            following,
+            mirrors,
         })
     }
 

@@ -9,6 +9,7 @@ use crate::verdicts::{
     stop_of_stream_end,
 };
 use edge_io::{Sink, Source};
+use kube_meta::Resource;
 use mirror_link::{Heard, Mirror};
 use std::alloc::Global;
 use std::sync::Wait;
@@ -55,6 +56,7 @@ pub fn follow<N: LogFacts, R: Wait + Copy, S: Source, D: Redial>(
         return Left::Ended(end);
     }
     let from = mirror.to();
+    front.heard_reply(Resource::Pods, from);
     redial.say(News::Follows { port, from });
     let mut pace = Pace {
         ms: FIRST_WAIT_MS,
@@ -74,7 +76,7 @@ pub fn follow<N: LogFacts, R: Wait + Copy, S: Source, D: Redial>(
                 Ask::Opening
             }
             Stop::Lost(lost) => {
-                front.end_following();
+                front.end_following(Resource::Pods);
                 redial.say(News::Ends { why: lost.why() });
                 return Left::Lost(lost);
             }
@@ -114,12 +116,15 @@ fn follow_again<N: LogFacts, R: Wait + Copy, D: Redial>(
             Ok((mut source, _sink)) => {
                 // Watches that rest below a new base hear so that they are lost.
                 front.desk.doorbell.ring();
-                front.found_peer();
+                front.found_peer(Resource::Pods);
                 let from = mirror.to();
+                if ask == Ask::Opening {
+                    front.began_anew(Resource::Pods, from);
+                }
                 redial.say(News::FollowsAgain { from });
                 return hear_lines(front, mirror, &mut source, pace);
             }
-            Err(Stop::Over(_)) => front.lost_peer(),
+            Err(Stop::Over(_)) => front.lost_peer(Resource::Pods),
             Err(stop) => return stop,
         }
     }
@@ -189,6 +194,7 @@ fn hear_lines<N: LogFacts, R: Wait + Copy, S: Source>(
         match mirror.next(source) {
             Ok(Heard::Line { .. }) => {
                 pace.ms = FIRST_WAIT_MS;
+                front.heard_line(Resource::Pods, mirror.to());
                 front.desk.doorbell.ring();
             }
             Ok(Heard::Ended { .. }) => return stop_of_stream_end(),

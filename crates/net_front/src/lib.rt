@@ -16,7 +16,6 @@ mod host;
 mod house;
 mod intake;
 mod mirror;
-mod peer;
 mod probes;
 mod pump;
 mod redial;

@@ -12,6 +12,7 @@ use crate::redial::Redial;
 use crate::server::serve_front;
 use crate::shared::{Desk, Front, Host};
 use bells::Rung;
+use client_api::Resources;
 use edge_io::{Clock, Listener, Source};
 use kube_meta::Memory;
 use mirror_link::Mirror;
@@ -58,7 +59,7 @@ where
         (λ served. MayEnd (L.over served.listener) (L.faults served.listener) served.accepted (most_connections connections)) }
     ensures sessions { IfOk result (λ served. IfSome served.sessions (λ sessions. sessions ≡ served.accepted)) }
 {
-    let followed = Some(Followed::new());
+    let followed = Some(Followed::new(Resources::PODS, clock.now().ms));
     let desk = Desk::new(alloc, followed, Counts::new(alloc)?, *settings);
     let front = Front::new(rt, alloc, cacher, desk);
     let following = ||

@@ -1,8 +1,7 @@
 //! The pump, which feeds the caches and wakes the watches that they told something.
 
-use crate::disconnects::Disconnects;
-use crate::doorbell::Doorbell;
 use crate::end::End;
+use crate::shared::Desk;
 use bells::{Bell, NO_PEER};
 use edge_io::Clock;
 use shared_client::Cacher;
@@ -16,7 +15,7 @@ const FEW_CALLS: usize = 16;
 /// For how many milliseconds.
 const GATHER_MS: u64 = 1;
 
-/// Feeds the caches, tells them the time and rings for the lanes that were told, by turns, until `end` is there and the
+/// Feeds the caches, tells them and the desk the time and rings for the lanes that were told, by turns, until `end` is there and the
 /// bell rung. Where all watches were ended it rings for all connections. Where there is no memory for a pass it does
 /// not run: lists and watches follow the log themselves.
 pub fn pump<N: LogFacts, T: Clock, R: Wait + Copy>(
@@ -24,10 +23,10 @@ pub fn pump<N: LogFacts, T: Clock, R: Wait + Copy>(
     alloc: Global,
     cacher: &Cacher<N, R>,
     clock: &mut T,
-    doorbell: &Doorbell,
-    disconnects: &Disconnects,
+    desk: &Desk,
     end: &End,
 ) {
+    let (doorbell, disconnects) = (&desk.doorbell, &desk.disconnects);
     let Ok(mut told) = cacher.pass() else {
         return;
     };
@@ -45,7 +44,9 @@ pub fn pump<N: LogFacts, T: Clock, R: Wait + Copy>(
             ended = now_ended;
             disconnects.ring(rt);
         }
-        cacher.tick(clock.now().ms);
+        let now_ms = clock.now().ms;
+        desk.tell_time(now_ms);
+        cacher.tick(now_ms);
         let _ = cacher.feed(&mut told, &mut calls);
         if ring_all(&mut calls) > FEW_CALLS {
             silence.rest(rt, 0, &NO_PEER, GATHER_MS);

@@ -2,11 +2,12 @@
 //! ends all watches where it is asked to.
 
 ghost use Rattle.std.specs.Prelude.{◌≡◌, true, false, None, IsSome};
+ghost use Rattle.net_front.specs.Probes.{facts_at};
 
 use crate::probes::{is_live, is_ready};
 use crate::schedule::Schedule;
 use crate::shared::Desk;
-use client_api::{Begun, Client, Got, ListNo, Listed, Took};
+use client_api::{Begun, Client, Got, ListNo, Listed, Resources, Took};
 use kube_meta::Memory;
 use list_rules::{GetAsk, ListAsk};
 use metrics::{Metrics, Verb};
@@ -26,7 +27,8 @@ impl<'a, C: Client> RingingClient<'a, C> {
     /// This client, at this desk. Only a mirror's log has a peer that is followed.
     pub fn new(client: C, desk: &'a Desk, schedule: &'a Schedule) -> RingingClient<'a, C>
         requires mirrored { IsSome desk.now.followed → C.mirror ≡ true }
-        ensures { result.client ≡ client }
+        ensures client { result.client ≡ client }
+        ensures desk { result.desk.now ≡ desk.now }
     {
         RingingClient {
             client,
@@ -63,7 +65,7 @@ impl<'a, C: Client> Client for RingingClient<'a, C> {
 
     ghost pass = { λ c. C.pass c.client };
 
-    ghost facts = { λ c. C.facts c.client };
+    ghost facts = { λ c. facts_at c.desk.now.followed (C.facts c.client) };
 
     ghost whole = { λ c. C.whole c.client };
 
@@ -140,8 +142,12 @@ impl<'a, C: Client> Client for RingingClient<'a, C> {
 
     fn metrics(&mut self) -> Result<Metrics, Memory> {
         let mut told = self.client.metrics()?;
-        told.served = Some(self.desk.counts.served(self.is_followed())?);
+        told.served = Some(self.desk.counts.served(self.desk.mirrors()?)?);
         Ok(told)
+    }
+
+    fn resources(&self) -> Resources {
+        self.desk.resources()
     }
 
     fn is_ready(&self) -> bool {

@@ -175,15 +175,18 @@ where
     L: Listener + Send + Drop,
     L::T: Rung,
 {
-    let pumping = || pump(
-        front.rt,
-        front.alloc,
-        front.cacher,
-        clock,
-        &front.desk.doorbell,
-        &front.desk.disconnects,
-        &front.end,
-    );
+    let pumping = ||
+        requires { AreInRange front.now.desk.settings }
+    {
+        pump(
+            front.rt,
+            front.alloc,
+            front.cacher,
+            clock,
+            &front.desk,
+            &front.end,
+        )
+    };
     let serving = ||
         requires { AreInRange front.now.desk.settings }
     {

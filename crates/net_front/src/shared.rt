@@ -1,6 +1,7 @@
 //! What the threads of a server share.
 
 ghost use Rattle.std.specs.Prelude.{◌≡◌, true, IsSome};
+ghost use Rattle.net_front.specs.Probes.{resources_of};
 ghost use Rattle.up_api.specs.Settings.{AreInRange};
 
 use crate::counts::Counts;
@@ -11,7 +12,10 @@ use crate::followed::Followed;
 use crate::house::House;
 use crate::intake::{Intake, Limit};
 use crate::tally::Tally;
+use client_api::Resources;
 use edge_io::Listener;
+use kube_meta::{Memory, Resource};
+use metrics::Mirrored;
 use shared_client::Cacher;
 use std::alloc::Global;
 use std::io::Eprint;
@@ -24,10 +28,11 @@ pub trait Host: Threads + Wait + Eprint + Copy + Send + Sync {}
 
 impl<R: Threads + Wait + Eprint + Copy + Send + Sync> Host for R {}
 
-/// What the connections of a server share beside its log: the peer that a mirror's log follows, the counts for
+/// What the connections of a server share beside its log: the peers that mirrors' logs follow, the counts for
 /// monitors, the settings, the bell of the pump, and what ends all watches.
 #[derive(Drop)]
 pub struct Desk {
+    pub alloc: Global,
     pub followed: Option<Followed>,
     pub counts: Counts,
     pub settings: Settings,
@@ -49,11 +54,37 @@ impl Desk {
         ensures followed { result.followed ≡ followed }
     {
         Desk {
+            alloc,
             followed,
             counts,
             settings,
             doorbell: Doorbell::new(),
             disconnects: Disconnects::new(alloc),
+        }
+    }
+
+    /// The resources that the server has: those that it mirrors, or else all.
+    pub fn resources(&self) -> Resources
+        ensures { result ≡ resources_of self.now.followed }
+    {
+        match &self.followed {
+            Some(followed) => followed.resources,
+            None => Resources::ALL,
+        }
+    }
+
+    /// What a monitor is told of its mirrors.
+    pub fn mirrors(&self) -> Result<Vec<Mirrored>, Memory> {
+        match &self.followed {
+            Some(followed) => followed.mirrors(self.alloc),
+            None => Ok(Vec::new(self.alloc)),
+        }
+    }
+
+    /// So late it is now.
+    pub fn tell_time(&self, now_ms: u64) {
+        if let Some(followed) = &self.followed {
+            followed.tell_time(now_ms);
         }
     }
 }
@@ -87,24 +118,45 @@ impl<'a, N: LogFacts, R: Wait + Copy> Front<'a, N, R> {
         }
     }
 
-    /// The mirror follows its peer.
-    pub fn found_peer(&self) {
+    /// The mirror of a resource follows its peer.
+    pub fn found_peer(&self, resource: Resource) {
         if let Some(followed) = &self.desk.followed {
-            followed.found();
+            followed.found(resource);
         }
     }
 
-    /// The mirror doesn't follow its peer, and could not when it tried to.
-    pub fn lost_peer(&self) {
+    /// It doesn't follow its peer, and could not when it tried to.
+    pub fn lost_peer(&self, resource: Resource) {
         if let Some(followed) = &self.desk.followed {
-            followed.lost();
+            followed.lost(resource);
         }
     }
 
-    /// The mirror follows its peer no more, for good.
-    pub fn end_following(&self) {
+    /// It follows its peer no more, for good.
+    pub fn end_following(&self, resource: Resource) {
         if let Some(followed) = &self.desk.followed {
-            followed.end();
+            followed.end(resource);
+        }
+    }
+
+    /// A whole reply came from its peer, and it is at this revision.
+    pub fn heard_reply(&self, resource: Resource, to: u64) {
+        if let Some(followed) = &self.desk.followed {
+            followed.heard_reply(resource, to);
+        }
+    }
+
+    /// A line came from its peer, and it is at this revision.
+    pub fn heard_line(&self, resource: Resource, to: u64) {
+        if let Some(followed) = &self.desk.followed {
+            followed.heard_line(resource, to);
+        }
+    }
+
+    /// All that its peer had came from it, and it began anew from that, at this revision.
+    pub fn began_anew(&self, resource: Resource, to: u64) {
+        if let Some(followed) = &self.desk.followed {
+            followed.began_anew(resource, to);
         }
     }
 }

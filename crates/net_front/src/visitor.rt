@@ -2,6 +2,7 @@
 
 ghost use Rattle.std.specs.Prelude.{◌≡◌, ◌+◌, ◌<◌, ◌^◌, true, None, IsSome, IfOk, IfNone};
 ghost use Rattle.edge_io.specs.Net.{handed_out, failures};
+ghost use Rattle.net_front.specs.Probes.{facts_at};
 ghost use Rattle.net_front.specs.Visits.{IsVisit, visit_ends};
 ghost use Rattle.sess_turns.specs.Terms.{terms_of};
 
@@ -83,7 +84,7 @@ where
         requires idle { (C.facts client).watching ≡ None }
         requires mirrored { IsSome desk.now.followed → C.mirror ≡ true }
         requires room { sessions.old < 2 ^ 63 }
-        ensures session { IsVisit (terms_of C.base C.mirror (C.facts client) desk.now.settings)
+        ensures session { IsVisit (terms_of C.base C.mirror (facts_at desk.now.followed (C.facts client)) desk.now.settings)
             (C.whole client) (C.pass client)
             (visit_ends (L.S.left self.source) (L.S.faults self.source) (L.K.written self.sink) (L.K.faults self.sink))
             (visit_ends (L.S.left result.1) (L.S.faults result.1) (L.K.written result.2) (L.K.faults result.2))
