@@ -33,7 +33,7 @@ use Rattle.mirror_law.proofs.LineLemmas.{told_since-append, before_event, openin
 
 -- ---- up to where lines tell
 
-upto_more : (from : ℕ) (lines : List Line) (line : Line) → upto_in from (lines ++ line ∷ []) ≡ max (upto_in from lines) (upto_of line)
+pub upto_more : (from : ℕ) (lines : List Line) (line : Line) → upto_in from (lines ++ line ∷ []) ≡ max (upto_in from lines) (upto_of line)
 upto_more from lines line = fold-append (λ (at : ℕ) (l : Line). max at (upto_of l)) from lines (line ∷ [])
 
 pub from_on : (from : ℕ) (lines : List Line) → from ≤ upto_in from lines
@@ -75,7 +75,7 @@ module _ (peer : Log) (log_floor low b from : ℕ) (ask : WatchAsk) (lines : Lis
       (all_weaker (λ u. (from < u.rev) × (u.rev ≤ end_of m)) (λ u. u.rev < t.rev) (λ u w. omega (arith, w.1, later)) first within)
       (all_weaker (λ u. u.rev ≡ end_of m + 1) (λ u. u.rev < t.rev) (λ u number. omega (arith, number, later)) kept (recursion_from_All (λ u. u.rev ≡ end_of m + 1) kept follows.next)))
 
-  one_since : (t : TransitionData) → end_of m < t.rev → told_since from (Told t ∷ []) ≡ t ∷ []
+  pub one_since : (t : TransitionData) → end_of m < t.rev → told_since from (Told t ∷ []) ≡ t ∷ []
   one_since t above = rw (lt-ltb from t.rev (omega (arith, within_end, above))) refl
 
   since_first : (t : TransitionData) (more : List Line) → end_of m < t.rev → told_since from (Told t ∷ more) ≡ t ∷ told_since from more

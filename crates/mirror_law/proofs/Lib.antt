@@ -9,3 +9,5 @@ pub mod TakenLemmas
 pub mod AnswerLemmas
 pub mod ObjectLemmas
 pub mod ToldLemmas
+pub mod RunLemmas
+pub mod OnceLemmas

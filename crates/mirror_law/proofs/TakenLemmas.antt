@@ -42,7 +42,7 @@ one_fewer : {Y : Type 0} (o : Option Y) (ys : List Y) (n : ℕ) → length ys �
 one_fewer None ys n few = omega (arith, few)
 one_fewer (Some y) ys n few = omega (arith, few)
 
-fewer : {X Y : Type 0} (h : X → Option Y) (xs : List X) → length (filter_map h xs) ≤ length xs
+pub fewer : {X Y : Type 0} (h : X → Option Y) (xs : List X) → length (filter_map h xs) ≤ length xs
 fewer h [] = omega arith
 fewer h (x ∷ xs) = omega (arith, one_fewer (h x) (filter_map h xs) (length xs) (fewer h xs))
 

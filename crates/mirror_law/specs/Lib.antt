@@ -3,3 +3,4 @@ pub mod Following
 pub mod Taking
 pub mod Objects
 pub mod Laws
+pub mod Clusters

@@ -1,5 +1,6 @@
 //! Laws of mirrors.
 
+ghost use Rattle.mirror_law.specs.Clusters.{BodiesTakeMarks, FollowingsCommitAtOnce, FollowingsHearAtOnce, LinesGoOnBehindMarks, MarksGoOn};
 ghost use Rattle.mirror_law.specs.Laws.{BasesAreStates, LogsGoOn, RowsAreOld, FewAtOnce, BeginningsTellTheStream, ToldRevisionsAreOne, EmptyRevisionsAreTold, ToldRevisionsGoOn, MirrorsBegin, MirrorsBeginAnew, MirrorsGoOn, MirrorsAnswerLists, MirrorsAnswerWatches, MirrorsCompose, FollowingsBegin, FollowingsBeginAnew, FollowingsCommit, FollowingsHear, FollowingsMark, FollowingsResume, OpeningsAreTaken, LawfulLinesAreTaken, LinesAreReached};
 
 // ---- logs
@@ -125,4 +126,31 @@ pub fn lines_are_reached()
 /// A mirror that follows takes the next line of a lawful body.
 pub fn lawful_lines_are_taken()
     ensures { LawfulLinesAreTaken }
+{}
+
+// ---- logs of clusters
+
+/// A bookmark behind each event of lines goes on line by line.
+pub fn marks_go_on()
+    ensures { MarksGoOn }
+{}
+
+/// Lines of a cluster begin a body with a bookmark behind each event too.
+pub fn bodies_take_marks()
+    ensures { BodiesTakeMarks }
+{}
+
+/// So does the next line behind such lines.
+pub fn lines_go_on_behind_marks()
+    ensures { LinesGoOnBehindMarks }
+{}
+
+/// Any beginning of what an event of a cluster commits at once leaves a mirror.
+pub fn followings_commit_at_once()
+    ensures { FollowingsCommitAtOnce }
+{}
+
+/// An event of a cluster commits all revisions up to its own, and nothing is kept.
+pub fn followings_hear_at_once()
+    ensures { FollowingsHearAtOnce }
 {}
