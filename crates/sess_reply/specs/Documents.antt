@@ -52,9 +52,9 @@ item_of is_served r = if is_served then 44 ∷ resource_text r else []
 abbrev pub apps_version : List ℕ
 apps_version = codes "{\"groupVersion\":\"apps/v1\",\"version\":\"v1\"}"
 
--- the members of the group `apps`
-abbrev pub apps_members : List ℕ
-apps_members = concat (codes "\"name\":\"apps\",\"versions\":[" ∷ apps_version ∷ codes "],\"preferredVersion\":" ∷ apps_version ∷ [])
+-- the members of the group `apps` behind its name, where it is served
+abbrev pub apps_versions : List ℕ
+apps_versions = concat (codes "\"versions\":[" ∷ apps_version ∷ codes "],\"preferredVersion\":" ∷ apps_version ∷ [])
 
 -- ---- OpenAPI
 
@@ -73,10 +73,10 @@ document_text served Version =
 document_text served CoreVersions = codes "{\"kind\":\"APIVersions\",\"versions\":[\"v1\"],\"serverAddressByClientCIDRs\":[]}"
 document_text served Groups =
     concat (codes "{\"kind\":\"APIGroupList\",\"apiVersion\":\"v1\",\"groups\":["
-    ∷ (if served.deployments then codes "{" ++ apps_members ++ codes "}" else []) ∷ codes "]}" ∷ [])
+    ∷ (if served.deployments then codes "{\"name\":\"apps\"," ++ apps_versions ++ codes "}" else []) ∷ codes "]}" ∷ [])
 document_text served AppsGroup =
-    concat (codes "{\"kind\":\"APIGroup\",\"apiVersion\":\"v1\","
-    ∷ (if served.deployments then apps_members else codes "\"name\":\"apps\",\"versions\":[]") ∷ codes "}" ∷ [])
+    concat (codes "{\"kind\":\"APIGroup\",\"apiVersion\":\"v1\",\"name\":\"apps\","
+    ∷ (if served.deployments then apps_versions else codes "\"versions\":[]") ∷ codes "}" ∷ [])
 document_text served CoreResources =
     concat (codes "{\"kind\":\"APIResourceList\",\"groupVersion\":\"v1\",\"resources\":["
     ∷ namespaces_text ∷ item_of served.pods Pods ∷ item_of served.config_maps ConfigMaps ∷ codes "]}" ∷ [])

@@ -6,16 +6,19 @@ pub(crate) const VERSION: &[u8] =
 pub(crate) const CORE_VERSIONS: &[u8] =
     br#"{"kind":"APIVersions","versions":["v1"],"serverAddressByClientCIDRs":[]}"#;
 
-pub(crate) const GROUPS: &[u8] =
-    br#"{"kind":"APIGroupList","apiVersion":"v1","groups":[{"name":"apps","versions":[{"groupVersion":"apps/v1","version":"v1"}],"preferredVersion":{"groupVersion":"apps/v1","version":"v1"}}]}"#;
+pub(crate) const GROUPS_FRONT: &[u8] = br#"{"kind":"APIGroupList","apiVersion":"v1","groups":["#;
 
-pub(crate) const NO_GROUPS: &[u8] = br#"{"kind":"APIGroupList","apiVersion":"v1","groups":[]}"#;
+pub(crate) const APPS_ITEM: &[u8] =
+    br#"{"name":"apps","versions":[{"groupVersion":"apps/v1","version":"v1"}],"preferredVersion":{"groupVersion":"apps/v1","version":"v1"}}"#;
 
-pub(crate) const APPS_GROUP: &[u8] =
-    br#"{"kind":"APIGroup","apiVersion":"v1","name":"apps","versions":[{"groupVersion":"apps/v1","version":"v1"}],"preferredVersion":{"groupVersion":"apps/v1","version":"v1"}}"#;
+pub(crate) const GROUP_FRONT: &[u8] = br#"{"kind":"APIGroup","apiVersion":"v1","name":"apps","#;
 
-pub(crate) const NO_APPS_GROUP: &[u8] =
-    br#"{"kind":"APIGroup","apiVersion":"v1","name":"apps","versions":[]}"#;
+pub(crate) const APPS_VERSIONS: &[u8] =
+    br#""versions":[{"groupVersion":"apps/v1","version":"v1"}],"preferredVersion":{"groupVersion":"apps/v1","version":"v1"}"#;
+
+pub(crate) const NO_VERSIONS: &[u8] = br#""versions":[]"#;
+
+pub(crate) const GROUP_BACK: &[u8] = b"}";
 
 // Up to the namespaces.
 pub(crate) const CORE_FRONT: &[u8] =

@@ -1,13 +1,13 @@
 //! The text of each document by which the server tells of itself.
 
-ghost use Rattle.std.specs.Prelude.{◌≡◌, if◌then◌else◌};
+ghost use Rattle.std.specs.Prelude.{◌≡◌, ◌++◌, if◌then◌else◌};
 ghost use Rattle.std.specs.List.{flat_map};
 ghost use Rattle.sess_reply.specs.Documents.{document_text};
 
 use crate::document_texts::{
-    APPS_FRONT, APPS_GROUP, CONFIG_MAPS, CORE_FRONT, CORE_VERSIONS, DEPLOYMENTS, GROUPS, LIST_BACK,
-    NAMESPACE_BACK, NAMESPACE_FRONT, NAMESPACE_MIDDLE, NO_APPS_GROUP, NO_GROUPS, OPEN_API, PODS,
-    PROBED, VERSION,
+    APPS_FRONT, APPS_ITEM, APPS_VERSIONS, CONFIG_MAPS, CORE_FRONT, CORE_VERSIONS, DEPLOYMENTS,
+    GROUP_BACK, GROUP_FRONT, GROUPS_FRONT, LIST_BACK, NAMESPACE_BACK, NAMESPACE_FRONT,
+    NAMESPACE_MIDDLE, NO_VERSIONS, OPEN_API, PODS, PROBED, VERSION,
 };
 use client_api::Resources;
 use route_req::Document;
@@ -19,8 +19,15 @@ fn alone<'a>(text: &'a [u8]) -> [&'a [u8]; 5]
     [text, b"", b"", b"", b""]
 }
 
+// A text in these pieces.
+fn joined<'a>(first: &'a [u8], second: &'a [u8], third: &'a [u8], fourth: &'a [u8]) -> [&'a [u8]; 5]
+    ensures { flat_map (λ piece. piece.now) result ≡ first.now ++ (second.now ++ (third.now ++ fourth.now)) }
+{
+    [first, second, third, fourth, b""]
+}
+
 // The first text where something is served, and the other where it isn't.
-fn chosen(is_served: bool, text: &'static [u8], other: &'static [u8]) -> &'static [u8]
+fn chosen<'a>(is_served: bool, text: &'a [u8], other: &'a [u8]) -> &'a [u8]
     ensures { result.now ≡ (if is_served then text.now else other.now) }
 {
     if is_served { text } else { other }
@@ -28,31 +35,43 @@ fn chosen(is_served: bool, text: &'static [u8], other: &'static [u8]) -> &'stati
 
 /// The text of the document at a server that has these resources, in pieces that stand one after the other: JSON, of a
 /// probe a plain text, and the OpenAPI document in protobuf, without the line feed with which that ends.
-pub(crate) fn pieces<'a>(document: &'a Document, served: Resources) -> [&'a [u8]; 5]
+pub(crate) fn pieces(document: &Document, served: Resources) -> [&[u8]; 5]
     ensures { flat_map (λ piece. piece.now) result ≡ document_text served document.now }
 {
     match document {
         Document::Version => alone(VERSION),
         Document::CoreVersions => alone(CORE_VERSIONS),
-        Document::Groups => alone(chosen(served.deployments, GROUPS, NO_GROUPS)),
-        Document::AppsGroup => alone(chosen(served.deployments, APPS_GROUP, NO_APPS_GROUP)),
+        Document::Groups => {
+            joined(
+                GROUPS_FRONT,
+                chosen(served.deployments, APPS_ITEM, b""),
+                LIST_BACK,
+                b"",
+            )
+        }
+        Document::AppsGroup => {
+            joined(
+                GROUP_FRONT,
+                chosen(served.deployments, APPS_VERSIONS, NO_VERSIONS),
+                GROUP_BACK,
+                b"",
+            )
+        }
         Document::CoreResources => {
-            [
+            joined(
                 CORE_FRONT,
                 chosen(served.pods, PODS, b""),
                 chosen(served.config_maps, CONFIG_MAPS, b""),
                 LIST_BACK,
-                b"",
-            ]
+            )
         }
         Document::AppsResources => {
-            [
+            joined(
                 APPS_FRONT,
                 chosen(served.deployments, DEPLOYMENTS, b""),
                 LIST_BACK,
                 b"",
-                b"",
-            ]
+            )
         }
         Document::OpenApi => alone(OPEN_API),
         Document::Namespace(ns) => {
