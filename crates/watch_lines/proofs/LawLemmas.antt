@@ -22,10 +22,10 @@ use Rattle.watch_lines.specs.declared.peer_line.PeerLine.TheVariants as peer
 use Rattle.watch_lines.proofs.FeedLemmas.{feedless-object, feedless-bookmark, feedless-status, feedless-event}
 use Rattle.watch_lines.proofs.LineLemmas.{one-line}
 
-decimal-utf8 : (n : ℕ) → n ≤ 2 ^ 62 → IsUtf8 (decimal n)
+pub decimal-utf8 : (n : ℕ) → n ≤ 2 ^ 62 → IsUtf8 (decimal n)
 decimal-utf8 n small = IsUtf8-from_ascii (decimal n) (IsAscii-decimal n (omega arith))
 
-message-utf8 : (at floor : ℕ) → at ≤ 2 ^ 62 → floor ≤ 2 ^ 62 → IsUtf8 (expired_message at floor)
+pub message-utf8 : (at floor : ℕ) → at ≤ 2 ^ 62 → floor ≤ 2 ^ 62 → IsUtf8 (expired_message at floor)
 message-utf8 at floor small small_floor =
     IsUtf8-append (codes "too old resource version: ") _ (IsUtf8-are_ascii _ refl)
     (IsUtf8-append (decimal at) _ (decimal-utf8 at small)

@@ -7,3 +7,9 @@ pub mod EventLemmas
 pub mod FeedLemmas
 pub mod LineLemmas
 pub mod LawLemmas
+pub mod ShownLemmas
+pub mod ValueLemmas
+pub mod PageLemmas
+pub mod KindLemmas
+pub mod PrintedLemmas
+pub mod OwnLemmas

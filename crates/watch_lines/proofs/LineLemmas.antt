@@ -41,15 +41,15 @@ kind-by-type kinds.Added = refl
 kind-by-type kinds.Modified = refl
 kind-by-type kinds.Deleted = refl
 
-same-kind : (kind other : Kind) → type_of kind ≡ type_of other → kind ≡ other
+pub same-kind : (kind other : Kind) → type_of kind ≡ type_of other → kind ≡ other
 same-kind kind other e = sym (kind-by-type kind) ∙ ap kind_by e ∙ kind-by-type other
 
-no-bookmark : (kind : Kind) → type_of kind ≡ types.Bookmark → ⊥
+pub no-bookmark : (kind : Kind) → type_of kind ≡ types.Bookmark → ⊥
 no-bookmark kinds.Added e = cc
 no-bookmark kinds.Modified e = cc
 no-bookmark kinds.Deleted e = cc
 
-no-error : (kind : Kind) → type_of kind ≡ types.Error → ⊥
+pub no-error : (kind : Kind) → type_of kind ≡ types.Error → ⊥
 no-error kinds.Added e = cc
 no-error kinds.Modified e = cc
 no-error kinds.Deleted e = cc

@@ -45,11 +45,11 @@ no-value text BadMeta not_json refused other d of = refused-as text BadMeta (ref
 
 -- ---- what the text of a stored object is of
 
-both-none : (a b : Option ObjNo) → option_or a b ≡ None → (a ≡ None) × (b ≡ None)
+pub both-none : (a b : Option ObjNo) → option_or a b ≡ None → (a ≡ None) × (b ≡ None)
 both-none None b e = (refl, e)
 both-none (Some x) b e = absurd cc
 
-from-none : (a b : Option ObjNo) → a ≡ None → b ≡ None → option_or a b ≡ None
+pub from-none : (a b : Option ObjNo) → a ≡ None → b ≡ None → option_or a b ≡ None
 from-none a b first second = rw (first, second) refl
 
 path-name : (name : List ℕ) (found : Option (List ℕ)) → option_map_or (λ s. is_object_name s && is_path_name (Some name) s) found false ≡ true → found ≡ Some name
@@ -62,7 +62,7 @@ named resource ns name d none =
     let meta = (members_allowed resource ns (Some name) d none).1 in
     path-name name (option_and_then as_str (get (codes "name") (metadata_of d))) (and_parts _ _ (and_parts _ _ meta).1).0
 
-given-some : (rev : ℕ) → 1 ≤ rev → unless_zero rev ≡ Some rev
+pub given-some : (rev : ℕ) → 1 ≤ rev → unless_zero rev ≡ Some rev
 given-some zero above = absurd (omega arith)
 given-some (suc n) above = refl
 
@@ -117,7 +117,7 @@ told-text law text (Err fault) rev is e = absurd (by_test (length text == 0) e)
     by_test true bad = cc
     by_test false bad = cc
 
-told-at : RevisionsAreReadBack → (found : Option Data) (rev : ℕ) → Some (Some rev) ≡ revision_in found → IsToldAt rev
+pub told-at : RevisionsAreReadBack → (found : Option Data) (rev : ℕ) → Some (Some rev) ≡ revision_in found → IsToldAt rev
 told-at law None rev e = absurd cc
 told-at law (Some d) rev e = by_text (as_str d) e
   where

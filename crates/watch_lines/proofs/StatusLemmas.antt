@@ -39,7 +39,7 @@ status_value code reason message too_large =
 abbrev refused : ℕ → List ℕ → List ℕ → Bool → Refusal
 refused code reason message too_large = record { code = code; reason = reason; message = message; too_large = too_large }
 
-status-compact : (code : ℕ) (reason message : List ℕ) (too_large : Bool) → compact_text (status_value code reason message too_large) ≡ status_text (refused code reason message too_large)
+pub status-compact : (code : ℕ) (reason message : List ℕ) (too_large : Bool) → compact_text (status_value code reason message too_large) ≡ status_text (refused code reason message too_large)
 unfolding escape_byte digits
 status-compact code reason message false = refl
 status-compact code reason message true = refl
@@ -47,15 +47,15 @@ status-compact code reason message true = refl
 details-orderly : IsOrderly details_value
 details-orderly = (((tt, refl, (tt, tt, tt)), tt), refl, (lit< tt, tt, tt))
 
-status-orderly : (code : ℕ) (reason message : List ℕ) (too_large : Bool) → code < 2 ^ 64 → IsOrderly (status_value code reason message too_large)
+pub status-orderly : (code : ℕ) (reason message : List ℕ) (too_large : Bool) → code < 2 ^ 64 → IsOrderly (status_value code reason message too_large)
 status-orderly code reason message false small = (tt, refl, (small, refl, (tt, refl, (tt, refl, (tt, refl, (tt, refl, (tt, tt, tt)))))))
 status-orderly code reason message true small = (tt, refl, (small, refl, (details-orderly, refl, (tt, refl, (tt, refl, (tt, refl, (tt, refl, (tt, tt, tt))))))))
 
-status-plain : (code : ℕ) (reason message : List ℕ) (too_large : Bool) → has_float (status_value code reason message too_large) ≡ false
+pub status-plain : (code : ℕ) (reason message : List ℕ) (too_large : Bool) → has_float (status_value code reason message too_large) ≡ false
 status-plain code reason message false = refl
 status-plain code reason message true = refl
 
-status-shallow : (code : ℕ) (reason message : List ℕ) (too_large : Bool) → depth (status_value code reason message too_large) ≤ 4
+pub status-shallow : (code : ℕ) (reason message : List ℕ) (too_large : Bool) → depth (status_value code reason message too_large) ≤ 4
 status-shallow code reason message false = lit≤ tt
 status-shallow code reason message true = lit≤ tt
 
@@ -65,7 +65,7 @@ details-utf8 : (too_large : Bool) → IsUtf8 (details_text too_large)
 details-utf8 false = IsUtf8-are_ascii (details_text false) refl
 details-utf8 true = IsUtf8-are_ascii (details_text true) refl
 
-status-utf8 : (code : ℕ) (reason message : List ℕ) (too_large : Bool) → code < 2 ^ 64 → IsUtf8 reason → IsUtf8 message → IsUtf8 (status_text (refused code reason message too_large))
+pub status-utf8 : (code : ℕ) (reason message : List ℕ) (too_large : Bool) → code < 2 ^ 64 → IsUtf8 reason → IsUtf8 message → IsUtf8 (status_text (refused code reason message too_large))
 status-utf8 code reason message too_large small first second =
     IsUtf8-append (codes "{\"apiVersion\":\"v1\",\"code\":") _ (IsUtf8-are_ascii _ refl)
     (IsUtf8-append (decimal code) _ (IsUtf8-from_ascii (decimal code) (IsAscii-decimal code small))

@@ -5,3 +5,7 @@ pub mod Feeds
 pub mod Lines
 pub mod Laws
 pub mod Reading
+pub mod Values
+pub mod Pages
+pub mod Troubles
+pub mod ValueLaws

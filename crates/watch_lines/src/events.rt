@@ -1,9 +1,10 @@
 //! The events that texts are: their types and their objects.
 
-ghost use Rattle.std.specs.Prelude.{◌≡◌, ◌≢◌, ◌++◌, ℕ, List, MatchOption, slice_index};
+ghost use Rattle.std.specs.Prelude.{◌≡◌, ◌≢◌, ℕ, List, MatchOption, slice_index};
 ghost use Rattle.json_obj.specs.Replies.{event_text};
 ghost use Rattle.json_obj.specs.declared.pieces.EventType.{EventType as Event};
 
+use crate::pieces::{before, behind};
 use json_obj::EventType;
 
 /// The type of the event that a text is, if it is one.
@@ -34,20 +35,4 @@ pub(crate) fn object_in(text: &[u8], event: EventType) -> Option<&[u8]>
         return None;
     };
     before(rest, event.back())
-}
-
-// What stands behind the piece that a text begins with.
-fn behind<'t>(text: &'t [u8], piece: &[u8]) -> Option<&'t [u8]>
-    ensures { MatchOption result ((rest : List ℕ) → text.now ≢ piece.now ++ rest)
-        (λ rest. text.now ≡ piece.now ++ rest.now) }
-{
-    text.strip_prefix(piece)
-}
-
-// What stands before the piece that a text ends with.
-fn before<'t>(text: &'t [u8], piece: &[u8]) -> Option<&'t [u8]>
-    ensures { MatchOption result ((front : List ℕ) → text.now ≢ front ++ piece.now)
-        (λ front. text.now ≡ front.now ++ piece.now) }
-{
-    text.strip_suffix(piece)
 }

@@ -61,8 +61,8 @@ fn unless_memory(fault: ObjNo) -> Result<(), Memory>
     }
 }
 
-// The namespace and the name in a value's metadata.
-fn place_in(alloc: Global, value: &Value) -> Result<Option<(Text, Text)>, Memory>
+/// The namespace and the name in a value's metadata.
+pub(crate) fn place_in(alloc: Global, value: &Value) -> Result<Option<(Text, Text)>, Memory>
     ensures { IfOk result (λ found. MatchOption found
         ((ns name : List ℕ) → ¬ (IsPlaced (view value.now) ns name))
         (λ place. IsPlaced (view value.now) place.0 place.1)) }
@@ -79,8 +79,8 @@ fn place_in(alloc: Global, value: &Value) -> Result<Option<(Text, Text)>, Memory
     Ok(Some((Text::new(alloc, ns)?, Text::new(alloc, name)?)))
 }
 
-// The text at a name in the metadata.
-fn text_at<'v>(value: &'v Value, name: &str) -> Option<&'v str>
+/// The text at a name in the metadata.
+pub(crate) fn text_at<'v>(value: &'v Value, name: &str) -> Option<&'v str>
     ensures { option_map (λ text. text.now) result ≡ reading.text_at name.now (view value.now) }
 {
     match value.get("metadata") {
@@ -89,8 +89,8 @@ fn text_at<'v>(value: &'v Value, name: &str) -> Option<&'v str>
     }
 }
 
-// The object of a value at its place, and the revision that it gives.
-fn kept_in(
+/// The object of a value at its place, and the revision that it gives.
+pub(crate) fn kept_in(
     alloc: Global,
     value: &Value,
     resource: Resource,

@@ -56,8 +56,8 @@ fn refusal_in(alloc: Global, value: &Value) -> Result<Option<Refusal>, Memory>
     }))
 }
 
-// The code, if it is a number of 16 bits.
-fn code_at(value: &Value) -> Option<u16>
+/// The code, if it is a number of 16 bits.
+pub(crate) fn code_at(value: &Value) -> Option<u16>
     ensures { MatchOption result ((code : ℕ) → code < 2 ^ 16 → number_in (codes "code") (view value.now) ≢ Some code)
         (λ code. number_in (codes "code") (view value.now) ≡ Some code) }
 {
@@ -67,8 +67,8 @@ fn code_at(value: &Value) -> Option<u16>
     }
 }
 
-// The text at a name.
-fn text_in<'v>(value: &'v Value, name: &str) -> Option<&'v str>
+/// The text at a name.
+pub(crate) fn text_in<'v>(value: &'v Value, name: &str) -> Option<&'v str>
     ensures { option_map (λ text. text.now) result ≡ reading.text_in name.now (view value.now) }
 {
     value.get(name).and_then(Value::as_str)
