@@ -6,7 +6,6 @@ use Rattle.kube_meta.specs.Rows.{RowData}
 use Rattle.rev_front.specs.Passes.{Pass, IsPass, Extends, quiets}
 use Rattle.rev_log.specs.Changes.{RevisionData}
 use Rattle.rev_log.specs.Logs.{Log, IsLog, Fits, end_of, grown, quiet_at}
-use Rattle.select_all.specs.Streams.{TransitionData}
 use Rattle.up_api.specs.Sections.{log_upto}
 use Rattle.up_store.specs.Hearing.{AreHeard, IsFollowReply, filled}
 use Rattle.up_store.specs.declared.hearing.HearNo.{HearNo}
@@ -95,7 +94,7 @@ module _ (base : List RowData) (mirror : Bool) (p q : Pass RevisionData) (i : In
           begun = omega (arith, on.log_is, holds.begun, cleared.to_is, to_is, above);
           seen = omega (arith, cleared.to_is, long, added_to base p q (filled i.to (revision ∷ []) upto) i.to heard.before pass on holds.seen heard.shown (sym heard.follow) heard.committed);
           log = subst IsLog (sym (next_log ∙ in_two)) log;
-          lawful = clear i j upto cleared last;
+          lawful = clear i j upto holds.lawful cleared last;
           at = subst (IsAtEnd j) (sym next_log) at;
         }
 
@@ -104,7 +103,7 @@ module _ (base : List RowData) (mirror : Bool) (p q : Pass RevisionData) (i : In
         let mid : MirrorLogData = next_view base p q i revision in
         let first : Moves old mid = moves_on old old mid next (moves_none old) (subst (λ (m : MirrorLogData). MovesOne m mid) is (moves_one base mirror p q i revision holds told)) in
         moves_rest old (record mid { log = grown mid.log (quiets quiet_at (end_of mid.log) count) }) (view base q j) (quiet_moves count old mid next first refl)
-        (record { selection = cleared.selection; log = next_log ∙ in_two; kept = cleared.kept })
+        (record { selection = cleared.selection; most_gap = cleared.most_gap; log = next_log ∙ in_two; kept = cleared.kept })
 
     pub end_past : end_of (log_upto base q j.to) ≡ upto
     end_past = ap end_of next_log ∙ omega (arith, length-append here.revisions (revision ∷ quiets quiet_at (i.to + 1) count), quiets-length (i.to + 1) count, holds.at.end, to_is, above)

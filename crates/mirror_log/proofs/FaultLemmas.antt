@@ -29,8 +29,8 @@ neither : (a b : Bool) → (a || b) ≡ false → (a ≡ false) × (b ≡ false)
 neither true b none = cc
 neither false b none = (refl, none)
 
-pub good : (s : Selection) (m : Log) (kept : List TransitionData) (t : TransitionData) → event_fault s m kept t ≡ None → IsGood m kept t
-good s m kept t none =
+pub good : (s : Selection) (most_gap : ℕ) (m : Log) (kept : List TransitionData) (t : TransitionData) → event_fault s most_gap m kept t ≡ None → IsGood m kept t
+good s most_gap m kept t none =
     let selected = past_no (not (selects s t.obj)) BadLine _ none in
     let fits = past_no (not (fits_kind t.kind (is_some (row_before m Pods kept t.rev t.obj.key)))) BadLine _ selected.1 in
     let few = past_no (is_full_at kept t.rev) BadLine _ fits.1 in
@@ -39,8 +39,8 @@ good s m kept t none =
     record { fits = not-false (fits_kind t.kind (is_some (row_before m Pods kept t.rev t.obj.key))) fits.0; few = few.0; above = leb-false t.rev (end_of m) each.0; new = each.1 }
 
 -- a bookmark with which nothing is wrong is not below what was told
-pub good_mark : (to at : ℕ) (kept : List TransitionData) (closing : Bool) → mark_fault to kept at closing ≡ None → (closing ≡ false) × (last_of to kept ≤ at)
-good_mark to at kept closing none =
+pub good_mark : (most_gap to at : ℕ) (kept : List TransitionData) (closing : Bool) → mark_fault most_gap to kept at closing ≡ None → (closing ≡ false) × (last_of to kept ≤ at)
+good_mark most_gap to at kept closing none =
     let unclosed = past_no closing BadLine _ none in
     let order = past_no (nat_lt at (last_of to kept)) BadLine _ unclosed.1 in
     (unclosed.0, ltb-false at (last_of to kept) order.0)

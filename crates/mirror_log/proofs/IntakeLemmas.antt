@@ -206,11 +206,12 @@ pushed (u ∷ kept) t pairs apart_from =
     (pushed kept t (λ i j d less inside. pairs (suc i) (suc j) d (omega (arith, less)) (omega (arith, inside))) apart_from.1)
 
 pub one_more : (old new : IntakeData) (t : TransitionData) → IsIntake old → t.rev ≡ old.to + 1 → length old.kept < most_kept → is_repeated old.kept t.rev t.obj.key ≡ false
-    → new.to ≡ old.to → new.kept ≡ old.kept ++ t ∷ [] → IsIntake new
-one_more old new t is number few new_key to kept =
+    → new.most_gap ≡ old.most_gap → new.to ≡ old.to → new.kept ≡ old.kept ++ t ∷ [] → IsIntake new
+one_more old new t is number few new_key gap to kept =
     let numbers_now : AllByRecursion (λ u. u.rev ≡ t.rev) old.kept = each old.to t.rev old.kept is.next (λ u. u.rev ≡ old.to + 1) (λ u. u.rev ≡ t.rev) (λ u n. n ∙ sym number) old.kept (numbers old.to t.rev old.kept is.next) in
     record {
       ends = omega (arith, to, is.ends);
+      bounded = omega (arith, gap, is.bounded);
       next = subst (All (λ u. u.rev ≡ new.to + 1)) (sym kept) (subst (λ (n : ℕ). All (λ u. u.rev ≡ n + 1) (old.kept ++ t ∷ [])) (sym to) (All-push (λ u. u.rev ≡ old.to + 1) old.kept t is.next number));
       few = omega (arith, ap (λ (l : List TransitionData). length l) kept, length-append old.kept (t ∷ []), few);
       distinct = subst (AllPairs (λ u v. is_of v.obj.key u ≡ false)) (sym kept) (pushed old.kept t is.distinct (unlike t.rev t.obj.key old.kept numbers_now new_key));
@@ -229,9 +230,10 @@ pub numbered_changes : (to : ℕ) (kept : List TransitionData) → All (λ t. t.
 numbered_changes to kept next = All-map (λ (c : ChangeData). c.rev ≡ to + 1) (change_told Pods) kept next
 
 -- an intake with the end and the lines of another one
-pub as_before : (old new : IntakeData) → IsIntake old → new.to ≡ old.to → new.kept ≡ old.kept → IsIntake new
-as_before old new is to kept = record {
+pub as_before : (old new : IntakeData) → IsIntake old → new.most_gap ≡ old.most_gap → new.to ≡ old.to → new.kept ≡ old.kept → IsIntake new
+as_before old new is gap to kept = record {
   ends = omega (arith, to, is.ends);
+  bounded = omega (arith, gap, is.bounded);
   next = subst (All (λ t. t.rev ≡ new.to + 1)) (sym kept) (subst (λ (n : ℕ). All (λ t. t.rev ≡ n + 1) old.kept) (sym to) is.next);
   few = omega (arith, ap (λ (l : List TransitionData). length l) kept, is.few);
   distinct = subst (AllPairs (λ t u. is_of u.obj.key t ≡ false)) (sym kept) is.distinct;

@@ -7,13 +7,16 @@ pub mod CountLemmas
 pub mod OutcomeLemmas
 pub mod StandLemmas
 pub mod SlotLemmas
+pub mod SparseLemmas
 pub mod BridgeLemmas
 pub mod MadeLemmas
+pub mod OtherLemmas
 pub mod ObjLemmas
 pub mod PassLemmas
 pub mod MoveLemmas
 pub mod FaultLemmas
 pub mod StepLemmas
 pub mod LineLemmas
+pub mod AloneLemmas
 pub mod CommitLemmas
 pub mod RebaseLemmas

@@ -1,9 +1,8 @@
 -- What one line makes of a mirror's log.
-use Rattle.std.proofs.Common.{◌≡◌, ℕ, ◌+◌, ◌-◌, ◌^◌, ◌<◌, ◌≤◌, Bool, true, false, eqb, List, [], ◌∷◌, ◌++◌, length, take, None, Err, All, is_some, refl, sym, ap, ◌∙◌, subst, inl, inr, arith}
+use Rattle.std.proofs.Common.{◌≡◌, ℕ, ◌+◌, ◌-◌, ◌^◌, ◌<◌, ◌≤◌, Bool, true, false, eqb, List, [], ◌∷◌, ◌++◌, length, take, None, All, is_some, refl, sym, ap, ◌∙◌, subst, inl, inr, arith}
 use Rattle.std.specs.List.{AllByRecursion}
 use Rattle.std.proofs.Math.Seq.{take-nil}
 use Rattle.std.proofs.lemmas.Bool.{cases_Bool}
-use Rattle.std.proofs.lemmas.List.{length-append}
 use Rattle.std.proofs.lemmas.List.Elements.{All-nil, recursion_from_All}
 use Rattle.kube_meta.specs.declared.resources.Resource.TheVariants.{Pods}
 use Rattle.kube_meta.specs.Rows.{RowData, AreRising}
@@ -31,19 +30,21 @@ next_of base mirror p i old holds is =
     subst (λ (m : MirrorLogData). All (λ t. t.rev ≡ end_of m.log + 1) m.kept) is (subst (λ (n : ℕ). All (λ t. t.rev ≡ n + 1) i.kept) holds.at.end holds.lawful.next)
 
 pub event_good : (base : List RowData) (mirror : Bool) (p : Pass RevisionData) (i : IntakeData) (old : MirrorLogData) (t : TransitionData) → Holds base mirror p i → view base p i ≡ old
-    → event_fault i.selection (log_upto base p i.to) i.kept t ≡ None → (event_fault old.selection old.log old.kept t ≡ None) × IsGood old.log old.kept t
+    → event_fault i.selection i.most_gap (log_upto base p i.to) i.kept t ≡ None → (event_fault old.selection old.most_gap old.log old.kept t ≡ None) × IsGood old.log old.kept t
 event_good base mirror p i old t holds is none =
-    let here : event_fault old.selection old.log old.kept t ≡ None = ap (λ (m : MirrorLogData). event_fault m.selection m.log m.kept t) (sym is) ∙ none in
-    (here, good old.selection old.log old.kept t here)
+    let here : event_fault old.selection old.most_gap old.log old.kept t ≡ None = ap (λ (m : MirrorLogData). event_fault m.selection m.most_gap m.log m.kept t) (sym is) ∙ none in
+    (here, good old.selection old.most_gap old.log old.kept t here)
 
 pub mark_good : (base : List RowData) (mirror : Bool) (p : Pass RevisionData) (i : IntakeData) (old : MirrorLogData) (at : ℕ) (closing : Bool) → Holds base mirror p i → view base p i ≡ old
-    → mark_fault i.to i.kept at closing ≡ None → (mark_fault (end_of old.log) old.kept at closing ≡ None) × (last_of (end_of old.log) old.kept ≤ at)
+    → mark_fault i.most_gap i.to i.kept at closing ≡ None → (mark_fault old.most_gap (end_of old.log) old.kept at closing ≡ None) × (last_of (end_of old.log) old.kept ≤ at)
 mark_good base mirror p i old at closing holds is none =
     let end : end_of old.log ≡ i.to = ap (λ (m : MirrorLogData). end_of m.log) (sym is) ∙ sym holds.at.end in
     let kept : old.kept ≡ i.kept = ap (λ (m : MirrorLogData). m.kept) (sym is) in
-    let here : mark_fault (end_of old.log) old.kept at closing ≡ None =
-    ap (λ (n : ℕ). mark_fault n old.kept at closing) end ∙ ap (λ (l : List TransitionData). mark_fault i.to l at closing) kept ∙ none in
-    (here, (good_mark (end_of old.log) at old.kept closing here).1)
+    let gap : old.most_gap ≡ i.most_gap = ap (λ (m : MirrorLogData). m.most_gap) (sym is) in
+    let here : mark_fault old.most_gap (end_of old.log) old.kept at closing ≡ None =
+    ap (λ (g : ℕ). mark_fault g (end_of old.log) old.kept at closing) gap ∙ ap (λ (n : ℕ). mark_fault i.most_gap n old.kept at closing) end
+    ∙ ap (λ (l : List TransitionData). mark_fault i.most_gap i.to l at closing) kept ∙ none in
+    (here, (good_mark old.most_gap (end_of old.log) at old.kept closing here).1)
 
 -- the last revision told isn't below the end
 end_first : (to at : ℕ) (kept : List TransitionData) → AllByRecursion (λ t. t.rev ≡ to + 1) kept → last_of to kept ≤ at → to ≤ at
@@ -97,7 +98,7 @@ module _ (base : List RowData) (mirror : Bool) (q : Pass RevisionData) (old mid 
       begun = omega (arith, holds.begun, keeps.to);
       seen = omega (arith, holds.seen, keeps.to);
       log = subst IsLog (sym kept_log) holds.log;
-      lawful = one_more i j t holds.lawful number few new_key keeps.to keeps.kept;
+      lawful = one_more i j t holds.lawful number few new_key keeps.most_gap keeps.to keeps.kept;
       at = subst (IsAtEnd j) (sym kept_log) (at (log_upto base q i.to) holds.at fits);
     }
 
@@ -106,6 +107,7 @@ module _ (base : List RowData) (mirror : Bool) (q : Pass RevisionData) (old mid 
         let log : log_upto base q j.to ≡ mid.log = kept_log ∙ ap (λ (m : MirrorLogData). m.log) is in
         record {
           selection = keeps.selection ∙ ap (λ (m : MirrorLogData). m.selection) is ∙ moves.selection;
+          most_gap = keeps.most_gap ∙ ap (λ (m : MirrorLogData). m.most_gap) is ∙ moves.most_gap;
           grows = record { more = moves.grows.more; log_is = log ∙ moves.grows.log_is; told_by = moves.grows.told_by };
           reached = ap end_of log ∙ end;
           kept = keeps.kept ∙ ap (λ (l : List TransitionData). l ++ t ∷ []) own;

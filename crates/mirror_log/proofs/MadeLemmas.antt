@@ -1,7 +1,8 @@
 -- The revisions that are made of slots.
-use Rattle.std.proofs.Common.{◌≡◌, ℕ, zero, suc, ◌+◌, ◌-◌, ◌*◌, ◌<◌, ◌≤◌, false, ltb, eqb, List, [], ◌∷◌, ◌++◌, length, fold, All, Option, Some, None, refl, sym, ap, ◌∙◌, subst, inl, inr, length-append, arith}
+use Rattle.std.proofs.Common.{◌≡◌, ℕ, zero, suc, ◌+◌, ◌-◌, ◌*◌, ◌<◌, ◌≤◌, false, ltb, eqb, List, [], ◌∷◌, ◌++◌, length, map, fold, All, Option, Some, None, refl, sym, ap, ◌∙◌, subst, inl, inr, length-append, arith}
 use Rattle.std.specs.List.{AllByRecursion, list_any, slice_get}
-use Rattle.std.specs.List.Sorted.{IsPermutation}
+use Rattle.std.specs.List.Sorted.{IsStrictlySortedBy}
+use Rattle.std.specs.Ordering.{nat_cmp}
 use Rattle.std.proofs.lemmas.Bool.{cases_Bool, cases_lt, ne_eqb}
 use Rattle.std.proofs.lemmas.List.Elements.{All-from_recursion, recursion_from_All, filter-append}
 use Rattle.std.proofs.lemmas.List.Sorted.{All-permutation, length_permutation}
@@ -14,16 +15,19 @@ use Rattle.rev_log.specs.Logs.{Log, grown, end_of}
 use Rattle.rev_log.specs.States.{row_next, row_at, row_in_base, IsStateAt}
 use Rattle.rev_log.proofs.GrowthLemmas.{upto-end}
 use Rattle.mirror_log.specs.Bridges.{younger, written_at, gone, IsKept, AreKept, MayBeOfOneLog, Bridges}
-use Rattle.mirror_log.specs.Slots.{of_rev, Hold, puts, IsRemoval, Remove, AreMadeOf}
+use Rattle.up_store.specs.Hearing.{AreAscending, filled}
+use Rattle.up_store.proofs.HearLemmas.{filled-end}
+use Rattle.mirror_log.specs.Slots.{SlotsData, of_rev, puts, IsRemoval, Remove, AreMadeOf}
 use Rattle.mirror_log.proofs.BridgeLemmas.{each, both_parts, removed_missing, aim_puts, aim_removed, unchanged, put_bounds, some_within}
 use Rattle.mirror_log.proofs.CountLemmas.{few, count_puts}
-use Rattle.mirror_log.proofs.OutcomeLemmas.{is_of, Aims, IsMade, first, rest, stays, reached}
+use Rattle.mirror_log.proofs.OutcomeLemmas.{is_of, Aims, IsMade, stays, reached}
 use Rattle.mirror_log.proofs.SlotLemmas.{count_removed}
+use Rattle.mirror_log.proofs.SparseLemmas.{rise, change, are_made, made_fit}
 use Rattle.mirror_log.proofs.StandLemmas.{stand}
 
 -- ---- places
 
-inside_of : {X : Type 0} (xs : List X) (i : ℕ) (x : X) → slice_get xs i ≡ Some x → i < length xs
+pub inside_of : {X : Type 0} (xs : List X) (i : ℕ) (x : X) → slice_get xs i ≡ Some x → i < length xs
 inside_of {X} [] i x at = absurd (nothing at)
   where
     nothing : ◌≡◌ {A = Option X} None (Some x) → ⊥
@@ -38,12 +42,6 @@ one_at (x ∷ xs) (suc i) inside = one_at xs i (omega (arith, inside))
 
 -- ---- made of what was given
 
-made_fit : (from : ℕ) (slots : List (List ChangeData)) (given : List ChangeData) (revisions : List RevisionData) → Hold from slots given → AreMadeOf from slots revisions → FitFrom (IsMade given) from revisions
-made_fit from slots given revisions hold made i r at =
-    let e = made.each i r at in
-    let inside : i < length slots = omega (arith, inside_of revisions i r at, made.long) in
-    record { number = e.0; is = e.1; changes = subst (λ (s : List ChangeData). IsPermutation s r.changes) (hold i inside) e.2 }
-
 of_pods : (at : ℕ) (given : List ChangeData) → AllByRecursion (λ c. c.resource ≡ Pods) given → AllByRecursion (λ c. c.resource ≡ Pods) (of_rev at given)
 of_pods at [] pods = tt
 of_pods at (c ∷ given) pods = elim (cases_Bool (eqb c.rev at)) [
@@ -51,14 +49,13 @@ of_pods at (c ∷ given) pods = elim (cases_Bool (eqb c.rev at)) [
   | inr isnt ↦ rw isnt (of_pods at given pods.1)
 ]
 
-all_pods : (from : ℕ) (given : List ChangeData) (revisions : List RevisionData) → AllByRecursion (λ c. c.resource ≡ Pods) given → FitFrom (IsMade given) from revisions
+all_pods : (given : List ChangeData) (revisions : List RevisionData) → AllByRecursion (λ c. c.resource ≡ Pods) given → AllByRecursion (λ r. IsMade given r.rev r) revisions
     → AllByRecursion (λ r. All (λ c. c.resource ≡ Pods) r.changes) revisions
-all_pods from given [] pods fit = tt
-all_pods from given (r ∷ revisions) pods fit =
-    let made = first given from r revisions fit in (
-      All-permutation (λ c. c.resource ≡ Pods) (of_rev (from + 1) given) r.changes made.changes (All-from_recursion (λ c. c.resource ≡ Pods) (of_rev (from + 1) given) (of_pods (from + 1) given pods)),
-      all_pods (from + 1) given revisions pods (rest given from r revisions fit),
-    )
+all_pods given [] pods made = tt
+all_pods given (r ∷ revisions) pods made = (
+  All-permutation (λ c. c.resource ≡ Pods) (of_rev r.rev given) r.changes made.0.changes (All-from_recursion (λ c. c.resource ≡ Pods) (of_rev r.rev given) (of_pods r.rev given pods)),
+  all_pods given revisions pods made.1,
+)
 
 few_each : (from : ℕ) (given : List ChangeData) (revisions : List RevisionData) → FitFrom (IsMade given) from revisions → (i : ℕ) → i < length revisions → length (of_rev (from + 1 + i) given) ≤ 64
 few_each from given revisions fit i inside =
@@ -90,51 +87,62 @@ length-puts from (x ∷ rows) = elim (cases_Bool (ltb from x.rev)) [
   | inr old ↦ rw old (length-puts from rows)
 ]
 
-module _ (from : ℕ) (old : List RowData) (to : ℕ) (rows : List RowData) (slots : List (List ChangeData)) (revisions : List RevisionData)
-    (up : AreRising rows) (kept : AreKept from old rows) (within : All (λ row. row.rev ≤ to) rows)
-    (removes : Remove from (puts from rows) (gone old rows) slots) (long : from + length slots ≡ to) (made : AreMadeOf from slots revisions) where
-  fit : FitFrom (IsMade (puts from rows ++ removes.removed)) from revisions
-  fit = made_fit from slots (puts from rows ++ removes.removed) revisions removes.hold made
+module _ (from : ℕ) (old : List RowData) (to : ℕ) (rows : List RowData) (slots : SlotsData) (revisions : List RevisionData)
+    (onward : from ≤ to) (up : AreRising rows) (kept : AreKept from old rows) (within : All (λ row. row.rev ≤ to) rows)
+    (removes : Remove from to (puts from rows) (gone old rows) slots) (ordered : IsStrictlySortedBy nat_cmp (map (λ s. s.0) slots)) (made : AreMadeOf slots revisions) where
+  -- all changes, and all revisions up to the last
+  abbrev given : List ChangeData
+  given = puts from rows ++ removes.removed
 
-  ends : from + length revisions ≡ to
-  ends = omega (arith, long, made.long)
+  abbrev all : List RevisionData
+  all = filled from revisions to
+
+  removals : AllByRecursion (IsRemoval from to) removes.removed
+  removals = recursion_from_All (IsRemoval from to) removes.removed removes.removals
+
+  bounds : AllByRecursion (λ c. (from < c.rev) × (c.rev ≤ to)) given
+  bounds = both_parts (λ c. (from < c.rev) × (c.rev ≤ to)) (puts from rows) removes.removed
+      (put_bounds from to rows (recursion_from_All (λ row. row.rev ≤ to) rows within))
+      (each (IsRemoval from to) (λ c. (from < c.rev) × (c.rev ≤ to)) (λ c is. (is.above, is.within)) removes.removed removals)
+
+  rises : AreAscending from revisions to
+  rises = rise from to given slots revisions onward removes.hold bounds ordered made
+
+  fit : FitFrom (IsMade given) from all
+  fit = made_fit from to given slots revisions onward removes.hold bounds ordered made
+
+  ends : from + length all ≡ to
+  ends = filled-end from revisions to rises
 
   missing : AllByRecursion (λ c. row_with rows c.key ≡ None) removes.removed
   missing = removed_missing old rows removes.removed removes.keys
 
-  removals : AllByRecursion (IsRemoval from (length slots)) removes.removed
-  removals = recursion_from_All (IsRemoval from (length slots)) removes.removed removes.removals
+  aims : (key : List ℕ) → AllByRecursion (Aims key (row_with rows key)) given
+  aims key = both_parts (Aims key (row_with rows key)) (puts from rows) removes.removed (aim_puts key rows from rows (stand rows up)) (aim_removed key rows from to removes.removed removals missing)
 
-  aims : (key : List ℕ) → AllByRecursion (Aims key (row_with rows key)) (puts from rows ++ removes.removed)
-  aims key = both_parts (Aims key (row_with rows key)) (puts from rows) removes.removed (aim_puts key rows from rows (stand rows up)) (aim_removed key rows from (length slots) removes.removed removals missing)
+  bounds_all : AllByRecursion (λ c. (from < c.rev) × (c.rev ≤ from + length all)) given
+  bounds_all = subst (λ (n : ℕ). AllByRecursion (λ c. (from < c.rev) × (c.rev ≤ n)) given) (sym ends) bounds
 
-  bounds : AllByRecursion (λ c. (from < c.rev) × (c.rev ≤ from + length revisions)) (puts from rows ++ removes.removed)
-  bounds = both_parts (λ c. (from < c.rev) × (c.rev ≤ from + length revisions)) (puts from rows) removes.removed
-      (subst (λ n. AllByRecursion (λ c. (from < c.rev) × (c.rev ≤ n)) (puts from rows)) (sym ends) (put_bounds from to rows (recursion_from_All (λ row. row.rev ≤ to) rows within)))
-      (each (IsRemoval from (length slots)) (λ c. (from < c.rev) × (c.rev ≤ from + length revisions)) (λ c is. (is.above, omega (arith, is.within, made.long))) removes.removed removals)
-
-  outcome : (key : List ℕ) → fold (row_next Pods key) (row_with old key) revisions ≡ row_with rows key
-  outcome key = elim (cases_Bool (list_any (is_of key) (puts from rows ++ removes.removed))) [
-    | inl some ↦
-        reached key (row_with rows key) (puts from rows ++ removes.removed) (aims key) from (row_with old key) revisions fit
-        (some_within key from (from + length revisions) (puts from rows ++ removes.removed) bounds some)
+  outcome : (key : List ℕ) → fold (row_next Pods key) (row_with old key) all ≡ row_with rows key
+  outcome key = elim (cases_Bool (list_any (is_of key) given)) [
+    | inl some ↦ reached key (row_with rows key) given (aims key) from (row_with old key) all fit (some_within key from (from + length all) given bounds_all some)
     | inr lacks ↦
-        stays key (row_with rows key) (puts from rows ++ removes.removed) (aims key) from (row_with old key) revisions fit lacks
+        stays key (row_with rows key) given (aims key) from (row_with old key) all fit lacks
         ∙ unchanged from old rows removes.removed key (recursion_from_All (λ x. x.rev ≤ from → IsKept old x) rows kept) removes.keys lacks
   ]
 
-  leads : (log : Log) → end_of log ≡ from → IsStateAt log Pods from old → IsStateAt (grown log revisions) Pods to rows
+  leads : (log : Log) → end_of log ≡ from → IsStateAt log Pods from old → IsStateAt (grown log all) Pods to rows
   leads log end state = record {
     rising = up;
-    exact = λ key. sym (grown_row log revisions from to key end ends ∙ ap (λ (o : Option RowData). fold (row_next Pods key) o revisions) (sym (state.exact key)) ∙ outcome key);
+    exact = λ key. sym (grown_row log all from to key end ends ∙ ap (λ (o : Option RowData). fold (row_next Pods key) o all) (sym (state.exact key)) ∙ outcome key);
   }
 
   pub bridges : Bridges from old to rows revisions
   bridges = record {
-    fits = λ i r at. (let e = made.each i r at in (e.0, e.1));
-    long = ends;
+    rise = rises;
+    change = All-from_recursion (λ r. 0 < length r.changes) revisions (change from to given slots revisions onward removes.hold bounds ordered made);
     pods = All-from_recursion (λ r. All (λ c. c.resource ≡ Pods) r.changes) revisions
-        (all_pods from (puts from rows ++ removes.removed) revisions (each (Aims [] (row_with rows [])) (λ c. c.resource ≡ Pods) (λ c is. is.pod) (puts from rows ++ removes.removed) (aims [])) fit);
+        (all_pods given revisions (each (Aims [] (row_with rows [])) (λ c. c.resource ≡ Pods) (λ c is. is.pod) given (aims [])) (are_made from to given slots revisions onward removes.hold bounds ordered made));
     leads = leads;
   }
 
@@ -143,22 +151,21 @@ module _ (from : ℕ) (old : List RowData) (to : ℕ) (rows : List RowData) (slo
     | inl past ↦ omega (arith, ap length (none_written to rev rows (recursion_from_All (λ row. row.rev ≤ to) rows within) past))
     | inr upto ↦
         let number : from + 1 + (rev - from - 1) ≡ rev = omega (arith, above) in
-        let here : length (of_rev rev (puts from rows ++ removes.removed)) ≤ 64 =
-        subst (λ n. length (of_rev n (puts from rows ++ removes.removed)) ≤ 64) number
-        (few_each from (puts from rows ++ removes.removed) revisions fit (rev - from - 1) (omega (arith, above, upto, ends))) in
-        let split : length (of_rev rev (puts from rows ++ removes.removed)) ≡ length (of_rev rev (puts from rows)) + length (of_rev rev removes.removed) =
+        let here : length (of_rev rev given) ≤ 64 =
+        subst (λ n. length (of_rev n given) ≤ 64) number (few_each from given all fit (rev - from - 1) (omega (arith, above, upto, ends))) in
+        let split : length (of_rev rev given) ≡ length (of_rev rev (puts from rows)) + length (of_rev rev removes.removed) =
         ap length (filter-append (λ c. eqb c.rev rev) (puts from rows) removes.removed) ∙ length-append (of_rev rev (puts from rows)) (of_rev rev removes.removed) in
         omega (arith, here, split, count_puts from rev rows above)
   ]
 
   has_room : length (younger from rows) + length (gone old rows) ≤ 64 * (to - from)
   has_room =
-      let count : length (puts from rows ++ removes.removed) ≡ length (puts from rows) + length removes.removed = length-append (puts from rows) removes.removed in
-      let most : length (puts from rows ++ removes.removed) ≤ 64 * length revisions =
-      few from (length revisions) (puts from rows ++ removes.removed) (few_each from (puts from rows ++ removes.removed) revisions fit)
-      (each (λ c. (from < c.rev) × (c.rev ≤ from + length revisions)) (λ c. from < c.rev) (λ c b. b.0) (puts from rows ++ removes.removed) bounds)
-      (each (λ c. (from < c.rev) × (c.rev ≤ from + length revisions)) (λ c. c.rev ≤ from + length revisions) (λ c b. b.1) (puts from rows ++ removes.removed) bounds) in
-      let size : length revisions ≡ to - from = omega (arith, ends) in
+      let count : length given ≡ length (puts from rows) + length removes.removed = length-append (puts from rows) removes.removed in
+      let most : length given ≤ 64 * length all =
+      few from (length all) given (few_each from given all fit)
+      (each (λ c. (from < c.rev) × (c.rev ≤ from + length all)) (λ c. from < c.rev) (λ c b. b.0) given bounds_all)
+      (each (λ c. (from < c.rev) × (c.rev ≤ from + length all)) (λ c. c.rev ≤ from + length all) (λ c b. b.1) given bounds_all) in
+      let size : length all ≡ to - from = omega (arith, ends) in
       omega (arith, count, most, size, length-puts from rows, count_removed removes.removed (gone old rows) removes.keys)
 
   pub one_log : MayBeOfOneLog from old to rows

@@ -67,6 +67,7 @@ module _ (a b c : MirrorLogData) (next : All (λ t. t.rev ≡ end_of a.log + 1) 
   pub moves_on : Moves a c
   moves_on = record {
     selection = step.selection ∙ before.selection;
+    most_gap = step.most_gap ∙ before.most_gap;
     grows = grows;
     kept = step.kept ∙ sym (rw (ne_eqb (end_of c.log) (end_of a.log) (λ same. absurd (omega (arith, same, upto_c, upto_b)))) refl);
     stands = λ rev key above. step.stands rev key above ∙ before.stands rev key (omega (arith, above, upto_c));
@@ -78,6 +79,7 @@ module _ (a b c : MirrorLogData) (next : All (λ t. t.rev ≡ end_of a.log + 1) 
 pub moves_none : (a : MirrorLogData) → Moves a a
 moves_none a = record {
   selection = refl;
+  most_gap = refl;
   grows = record {
     more = [];
     log_is = ap (λ (revisions : List RevisionData). let log : Log = record a.log { revisions = revisions } in log) (sym (append-nil a.log.revisions));
@@ -94,6 +96,7 @@ moves_none a = record {
 quiet_step : (b : MirrorLogData) → b.kept ≡ [] → MovesOne b (record b { log = grown b.log (quiet_at (end_of b.log + 1) ∷ []) })
 quiet_step b none = record {
   selection = refl;
+  most_gap = refl;
   revision = quiet_at (end_of b.log + 1);
   told_by = subst (λ (l : List TransitionData). IsRevisionTold Pods (end_of b.log + 1) l (quiet_at (end_of b.log + 1))) (sym none)
       (record { number = refl; is = (quiet-fits (end_of b.log + 1)).1; changes = IsPermutation-refl [] });

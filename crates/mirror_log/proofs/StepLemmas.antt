@@ -1,5 +1,5 @@
 -- What one commit, and one line, make of a mirror's log.
-use Rattle.std.proofs.Common.{◌≡◌, ℕ, ◌+◌, ◌-◌, ◌^◌, ◌<◌, ◌≤◌, Bool, true, false, bytes_eq, List, [], ◌∷◌, length, map, Option, Err, All, is_some, refl, sym, ap, ◌∙◌, subst, inl, inr, arith}
+use Rattle.std.proofs.Common.{◌≡◌, ℕ, ◌+◌, ◌-◌, ◌^◌, ◌<◌, ◌≤◌, Bool, true, false, bytes_eq, List, [], ◌∷◌, length, map, Option, All, is_some, refl, sym, ap, ◌∙◌, subst, inl, inr, arith}
 use Rattle.std.specs.Prelude.{AllPairs}
 use Rattle.std.proofs.lemmas.Bool.{cases_lt, cases_eq, eq-eqb, ne_eqb, leb-false}
 use Rattle.std.proofs.lemmas.List.{length-append}
@@ -7,16 +7,15 @@ use Rattle.std.proofs.lemmas.List.Elements.{All-nil, All-map, recursion_from_All
 use Rattle.std.proofs.lemmas.List.Sorted.{All-permutation}
 use Rattle.kube_meta.specs.declared.resources.Resource.TheVariants.{Pods}
 use Rattle.kube_meta.specs.Rows.{RowData}
-use Rattle.rev_front.specs.Passes.{Pass, IsPass, Extends}
+use Rattle.rev_front.specs.Passes.{Pass, Extends}
 use Rattle.rev_front.proofs.Passing.{extends_self, extends_trans}
 use Rattle.rev_log.specs.Changes.{ChangeData, RevisionData}
-use Rattle.rev_log.specs.Logs.{Log, IsLog, Fits, end_of, grown}
+use Rattle.rev_log.specs.Logs.{Log, IsLog, end_of, grown}
 use Rattle.rev_log.specs.States.{row_at}
 use Rattle.select_all.specs.Streams.{TransitionData}
 use Rattle.up_api.specs.Sections.{Learns, log_upto}
 use Rattle.mirror_law.specs.Mirrors.{change_told, of_revision, IsRevisionTold}
 use Rattle.mirror_law.specs.Taking.{row_before}
-use Rattle.mirror_law.proofs.RowLemmas.{logs_go_on}
 use Rattle.mirror_log.specs.Intakes.{IntakeData, IsIntake, IsAtEnd, IsClear, fits_kind, most_kept}
 use Rattle.mirror_log.proofs.IntakeLemmas.{stood_later}
 use Rattle.mirror_log.proofs.KindLemmas.{apart, stood_after}
@@ -42,7 +41,7 @@ learns_on p q r first second = record {
 -- ---- the fields as contracts see them
 
 abbrev pub view : List RowData → Pass RevisionData → IntakeData → MirrorLogData
-view base p i = record { selection = i.selection; told = p; log = log_upto base p i.to; kept = i.kept }
+view base p i = record { selection = i.selection; most_gap = i.most_gap; told = p; log = log_upto base p i.to; kept = i.kept }
 
 module _ (base : List RowData) (mirror : Bool) (p q : Pass RevisionData) (i : IntakeData) (on : Extends p q) (holds : Holds base mirror p i) where
   pub same_log : log_upto base q i.to ≡ log_upto base p i.to
@@ -59,10 +58,10 @@ module _ (base : List RowData) (mirror : Bool) (p q : Pass RevisionData) (i : In
   }
 
   pub rests : Rests (view base p i) (view base q i)
-  rests = record { selection = refl; log = same_log; kept = refl }
+  rests = record { selection = refl; most_gap = refl; log = same_log; kept = refl }
 
 pub rests_same : (m : MirrorLogData) → Rests m m
-rests_same m = record { selection = refl; log = refl; kept = refl }
+rests_same m = record { selection = refl; most_gap = refl; log = refl; kept = refl }
 
 pub pods_alone : (at : ℕ) (kept : List TransitionData) (revision : RevisionData) → IsRevisionTold Pods at kept revision → All (λ c. c.resource ≡ Pods) revision.changes
 pods_alone at kept revision told =
@@ -72,9 +71,10 @@ pods_alone at kept revision told =
 -- ---- a revision is committed
 
 -- an intake that has nothing kept
-pub clear : (old new : IntakeData) (to : ℕ) → IsClear old to new → to ≤ 2 ^ 62 → IsIntake new
-clear old new to is within = record {
+pub clear : (old new : IntakeData) (to : ℕ) → IsIntake old → IsClear old to new → to ≤ 2 ^ 62 → IsIntake new
+clear old new to was is within = record {
   ends = omega (arith, is.to_is, within);
+  bounded = omega (arith, is.most_gap, was.bounded);
   next = subst (All (λ t. t.rev ≡ new.to + 1)) (sym is.kept) (All-nil (λ t. t.rev ≡ new.to + 1));
   few = omega (arith, ap (λ (l : List TransitionData). length l) is.kept);
   distinct = subst (AllPairs (λ t u. bytes_eq t.obj.key u.obj.key ≡ false)) (sym is.kept) (λ a b d less inside. absurd (omega (arith, inside)));
@@ -82,7 +82,7 @@ clear old new to is within = record {
 
 -- the log with the revision of the lines that are kept
 abbrev pub next_view : List RowData → Pass RevisionData → Pass RevisionData → IntakeData → RevisionData → MirrorLogData
-next_view base p q i revision = record { selection = i.selection; told = q; log = grown (log_upto base p i.to) (revision ∷ []); kept = [] }
+next_view base p q i revision = record { selection = i.selection; most_gap = i.most_gap; told = q; log = grown (log_upto base p i.to) (revision ∷ []); kept = [] }
 
 module _ (base : List RowData) (mirror : Bool) (p q : Pass RevisionData) (i : IntakeData) (revision : RevisionData)
     (holds : Holds base mirror p i) (told : IsRevisionTold Pods (i.to + 1) i.kept revision) where
@@ -104,6 +104,7 @@ module _ (base : List RowData) (mirror : Bool) (p q : Pass RevisionData) (i : In
   pub moves_one : MovesOne (view base p i) (next_view base p q i revision)
   moves_one = record {
     selection = refl;
+    most_gap = refl;
     revision = revision;
     told_by = told_log;
     log_is = refl;
@@ -116,6 +117,7 @@ module _ (base : List RowData) (mirror : Bool) (p q : Pass RevisionData) (i : In
 pub moves_rest : (a b c : MirrorLogData) → Moves a b → Rests b c → Moves a c
 moves_rest a b c moves rests = record {
   selection = rests.selection ∙ moves.selection;
+  most_gap = rests.most_gap ∙ moves.most_gap;
   grows = record { more = moves.grows.more; log_is = rests.log ∙ moves.grows.log_is; told_by = moves.grows.told_by };
   kept = rests.kept ∙ moves.kept ∙ ap (λ (log : Log). kept_at a (end_of log)) (sym rests.log);
   stands = λ rev key above.
@@ -155,6 +157,6 @@ holds_clear base mirror p i j holds cleared at =
       begun = omega (arith, holds.begun, cleared.to_is);
       seen = omega (arith, holds.seen, cleared.to_is);
       log = subst IsLog (sym same) holds.log;
-      lawful = clear i j i.to cleared holds.lawful.ends;
+      lawful = clear i j i.to holds.lawful cleared holds.lawful.ends;
       at = subst (IsAtEnd j) (sym same) (at (log_upto base p i.to) holds.at);
     }

@@ -21,7 +21,7 @@ use Rattle.select_all.proofs.OrderLaws.{same_number}
 use Rattle.mirror_law.specs.Mirrors.{of_revision}
 use Rattle.mirror_law.specs.Taking.{FitsKind, row_before, IsTakenMark}
 use Rattle.mirror_log.specs.Intakes.{fits_kind, is_of}
-use Rattle.mirror_log.specs.Faults.{most_gap, last_of, is_full_at, is_repeated}
+use Rattle.mirror_log.specs.Faults.{last_of, is_full_at, is_repeated}
 use Rattle.mirror_log.specs.Laws.{IsAtMostGap, TakenEventsFit, TakenMarksFit}
 use Rattle.mirror_log.specs.declared.take_refusal.TakeNo.TheVariants.{BadLine, Order, Gap}
 
@@ -54,7 +54,7 @@ event_at_most : (selected fitting full late repeated far : Bool) (last got : ℕ
 event_at_most selected fitting full late repeated far last got a b c d e = rw (a, b, c, d, e) (gap_at_most far last got)
 
 pub taken_events_fit : TakenEventsFit
-taken_events_fit s m kept t pods taken =
+taken_events_fit s most_gap m kept t pods taken =
     let row : Option RowData = row_before m Pods kept t.rev t.obj.key in
     let same : row_before m s.resource kept t.rev t.obj.key ≡ row = ap (λ (r : Resource). row_before m r kept t.rev t.obj.key) pods in
     let fitting : fits_kind t.kind (is_some row) ≡ true = ap (λ (r : Option RowData). fits_kind t.kind (is_some r)) (sym same) ∙ fits t.kind (row_before m s.resource kept t.rev t.obj.key) taken.fits in
@@ -71,6 +71,6 @@ mark_at_most : (below far : Bool) (last got : ℕ) → below ≡ false → IsAtM
 mark_at_most below far last got b = rw b (gap_at_most far last got)
 
 pub taken_marks_fit : TakenMarksFit
-taken_marks_fit m kept at taken =
+taken_marks_fit most_gap m kept at taken =
     mark_at_most (ltb at (last_of (end_of m) kept)) (ltb (last_of (end_of m) kept + most_gap) at) (last_of (end_of m) kept) at
     (le-ltb at (last_of (end_of m) kept) (last_told m kept at taken))

@@ -1,11 +1,11 @@
 -- The revisions between two lists of rows, of which one stands at a revision of a log, and the other at a later one.
-use Rattle.std.specs.Prelude.{◌≡◌, ℕ, ◌+◌, ◌-◌, ◌*◌, ◌<◌, ◌≤◌, not, nat_lt, nat_eq, List, length, filter, All, Some, is_some}
+use Rattle.std.specs.Prelude.{◌≡◌, ℕ, ◌+◌, ◌-◌, ◌*◌, ◌<◌, ◌≤◌, not, nat_lt, nat_eq, List, ◌∷◌, ◌++◌, length, filter, All, Option, Some, None, is_some}
 use Rattle.kube_meta.specs.declared.resources.Resource.TheVariants.{Pods}
 use Rattle.kube_meta.specs.Rows.{RowData, key_of, row_with}
-use Rattle.rev_front.specs.Passes.{FitFrom}
 use Rattle.rev_log.specs.Changes.{RevisionData}
-use Rattle.rev_log.specs.Logs.{Log, Fits, grown, end_of}
+use Rattle.rev_log.specs.Logs.{Log, grown, end_of}
 use Rattle.rev_log.specs.States.{IsStateAt}
+use Rattle.up_store.specs.Hearing.{AreAscending, filled}
 
 -- the rows that are younger than a revision
 abbrev pub younger : ℕ → List RowData → List RowData
@@ -27,6 +27,20 @@ IsKept old row = row_with old (key_of row) ≡ Some row
 abbrev pub AreKept : ℕ → List RowData → List RowData → Type 0
 AreKept from old rows = All (λ row. row.rev ≤ from → IsKept old row) rows
 
+-- the row is the first of these that isn't younger than a revision and doesn't
+pub record IsFirstOther (from : ℕ) (old rows : List RowData) (row : RowData) : Type 0 where
+  pub before : List RowData
+  pub behind : List RowData
+  pub rows_are : rows ≡ before ++ row ∷ behind
+  pub same : AreKept from old before
+  pub written : row.rev ≤ from
+  pub differs : ¬ IsKept old row
+
+-- it is, or there is none
+abbrev pub FindsOther : ℕ → List RowData → List RowData → Option RowData → Type 0
+FindsOther from old rows (Some row) = IsFirstOther from old rows row
+FindsOther from old rows None = AreKept from old rows
+
 -- Both lists may be of one log: what wasn't written since stands as it stood, no revision has more than 64 changes, and
 -- the revisions between have room for all that was written or is gone.
 pub record MayBeOfOneLog (from : ℕ) (old : List RowData) (to : ℕ) (rows : List RowData) : Type 0 where
@@ -34,10 +48,11 @@ pub record MayBeOfOneLog (from : ℕ) (old : List RowData) (to : ℕ) (rows : Li
   pub few : (rev : ℕ) → from < rev → length (written_at rev rows) ≤ 64
   pub room : length (younger from rows) + length (gone old rows) ≤ 64 * (to - from)
 
--- These revisions follow a revision at which the one list stands; there is one for each number up to the other one, of
--- pods alone; and then the other list stands.
+-- These revisions follow a revision at which the one list stands: their numbers rise up to the other one, and each has a
+-- change, of pods alone. Once they are there, and between them and behind them those at which nothing changes, the other
+-- list stands.
 pub record Bridges (from : ℕ) (old : List RowData) (to : ℕ) (rows : List RowData) (revisions : List RevisionData) : Type 0 where
-  pub fits : FitFrom Fits from revisions
-  pub long : from + length revisions ≡ to
+  pub rise : AreAscending from revisions to
+  pub change : All (λ revision. 0 < length revision.changes) revisions
   pub pods : All (λ revision. All (λ change. change.resource ≡ Pods) revision.changes) revisions
-  pub leads : (log : Log) → end_of log ≡ from → IsStateAt log Pods from old → IsStateAt (grown log revisions) Pods to rows
+  pub leads : (log : Log) → end_of log ≡ from → IsStateAt log Pods from old → IsStateAt (grown log (filled from revisions to)) Pods to rows

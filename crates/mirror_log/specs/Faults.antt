@@ -11,10 +11,6 @@ use Rattle.mirror_log.specs.Intakes.{most_kept, fits_kind, is_of}
 use Rattle.mirror_log.specs.declared.take_refusal.TakeNo.{TakeNo}
 use Rattle.mirror_log.specs.declared.take_refusal.TakeNo.TheVariants.{BadLine, Order, Gap}
 
--- the most revisions without a line before one
-abbrev pub most_gap : ℕ
-most_gap = 1000000
-
 -- the last revision that was told: that of the lines that are kept, or the end
 abbrev pub last_of : ℕ → List TransitionData → ℕ
 last_of to [] = to
@@ -30,9 +26,9 @@ is_repeated kept rev key = list_any (λ t. nat_eq t.rev rev && is_of key t) kept
 
 -- What is wrong first with an event, if anything: its object isn't selected; its kind disagrees with what stands before
 -- it; it is one line too many of its revision; it is of a revision that is committed, or repeats a key of one that is
--- kept; it is too far behind the last.
-abbrev pub event_fault : Selection → Log → List TransitionData → TransitionData → Option TakeNo
-event_fault s m kept t =
+-- kept; more revisions than are allowed lie between it and the last.
+abbrev pub event_fault : Selection → ℕ → Log → List TransitionData → TransitionData → Option TakeNo
+event_fault s most_gap m kept t =
     if not (selects s t.obj) then Some BadLine
     else if not (fits_kind t.kind (is_some (row_before m Pods kept t.rev t.obj.key))) then Some BadLine
     else if is_full_at kept t.rev then Some BadLine
@@ -40,10 +36,10 @@ event_fault s m kept t =
     else if nat_lt (last_of (end_of m) kept + most_gap) t.rev then Some (Gap (last_of (end_of m) kept) t.rev)
     else None
 
--- What is wrong first with a bookmark: it closes an opening, which is over; it is below what was told; it is too far
--- behind that.
-abbrev pub mark_fault : ℕ → List TransitionData → ℕ → Bool → Option TakeNo
-mark_fault to kept at closing =
+-- What is wrong first with a bookmark: it closes an opening, which is over; it is below what was told; more revisions than
+-- are allowed lie between.
+abbrev pub mark_fault : ℕ → ℕ → List TransitionData → ℕ → Bool → Option TakeNo
+mark_fault most_gap to kept at closing =
     if closing then Some BadLine
     else if nat_lt at (last_of to kept) then Some BadLine
     else if nat_lt (last_of to kept + most_gap) at then Some (Gap (last_of to kept) at)

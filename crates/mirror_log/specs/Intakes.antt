@@ -38,10 +38,11 @@ fits_kind Deleted stood = stood
 
 -- ---- what is taken in
 
--- whose lines are taken, the end of the mirror's log, the keys of its table, and the lines of the revision behind the
--- end, as they came
+-- whose lines are taken, how many revisions without a line may lie before one, the end of the mirror's log, the keys of
+-- its table, and the lines of the revision behind the end, as they came
 pub record IntakeData : Type 0 where
   pub selection : Selection
+  pub most_gap : ℕ
   pub to : ℕ
   pub keys : BTreeSet (List ℕ)
   pub kept : List TransitionData
@@ -62,6 +63,7 @@ tells kind lines key = list_any (λ t. same_kind t.kind kind && is_of key t) lin
 -- and no key comes twice.
 pub record IsIntake (intake : IntakeData) : Type 0 where
   pub ends : intake.to ≤ 2 ^ 62
+  pub bounded : intake.most_gap ≤ 2 ^ 62
   pub next : All (λ t. t.rev ≡ intake.to + 1) intake.kept
   pub few : length intake.kept ≤ most_kept
   pub distinct : AllPairs (λ t u. is_of u.obj.key t ≡ false) intake.kept
@@ -78,11 +80,13 @@ pub record IsAtEnd (intake : IntakeData) (log : Log) : Type 0 where
 -- only the line is kept beside those before
 pub record Keeps (old : IntakeData) (t : TransitionData) (new : IntakeData) : Type 0 where
   pub selection : new.selection ≡ old.selection
+  pub most_gap : new.most_gap ≡ old.most_gap
   pub to : new.to ≡ old.to
   pub kept : new.kept ≡ old.kept ++ t ∷ []
 
 -- the end is this, and nothing is kept
 pub record IsClear (old : IntakeData) (to : ℕ) (new : IntakeData) : Type 0 where
   pub selection : new.selection ≡ old.selection
+  pub most_gap : new.most_gap ≡ old.most_gap
   pub to_is : new.to ≡ to
   pub kept : new.kept ≡ []

@@ -19,9 +19,9 @@ IsAtMostGap (Some (Gap last got)) = Unit {0}
 -- that is so of each event and each bookmark that a mirror takes, as it does the lines of a lawful body
 abbrev pub TakenEventsFit : Type 0
 TakenEventsFit =
-    (s : Selection) (m : Log) (kept : List TransitionData) (t : TransitionData) → s.resource ≡ Pods → IsTakenEvent s m kept t →
-    IsAtMostGap (event_fault s m kept t)
+    (s : Selection) (most_gap : ℕ) (m : Log) (kept : List TransitionData) (t : TransitionData) → s.resource ≡ Pods → IsTakenEvent s m kept t →
+    IsAtMostGap (event_fault s most_gap m kept t)
 
 abbrev pub TakenMarksFit : Type 0
 TakenMarksFit =
-    (m : Log) (kept : List TransitionData) (at : ℕ) → IsTakenMark m kept at → IsAtMostGap (mark_fault (end_of m) kept at false)
+    (most_gap : ℕ) (m : Log) (kept : List TransitionData) (at : ℕ) → IsTakenMark m kept at → IsAtMostGap (mark_fault most_gap (end_of m) kept at false)

@@ -1,5 +1,5 @@
 -- The log of a mirror, and what a line of its peer's watch makes of it.
-use Rattle.std.specs.Prelude.{◌≡◌, ℕ, ◌+◌, ◌<◌, ◌≤◌, ◌==◌, if◌then◌else◌, List, [], ◌∷◌, is_some, Option, Some, None, Result, Ok, Err}
+use Rattle.std.specs.Prelude.{◌≡◌, ℕ, ◌+◌, ◌<◌, ◌≤◌, ◌==◌, if◌then◌else◌, List, [], ◌∷◌, ◌++◌, is_some, Option, Some, None, Result, Ok, Err}
 use Rattle.rev_front.specs.Passes.{Pass, end_from}
 use Rattle.rev_log.specs.Changes.{RevisionData}
 use Rattle.rev_log.specs.Logs.{Log, end_of, grown}
@@ -16,10 +16,11 @@ use Rattle.mirror_log.specs.declared.take_refusal.TakeNo.{TakeNo}
 use Rattle.mirror_log.specs.declared.refusal.MirrorNo.{MirrorNo}
 use Rattle.mirror_log.specs.declared.refusal.MirrorNo.TheVariants.{Refused, Passed, Memory}
 
--- whose lines it hears, what its pass knows of the store, its log, which is a beginning of the store's, and the lines of the
+-- whose lines it hears, how many revisions without a line may lie before one, what its pass knows of the store, its log, which is a beginning of the store's, and the lines of the
 -- revision behind that log's end, as they came
 pub record MirrorLogData : Type 0 where
   pub selection : Selection
+  pub most_gap : ℕ
   pub told : Pass RevisionData
   pub log : Log
   pub kept : List TransitionData
@@ -36,6 +37,7 @@ pub record Grows (old : MirrorLogData) (log : Log) : Type 0 where
 -- behind those of its revision, and after a bookmark nothing is.
 pub record Takes (old : MirrorLogData) (line : Line) (new : MirrorLogData) : Type 0 where
   pub selection : new.selection ≡ old.selection
+  pub most_gap : new.most_gap ≡ old.most_gap
   pub grows : Grows old new.log
   pub reached : end_of new.log ≡ upto_of line
   pub kept : new.kept ≡ kept_after old.kept line
@@ -43,6 +45,7 @@ pub record Takes (old : MirrorLogData) (line : Line) (new : MirrorLogData) : Typ
 -- It was taken in part: some of these revisions are committed.
 pub record TakesSome (old : MirrorLogData) (line : Line) (new : MirrorLogData) : Type 0 where
   pub selection : new.selection ≡ old.selection
+  pub most_gap : new.most_gap ≡ old.most_gap
   pub grows : Grows old new.log
   pub within : end_of new.log ≤ upto_of line
 
@@ -57,6 +60,38 @@ Hears old fault line (Err (Refused why)) new = (fault ≡ Some why) × (new ≡ 
 Hears old fault line (Err (Passed at)) new = (fault ≡ None) × TakesSome old line new × (at ≡ seen_to new) × (end_of new.log < at)
 Hears old fault line (Err Memory) new = (fault ≡ None) × TakesSome old line new
 
+-- ---- what an event makes of it that is alone in its revision
+
+-- the log grew by revisions of what was kept and of the event, each of its own
+pub record GrowsWith (old : MirrorLogData) (t : TransitionData) (log : Log) : Type 0 where
+  pub more : List RevisionData
+  pub log_is : log ≡ grown old.log more
+  pub told_by : AreToldBy Pods (old.kept ++ t ∷ []) (end_of old.log) more
+
+-- It was taken whole: all revisions are committed up to its own, and no other, and nothing is kept.
+pub record TakesAlone (old : MirrorLogData) (t : TransitionData) (new : MirrorLogData) : Type 0 where
+  pub selection : new.selection ≡ old.selection
+  pub most_gap : new.most_gap ≡ old.most_gap
+  pub grows : GrowsWith old t new.log
+  pub reached : end_of new.log ≡ t.rev
+  pub kept : new.kept ≡ []
+
+-- It was taken in part: some of these revisions are committed.
+pub record TakesSomeAlone (old : MirrorLogData) (t : TransitionData) (new : MirrorLogData) : Type 0 where
+  pub selection : new.selection ≡ old.selection
+  pub most_gap : new.most_gap ≡ old.most_gap
+  pub grows : GrowsWith old t new.log
+  pub within : end_of new.log ≤ t.rev
+
+-- what is answered to it, by what is wrong with it
+abbrev pub HearsAlone : MirrorLogData → Option TakeNo → TransitionData → Result ℕ MirrorNo → MirrorLogData → Type 0
+HearsAlone old fault t (Ok to) new = (fault ≡ None) × TakesAlone old t new × (to ≡ end_of new.log)
+HearsAlone old fault t (Err (Refused why)) new = (fault ≡ Some why) × (new ≡ old)
+HearsAlone old fault t (Err (Passed at)) new = (fault ≡ None) × TakesSomeAlone old t new × (at ≡ seen_to new) × (end_of new.log < at)
+HearsAlone old fault t (Err Memory) new = (fault ≡ None) × TakesSomeAlone old t new
+
+-- ---- commits
+
 -- what was kept stays until its revision is committed
 abbrev pub kept_at : MirrorLogData → ℕ → List TransitionData
 kept_at old at = if at == end_of old.log then old.kept else []
@@ -70,6 +105,7 @@ StandsOn old new =
 -- some revisions are committed
 pub record Moves (old new : MirrorLogData) : Type 0 where
   pub selection : new.selection ≡ old.selection
+  pub most_gap : new.most_gap ≡ old.most_gap
   pub grows : Grows old new.log
   pub kept : new.kept ≡ kept_at old (end_of new.log)
   pub stands : StandsOn old new
@@ -77,6 +113,7 @@ pub record Moves (old new : MirrorLogData) : Type 0 where
 -- the next revision is committed
 pub record MovesOne (old new : MirrorLogData) : Type 0 where
   pub selection : new.selection ≡ old.selection
+  pub most_gap : new.most_gap ≡ old.most_gap
   pub revision : RevisionData
   pub told_by : IsRevisionTold Pods (end_of old.log + 1) old.kept revision
   pub log_is : new.log ≡ grown old.log (revision ∷ [])
@@ -86,6 +123,7 @@ pub record MovesOne (old new : MirrorLogData) : Type 0 where
 -- nothing is
 pub record Rests (old new : MirrorLogData) : Type 0 where
   pub selection : new.selection ≡ old.selection
+  pub most_gap : new.most_gap ≡ old.most_gap
   pub log : new.log ≡ old.log
   pub kept : new.kept ≡ old.kept
 

@@ -1,6 +1,8 @@
--- The changes of revisions that aren't made yet: a slot for each.
-use Rattle.std.specs.Prelude.{◌≡◌, ℕ, ◌+◌, ◌-◌, ◌<◌, ◌≤◌, nat_eq, List, [], ◌∷◌, ◌++◌, length, map, filter, All, Some, None, slice_get, slice_index_or, slice_set}
+-- The changes of revisions that aren't made yet, by their numbers.
+use Rattle.std.specs.Prelude.{◌≡◌, ℕ, ◌<◌, ◌≤◌, nat_eq, List, [], ◌∷◌, ◌++◌, length, map, filter, All, Option, Some, None, IsSome, if◌then◌else◌}
 use Rattle.std.specs.List.Sorted.{IsPermutation}
+use Rattle.std.specs.Map.{lookup}
+use Rattle.std.specs.Ordering.{is_eq, nat_cmp}
 use Rattle.kube_meta.specs.declared.resources.Resource.TheVariants.{Pods}
 use Rattle.kube_meta.specs.Rows.{RowData, key_of}
 use Rattle.rev_log.specs.Changes.{ChangeData, RevisionData, IsRevision}
@@ -10,17 +12,31 @@ use Rattle.mirror_log.specs.Bridges.{younger}
 abbrev pub of_rev : ℕ → List ChangeData → List ChangeData
 of_rev rev changes = filter (λ change. nat_eq change.rev rev) changes
 
--- the slot at a place
-abbrev pub slot_at : List (List ChangeData) → ℕ → List ChangeData
-slot_at slots i = slice_index_or slots i []
+-- changes by the numbers of their revisions
+abbrev pub SlotsData : Type 0
+SlotsData = List (ℕ × List ChangeData)
 
--- behind a revision, the slots have those of the changes that are of their revisions
-abbrev pub Hold : ℕ → List (List ChangeData) → List ChangeData → Type 0
-Hold from slots changes = (i : ℕ) → i < length slots → slot_at slots i ≡ of_rev (from + 1 + i) changes
+-- the slot of a revision, if there is one
+abbrev pub slot_of : SlotsData → ℕ → Option (List ChangeData)
+slot_of slots rev = lookup (λ other. is_eq (nat_cmp rev other)) slots
 
--- the change goes last into its slot
-abbrev pub Adds : ℕ → List (List ChangeData) → ChangeData → List (List ChangeData) → Type 0
-Adds from old change new = (let i : ℕ = change.rev - from - 1 in new ≡ slice_set old i (slot_at old i ++ change ∷ []))
+-- the changes in it
+abbrev pub changes_in : Option (List ChangeData) → List ChangeData
+changes_in None = []
+changes_in (Some changes) = changes
+
+abbrev pub slot_at : SlotsData → ℕ → List ChangeData
+slot_at slots rev = changes_in (slot_of slots rev)
+
+-- each revision has those of the changes that are its own, and a slot only where it has some
+pub record Hold (slots : SlotsData) (changes : List ChangeData) : Type 0 where
+  pub has : (rev : ℕ) → slot_at slots rev ≡ of_rev rev changes
+  pub some : (rev : ℕ) → IsSome (slot_of slots rev) → 0 < length (slot_at slots rev)
+
+-- the change goes last among those of its revision
+abbrev pub Adds : SlotsData → ChangeData → SlotsData → Type 0
+Adds old change new =
+    (rev : ℕ) → slot_of new rev ≡ (if nat_eq change.rev rev then Some (slot_at old change.rev ++ change ∷ []) else slot_of old rev)
 
 -- a row is put
 abbrev pub put_of : RowData → ChangeData
@@ -34,25 +50,27 @@ puts from rows = map put_of (younger from rows)
 abbrev pub removal_of : RowData → ℕ → ChangeData
 removal_of row rev = record { rev = rev; resource = Pods; key = key_of row; new = None }
 
--- a removal at a revision behind `from` that has a slot
-pub record IsRemoval (from n : ℕ) (change : ChangeData) : Type 0 where
+-- a removal at a revision behind the one and up to the other
+pub record IsRemoval (from to : ℕ) (change : ChangeData) : Type 0 where
   pub pod : change.resource ≡ Pods
   pub none : change.new ≡ None
   pub above : from < change.rev
-  pub within : change.rev ≤ from + n
+  pub within : change.rev ≤ to
 
 -- beside the changes so far, the slots have removals of these rows
-pub record Remove (from : ℕ) (changes : List ChangeData) (rows : List RowData) (slots : List (List ChangeData)) : Type 0 where
+pub record Remove (from to : ℕ) (changes : List ChangeData) (rows : List RowData) (slots : SlotsData) : Type 0 where
   pub removed : List ChangeData
-  pub hold : Hold from slots (changes ++ removed)
+  pub hold : Hold slots (changes ++ removed)
   pub keys : map (λ change. change.key) removed ≡ map key_of rows
-  pub removals : All (IsRemoval from (length slots)) removed
+  pub removals : All (IsRemoval from to) removed
 
--- the revision is that of the slot at a place
-abbrev pub IsOfSlot : ℕ → List (List ChangeData) → ℕ → RevisionData → Type 0
-IsOfSlot from slots i revision = (revision.rev ≡ from + 1 + i) × IsRevision revision × IsPermutation (slot_at slots i) revision.changes
+-- the revision is that of a slot
+abbrev pub IsOfSlot : (ℕ × List ChangeData) → RevisionData → Type 0
+IsOfSlot slot revision = (revision.rev ≡ slot.0) × IsRevision revision × IsPermutation slot.1 revision.changes
 
--- the revisions of the slots
-pub record AreMadeOf (from : ℕ) (slots : List (List ChangeData)) (revisions : List RevisionData) : Type 0 where
-  pub long : length revisions ≡ length slots
-  pub each : (i : ℕ) (revision : RevisionData) → slice_get revisions i ≡ Some revision → IsOfSlot from slots i revision
+-- each revision is that of its slot
+abbrev pub AreMadeOf : SlotsData → List RevisionData → Type 0
+AreMadeOf [] [] = Unit {0}
+AreMadeOf [] (revision ∷ revisions) = ⊥
+AreMadeOf (slot ∷ slots) [] = ⊥
+AreMadeOf (slot ∷ slots) (revision ∷ revisions) = IsOfSlot slot revision × AreMadeOf slots revisions

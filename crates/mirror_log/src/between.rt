@@ -1,21 +1,28 @@
 //! The revisions between.
 
-ghost use Rattle.std.specs.Prelude.{◌≡◌, ◌+◌, ◌<◌, ◌≤◌, ◌^◌, All, IfOk, OnOk, Err};
+ghost use Rattle.std.specs.Prelude.{◌≡◌, ◌≤◌, ◌^◌, [], All, IfOk, OnOk, Err};
 ghost use Rattle.kube_meta.specs.Rows.{AreRising};
 ghost use Rattle.mirror_log.specs.Bridges.{Bridges, MayBeOfOneLog};
+ghost use Rattle.mirror_log.specs.Slots.{Hold};
 
 use crate::BridgeNo;
 use crate::find::{are_kept, gone_rows};
-use crate::slots::{Slot, SlotNo, empty_slots, put_all, remove_all, revisions_of};
+use crate::slots::{SlotNo, Slots, put_all, remove_all, revisions_of};
 use kube_meta::{Memory, Row};
 use rev_log::Revision;
 use std::alloc::Global;
+use std::collections::BTreeMap;
 
-/// The most revisions that are made: for each a little memory is taken, and a peer may name any number.
-const MOST_AHEAD: u64 = 4_000_000;
+// No changes yet.
+fn no_slots(alloc: Global) -> Slots
+    ensures { Hold result.entries [] }
+{
+    BTreeMap::new(alloc)
+}
 
 /// The revisions that take the pods of one revision to those of a later one, both in the order of keys. What was
-/// written since is put at its own revision, and what is gone is removed at the first revision with room.
+/// written since is put at its own revision, and what is gone is removed at the first revision with room. Revisions at
+/// which nothing changes aren't among them, however many there are.
 pub fn bridge(
     alloc: Global,
     from: u64,
@@ -31,17 +38,13 @@ pub fn bridge(
     ensures bridges { IfOk result (λ revisions. Bridges from old.now to rows.now revisions.items) }
     ensures one_log { OnOk result (MayBeOfOneLog from old.now to rows.now) }
     ensures other_log { result ≡ Err BridgeNo.OtherLog → ¬ (MayBeOfOneLog from old.now to rows.now) }
-    ensures too_far { result ≡ Err BridgeNo.TooFar → from + 4000000 < to }
 {
-    if to - from > MOST_AHEAD {
-        return Err(BridgeNo::TooFar);
-    }
     if !are_kept(from, old, rows) {
         return Err(BridgeNo::OtherLog);
     }
-    let mut slots = empty_slots(alloc, to - from)?;
-    put_all(&mut slots, from, rows)?;
+    let mut slots = no_slots(alloc);
+    put_all(alloc, &mut slots, from, rows)?;
     let gone = gone_rows(alloc, old, rows)?;
-    remove_all(&mut slots, from, &gone)?;
-    Ok(revisions_of(alloc, from, slots)?)
+    remove_all(alloc, &mut slots, from, to, &gone)?;
+    Ok(revisions_of(alloc, slots)?)
 }

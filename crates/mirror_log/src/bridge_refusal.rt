@@ -8,8 +8,6 @@ use kube_meta::Memory;
 pub enum BridgeNo {
     /// The rows aren't of the log of which the old ones are.
     OtherLog,
-    /// The later revision is too far ahead.
-    TooFar,
     /// There was no memory.
     Memory,
 }

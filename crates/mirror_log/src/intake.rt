@@ -34,6 +34,7 @@ const MOST_KEPT: usize = 64;
 #[derive(Debug, Drop)]
 pub struct Intake {
     selection: Selection,
+    most_gap: u64,
     to: u64,
     keys: Keys,
     kept: Vec<Pending>,
@@ -44,25 +45,30 @@ impl Model for Intake {
 
     ghost Value = { IntakeData };
 
-    ghost view = { λ i. record { selection = i.selection; to = i.to; keys = i.keys; kept = i.kept.items } };
+    ghost view = { λ i. record { selection = i.selection; most_gap = i.most_gap; to = i.to; keys = i.keys; kept = i.kept.items } };
 
-    ghost invariant = { λ i. IsIntake (record { selection = i.selection; to = i.to; keys = i.keys; kept = i.kept.items }) };
+    ghost invariant = { λ i. IsIntake (record { selection = i.selection; most_gap = i.most_gap; to = i.to; keys = i.keys; kept = i.kept.items }) };
 }
 
 impl Intake {
-    /// Begins behind a revision, with the rows that stand there.
+    /// Begins behind a revision, with the rows that stand there. No more than `most_gap` revisions without a line lie
+    /// before one.
     pub fn new(
         alloc: Global,
         selection: Selection,
+        most_gap: u64,
         rows: &[Row],
         base: u64,
     ) -> Result<Intake, Memory>
+        requires gap { most_gap ≤ 2 ^ 62 }
         requires base { base ≤ 2 ^ 62 }
-        ensures is { IfOk result (λ intake. (intake.selection ≡ selection) × (intake.to ≡ base) × (intake.kept ≡ [])) }
+        ensures is { IfOk result (λ intake. (intake.selection ≡ selection) × (intake.most_gap ≡ most_gap)
+            × (intake.to ≡ base) × (intake.kept ≡ [])) }
         ensures at { IfOk result (λ intake. IsAtEnd intake (opened_log base rows.now)) }
     {
         Ok(Intake {
             selection,
+            most_gap,
             to: base,
             keys: keys_of(alloc, rows)?,
             kept: Vec::new(alloc),
@@ -130,7 +136,7 @@ impl Intake {
     /// What is wrong first with an event, if anything.
     pub fn event_fault(&self, kind: Kind, obj: &Obj, rev: u64) -> Option<TakeNo>
         ensures { (log : Log) → IsAtEnd self.now log →
-            result ≡ event_fault self.now.selection log self.now.kept (record { kind = kind; obj = obj.now; rev = rev }) }
+            result ≡ event_fault self.now.selection self.now.most_gap log self.now.kept (record { kind = kind; obj = obj.now; rev = rev }) }
     {
         if !self.selection.selects(obj)
             || !fits_kind(kind, self.stood(&obj.key, rev))
@@ -142,18 +148,18 @@ impl Intake {
         if rev <= self.to || repeats(&self.kept, rev, &obj.key) {
             return Some(TakeNo::Order { last, got: rev });
         }
-        gap(last, rev)
+        gap(self.most_gap, last, rev)
     }
 
     /// What is wrong first with a bookmark, if anything.
     pub fn mark_fault(&self, at: u64, closing: bool) -> Option<TakeNo>
-        ensures { result ≡ mark_fault self.now.to self.now.kept at closing }
+        ensures { result ≡ mark_fault self.now.most_gap self.now.to self.now.kept at closing }
     {
         let last = self.last();
         if closing || at < last {
             return Some(TakeNo::BadLine);
         }
-        gap(last, at)
+        gap(self.most_gap, last, at)
     }
 
     /// Keeps an event of the revision behind the end.

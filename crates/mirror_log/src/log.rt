@@ -8,7 +8,7 @@ ghost use Rattle.up_api.specs.Sections.{Learns, log_upto};
 ghost use Rattle.watch_rules.specs.Bodies.{Told, Bookmark, Closing, Line};
 ghost use Rattle.mirror_law.specs.Mirrors.{opened_log};
 ghost use Rattle.mirror_log.specs.Faults.{event_fault, mark_fault};
-ghost use Rattle.mirror_log.specs.MirrorLogs.{Commits, Hears};
+ghost use Rattle.mirror_log.specs.MirrorLogs.{Commits, Hears, HearsAlone};
 
 use crate::MirrorNo;
 use crate::intake::Intake;
@@ -41,6 +41,7 @@ impl<N: LogFacts, R: Wait + Copy> Model for MirrorLog<N, R> {
 
     ghost view = { λ m. record {
       selection = m.intake.selection;
+      most_gap = m.intake.most_gap;
       told = m.told;
       log = log_upto N.base m.told m.intake.to;
       kept = m.intake.kept;
@@ -50,7 +51,8 @@ impl<N: LogFacts, R: Wait + Copy> Model for MirrorLog<N, R> {
 }
 
 impl<N: LogFacts, R: Wait + Copy> MirrorLog<N, R> {
-    /// The log of a new store, from rows that stand at its base.
+    /// The log of a new store, from rows that stand at its base. No more than `most_gap` revisions without a line may lie
+    /// before one.
     pub fn new(
         rt: R,
         alloc: Global,
@@ -59,6 +61,7 @@ impl<N: LogFacts, R: Wait + Copy> MirrorLog<N, R> {
         base: u64,
         blank: Blank<Revision>,
         history: u64,
+        most_gap: u64,
     ) -> Result<MirrorLog<N, R>, Memory>
         requires name { blank ≡ N.log }
         requires base { N.base ≡ rows.items }
@@ -68,9 +71,11 @@ impl<N: LogFacts, R: Wait + Copy> MirrorLog<N, R> {
         requires old { All (λ row. row.rev ≤ base) rows.items }
         requires within { base ≤ 2 ^ 62 }
         requires history { 1 ≤ history }
-        ensures { IfOk result (λ m. (m.selection ≡ selection) × (m.log ≡ opened_log base rows.items) × (m.kept ≡ [])) }
+        requires gap { most_gap ≤ 2 ^ 62 }
+        ensures { IfOk result (λ m. (m.selection ≡ selection) × (m.most_gap ≡ most_gap)
+            × (m.log ≡ opened_log base rows.items) × (m.kept ≡ [])) }
     {
-        let intake = Intake::new(alloc, selection, &rows, base)?;
+        let intake = Intake::new(alloc, selection, most_gap, &rows, base)?;
         let mut store = Store::from_base(alloc, blank, rows, history)?;
         let told = store.pass()?;
         let door = StoreDoor::new(rt, store)?;
@@ -138,7 +143,7 @@ impl<N: LogFacts, R: Wait + Copy> MirrorLog<N, R> {
         requires { rev ≤ 2 ^ 62 }
         ensures learns { Learns self.old.told self.new.told }
         ensures hears { let t : TransitionData = record { kind = kind; obj = obj; rev = rev } in
-            Hears self.old (event_fault self.old.selection self.old.log self.old.kept t) (Told t) result self.new }
+            Hears self.old (event_fault self.old.selection self.old.most_gap self.old.log self.old.kept t) (Told t) result self.new }
     {
         match self.intake.event_fault(kind, &obj, rev) {
             Some(fault) => return Err(MirrorNo::Refused(fault)),
@@ -153,7 +158,7 @@ impl<N: LogFacts, R: Wait + Copy> MirrorLog<N, R> {
     pub fn hear_mark(&mut self, at: u64, closing: bool) -> Result<u64, MirrorNo>
         requires { at ≤ 2 ^ 62 }
         ensures learns { Learns self.old.told self.new.told }
-        ensures hears { Hears self.old (mark_fault (end_of self.old.log) self.old.kept at closing) (Bookmark at) result self.new }
+        ensures hears { Hears self.old (mark_fault self.old.most_gap (end_of self.old.log) self.old.kept at closing) (Bookmark at) result self.new }
     {
         match self.intake.mark_fault(at, closing) {
             Some(fault) => return Err(MirrorNo::Refused(fault)),
@@ -161,6 +166,20 @@ impl<N: LogFacts, R: Wait + Copy> MirrorLog<N, R> {
         }
         self.commit_upto(at)?;
         Ok(self.intake.to())
+    }
+
+    /// Hears an event that is alone in its revision, as each of a cluster is: all revisions up to its own are committed,
+    /// and nothing is kept.
+    pub fn hear_alone(&mut self, kind: Kind, obj: Obj, rev: u64) -> Result<u64, MirrorNo>
+        requires { rev ≤ 2 ^ 62 }
+        ensures learns { Learns self.old.told self.new.told }
+        ensures hears { let t : TransitionData = record { kind = kind; obj = obj; rev = rev } in
+            HearsAlone self.old (event_fault self.old.selection self.old.most_gap self.old.log self.old.kept t) t result self.new }
+    {
+        match self.hear_event(kind, obj, rev) {
+            Ok(_) => self.hear_mark(rev, false),
+            Err(why) => Err(why),
+        }
     }
 
     /// Forgets the lines that are kept.

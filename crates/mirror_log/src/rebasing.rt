@@ -1,20 +1,21 @@
 //! A mirror's log begins anew.
 
-ghost use Rattle.std.specs.Prelude.{◌≡◌, ℕ, ◌+◌, ◌≤◌, ◌^◌, List, length, All, is_some, IfOk, IfErr};
+ghost use Rattle.std.specs.Prelude.{◌≡◌, ℕ, ◌≤◌, ◌^◌, List, All, is_some, IfOk, IfErr};
 ghost use Rattle.kube_meta.specs.declared.resources.Resource.TheVariants.{Pods};
 ghost use Rattle.kube_meta.specs.Rows.{AreRising};
-ghost use Rattle.rev_front.specs.Passes.{FitFrom};
-ghost use Rattle.rev_log.specs.Logs.{Fits, grown, end_of};
+ghost use Rattle.rev_log.specs.Logs.{Log, grown, end_of};
 ghost use Rattle.rev_log.specs.States.{IsStateAt, row_at};
 ghost use Rattle.up_api.specs.Sections.{Learns};
+ghost use Rattle.up_store.specs.Hearing.{AreAscending, filled};
 ghost use Rattle.mirror_log.specs.Intakes.{has};
 ghost use Rattle.mirror_log.specs.MirrorLogs.{Rests};
-ghost use Rattle.mirror_log.specs.Rebasing.{CommitsAll, IsStoreRefusal, Rebases};
+ghost use Rattle.mirror_log.specs.Rebasing.{CommitsAll, Differs, IsStoreRefusal, Rebases};
 
 use crate::between::bridge;
+use crate::find::{first_other, key_of};
 use crate::keys::{Keys, keys_of};
 use crate::{MirrorLog, RebaseNo};
-use kube_meta::{Resource, Row};
+use kube_meta::{Key, Resource, Row};
 use rev_log::Revision;
 use std::sync::Wait;
 use up_api::{LogFacts, Upstream};
@@ -40,6 +41,25 @@ impl<N: LogFacts, R: Wait + Copy> MirrorLog<N, R> {
         self.commit_all(revisions, base, keys)
     }
 
+    /// The key of the first of these rows, written up to the log's end, that isn't the one that stands there; if there is
+    /// one. It tells more of `RebaseNo::OtherLog`.
+    pub fn different_row(&mut self, rows: &[Row]) -> Result<Option<Key>, RebaseNo>
+        ensures learns { Learns self.old.told self.new.told }
+        ensures rests { Rests self.old self.new }
+        ensures found { IfOk result (Differs self.old rows.now) }
+        ensures refused { IfErr result (λ why. IsStoreRefusal self.old why self.new) }
+    {
+        let to = self.to();
+        let standing = self.rows_at_end()?;
+        match first_other(to, &standing, rows) {
+            Some(row) => {
+                let key = key_of(row)?;
+                Ok(Some(key))
+            }
+            None => Ok(None),
+        }
+    }
+
     // The pods at the log's end.
     fn rows_at_end(&mut self) -> Result<Vec<Row>, RebaseNo>
         ensures learns { Learns self.old.told self.new.told }
@@ -54,21 +74,21 @@ impl<N: LogFacts, R: Wait + Copy> MirrorLog<N, R> {
         Ok(rows)
     }
 
-    // Commits revisions behind the end, up to this one, after which objects with these keys stand, and raises the floor
-    // to it.
+    // Commits revisions behind the end, and those at which nothing changes, up to this one, after which objects with
+    // these keys stand, and raises the floor to it.
     fn commit_all(
         &mut self,
         revisions: Vec<Revision>,
         base: u64,
         keys: Keys,
     ) -> Result<u64, RebaseNo>
-        requires fits { FitFrom Fits (end_of self.old.log) revisions.items }
-        requires long { end_of self.old.log + length revisions.items ≡ base }
+        requires rise { AreAscending (end_of self.old.log) revisions.items base }
         requires last { base ≤ 2 ^ 62 }
         requires pods { All (λ revision. All (λ change. change.resource ≡ Pods) revision.changes) revisions.items }
-        requires keys { (key : List ℕ) → has keys key ≡ is_some (row_at (grown self.old.log revisions.items) Pods (end_of (grown self.old.log revisions.items)) key) }
+        requires keys { let log : Log = grown self.old.log (filled (end_of self.old.log) revisions.items base) in
+            (key : List ℕ) → has keys key ≡ is_some (row_at log Pods (end_of log) key) }
         ensures learns { Learns self.old.told self.new.told }
-        ensures commits { CommitsAll self.old revisions.items result self.new }
+        ensures commits { CommitsAll self.old revisions.items base result self.new }
     {
         let to = self.intake.to();
         // What a pass is, the proof learns where it reads it.

@@ -49,8 +49,6 @@ pub enum RebaseNo {
     Behind { to: u64 },
     /// The rows aren't of the log that this one mirrors.
     OtherLog,
-    /// The revision is too far above the log's end.
-    TooFar,
     /// The store has reached `at`, or was compacted up to there: another door than the mirror's did that.
     Passed { at: u64 },
     /// There was no memory.
@@ -107,7 +105,6 @@ impl From<BridgeNo> for RebaseNo {
     fn from(fault: BridgeNo) -> RebaseNo {
         match fault {
             BridgeNo::OtherLog => RebaseNo::OtherLog,
-            BridgeNo::TooFar => RebaseNo::TooFar,
             BridgeNo::Memory => RebaseNo::Memory,
         }
     }

@@ -1,15 +1,18 @@
-//! The changes of revisions that aren't made yet: a slot for each.
+//! The changes of revisions that aren't made yet, by their numbers.
 
-ghost use Rattle.std.specs.Prelude.{◌≡◌, ◌↔◌, ℕ, ◌+◌, ◌-◌, ◌*◌, ◌<◌, ◌≤◌, ◌^◌, List, [], ◌∷◌, ◌++◌, length, All, IfOk, OnOk, OnErr, IsTrue, Err};
+ghost use Rattle.std.specs.Prelude.{◌≡◌, ◌↔◌, ℕ, ◌+◌, ◌-◌, ◌*◌, ◌<◌, ◌≤◌, ◌^◌, List, [], ◌∷◌, ◌++◌, length, cond, All, None, IfOk, OnOk, IsTrue, Err};
+ghost use Rattle.std.specs.BTreeMap.{IsOrdered};
 ghost use Rattle.std.specs.List.Sorted.{IsPermutation};
+ghost use Rattle.std.specs.Ordering.{is_eq, nat_cmp};
 ghost use Rattle.kube_meta.specs.Rows.{RowData, key_of};
 ghost use Rattle.rev_log.specs.Changes.{ChangeData, AreOfDistinctObjects, IsRevision};
 ghost use Rattle.mirror_log.specs.Bridges.{written_at};
-ghost use Rattle.mirror_log.specs.Slots.{Hold, Adds, Remove, AreMadeOf, puts, put_of, removal_of, slot_at};
+ghost use Rattle.mirror_log.specs.Slots.{Hold, Adds, Remove, AreMadeOf, puts, put_of, removal_of, slot_at, slot_of};
 
 use kube_meta::{Memory, Resource, Row};
 use rev_log::{Change, Revision};
 use std::alloc::Global;
+use std::collections::BTreeMap;
 use std::marker::Model;
 
 /// The most changes of one revision.
@@ -18,7 +21,7 @@ const MAX_CHANGES: usize = 64;
 /// Why a change isn't added.
 #[derive(Clone, Copy, Debug, PartialEq, Eq)]
 pub(crate) enum SlotNo {
-    /// No slot has room for it.
+    /// No revision has room for it.
     Full,
     Memory,
 }
@@ -39,6 +42,9 @@ impl From<Memory> for SlotNo {
 pub(crate) struct Slot {
     changes: Vec<Change>,
 }
+
+/// The changes of several, by their numbers.
+pub(crate) type Slots = BTreeMap<u64, Slot>;
 
 impl Model for Slot {
     ghost use Rattle.std.specs.Prelude.{◌≤◌, List, length};
@@ -89,30 +95,48 @@ impl Slot {
     }
 }
 
-/// Empty slots, as many as this.
-pub(crate) fn empty_slots(alloc: Global, count: u64) -> Result<Vec<Slot>, Memory>
-    ensures { IfOk result (λ slots. (length slots.items ≡ count) × ((from : ℕ) → Hold from slots.items [])) }
+// Whether a revision has room for another change.
+fn has_room(slots: &Slots, rev: u64) -> bool
+    ensures { IsTrue result ↔ (length (slot_at slots.now.entries rev) < 64) }
 {
-    let mut slots = Vec::new(alloc);
-    for _ in 0..count {
-        slots.push(Slot::new(alloc))?;
+    match slots.get(&rev) {
+        Some(slot) => slot.has_room(),
+        None => true,
     }
-    Ok(slots)
 }
 
-// Adds a change to the slot of its revision.
-fn add(slots: &mut Vec<Slot>, from: u64, change: Change) -> Result<(), SlotNo>
-    requires above { from < change.rev }
-    requires within { change.rev ≤ from + length slots.old.items }
-    ensures added { OnOk result (Adds from slots.old.items change slots.new.items) }
-    ensures long { length slots.new.items ≡ length slots.old.items }
-    ensures full { result ≡ Err SlotNo.Full → 64 ≤ length (slot_at slots.old.items (change.rev - from - 1)) }
+// The changes of a revision, taken out.
+fn taken(alloc: Global, slots: &mut Slots, rev: u64) -> Slot
+    ensures slot { result ≡ slot_at slots.old.entries rev }
+    ensures rest { (other : ℕ) → slot_of slots.new.entries other ≡ cond (is_eq (nat_cmp rev other)) None (slot_of slots.old.entries other) }
 {
-    let at = (change.rev - from - 1) as usize;
-    if !slots[at].has_room() {
+    match slots.remove(&rev) {
+        Some(slot) => slot,
+        None => Slot::new(alloc),
+    }
+}
+
+// Puts a change behind those of its revision.
+fn put(alloc: Global, slots: &mut Slots, change: Change) -> Result<(), Memory>
+    requires { length (slot_at slots.old.entries change.rev) < 64 }
+    ensures { OnOk result (Adds slots.old.entries change slots.new.entries) }
+{
+    let rev = change.rev;
+    let mut slot = taken(alloc, slots, rev);
+    slot.add(change)?;
+    slots.insert(rev, slot)?;
+    Ok(())
+}
+
+// Puts a change behind those of its revision, if there is room.
+fn add(alloc: Global, slots: &mut Slots, change: Change) -> Result<(), SlotNo>
+    ensures added { OnOk result (Adds slots.old.entries change slots.new.entries) }
+    ensures full { result ≡ Err SlotNo.Full → 64 ≤ length (slot_at slots.old.entries change.rev) }
+{
+    if !has_room(slots, change.rev) {
         return Err(SlotNo::Full);
     }
-    slots[at].add(change)?;
+    put(alloc, slots, change)?;
     Ok(())
 }
 
@@ -141,17 +165,20 @@ fn removal_of(row: &Row, rev: u64) -> Result<Change, Memory>
 }
 
 /// Puts the rows that are younger than a revision, each at its own.
-pub(crate) fn put_all(slots: &mut Vec<Slot>, from: u64, rows: &[Row]) -> Result<(), SlotNo>
-    requires empty { Hold from slots.old.items [] }
-    requires within { All (λ row. row.rev ≤ from + length slots.old.items) rows.now }
-    ensures put { OnOk result (Hold from slots.new.items (puts from rows.now)) }
-    ensures long { length slots.new.items ≡ length slots.old.items }
+pub(crate) fn put_all(
+    alloc: Global,
+    slots: &mut Slots,
+    from: u64,
+    rows: &[Row],
+) -> Result<(), SlotNo>
+    requires empty { Hold slots.old.entries [] }
+    ensures put { OnOk result (Hold slots.new.entries (puts from rows.now)) }
     ensures full { result ≡ Err SlotNo.Full → (rev : ℕ) × (from < rev) × (64 < length (written_at rev rows.now)) }
 {
     for row in rows {
         if row.rev > from {
             let change = put_of(row)?;
-            match add(slots, from, change) {
+            match add(alloc, slots, change) {
                 Ok(()) => {}
                 Err(why) => return Err(why),
             }
@@ -160,38 +187,45 @@ pub(crate) fn put_all(slots: &mut Vec<Slot>, from: u64, rows: &[Row]) -> Result<
     Ok(())
 }
 
-// The first slot with room, from one on; or behind all.
-fn with_room(slots: &[Slot], from: usize) -> usize
-    requires { from ≤ length slots.now }
+// The first revision with room, from one on and up to another; or the one behind that.
+fn with_room(slots: &Slots, from: u64, to: u64) -> u64
+    requires onward { from ≤ to + 1 }
+    requires last { to ≤ 2 ^ 62 }
     ensures onward { from ≤ result }
-    ensures within { result ≤ length slots.now }
-    ensures room { result < length slots.now → length (slot_at slots.now result) < 64 }
-    ensures full { (i : ℕ) → from ≤ i → i < result → 64 ≤ length (slot_at slots.now i) }
+    ensures within { result ≤ to + 1 }
+    ensures room { result ≤ to → length (slot_at slots.now.entries result) < 64 }
+    ensures full { (rev : ℕ) → from ≤ rev → rev < result → 64 ≤ length (slot_at slots.now.entries rev) }
 {
-    for at in from..slots.len() {
-        if slots[at].has_room() {
-            return at;
+    for rev in from..to + 1 {
+        if has_room(slots, rev) {
+            return rev;
         }
     }
-    slots.len()
+    to + 1
 }
 
-/// Removes rows, each at the first revision with room.
-pub(crate) fn remove_all(slots: &mut Vec<Slot>, from: u64, rows: &[Row]) -> Result<(), SlotNo>
-    requires { from + length slots.old.items ≤ 2 ^ 62 }
-    ensures removed { OnOk result ((changes : List ChangeData) → Hold from slots.old.items changes → Remove from changes rows.now slots.new.items) }
-    ensures long { length slots.new.items ≡ length slots.old.items }
-    ensures full { result ≡ Err SlotNo.Full → (changes : List ChangeData) → Hold from slots.old.items changes →
-        64 * length slots.old.items < length changes + length rows.now }
+/// Removes rows behind a revision and up to another one, each at the first that has room.
+pub(crate) fn remove_all(
+    alloc: Global,
+    slots: &mut Slots,
+    from: u64,
+    to: u64,
+    rows: &[Row],
+) -> Result<(), SlotNo>
+    requires onward { from ≤ to }
+    requires last { to ≤ 2 ^ 62 }
+    ensures removed { OnOk result ((changes : List ChangeData) → Hold slots.old.entries changes → Remove from to changes rows.now slots.new.entries) }
+    ensures full { result ≡ Err SlotNo.Full → (changes : List ChangeData) → Hold slots.old.entries changes →
+        64 * (to - from) < length changes + length rows.now }
 {
-    let mut at = 0;
+    let mut at = from + 1;
     for row in rows {
-        at = with_room(slots, at);
-        if at == slots.len() {
+        at = with_room(slots, at, to);
+        if at > to {
             return Err(SlotNo::Full);
         }
-        let change = removal_of(row, from + 1 + at as u64)?;
-        match add(slots, from, change) {
+        let change = removal_of(row, at)?;
+        match add(alloc, slots, change) {
             Ok(()) => {}
             Err(why) => return Err(why),
         }
@@ -199,20 +233,14 @@ pub(crate) fn remove_all(slots: &mut Vec<Slot>, from: u64, rows: &[Row]) -> Resu
     Ok(())
 }
 
-/// The revisions of the slots.
-pub(crate) fn revisions_of(
-    alloc: Global,
-    from: u64,
-    slots: Vec<Slot>,
-) -> Result<Vec<Revision>, Memory>
-    requires within { from + length slots.items ≤ 2 ^ 62 }
-    requires given { (changes : List ChangeData) × Hold from slots.items changes × AreOfDistinctObjects changes }
-    ensures { IfOk result (λ revisions. AreMadeOf from slots.items revisions.items) }
+/// The revisions of the slots, in the order of their numbers.
+pub(crate) fn revisions_of(alloc: Global, slots: Slots) -> Result<Vec<Revision>, Memory>
+    requires { (changes : List ChangeData) × Hold slots.entries changes × AreOfDistinctObjects changes }
+    ensures made { IfOk result (λ revisions. AreMadeOf slots.entries revisions.items) }
+    ensures ordered { IfOk result (λ revisions. IsOrdered nat_cmp slots) }
 {
     let mut revisions = Vec::new(alloc);
-    let mut rev = from;
-    for slot in slots {
-        rev += 1;
+    for (rev, slot) in slots {
         revisions.push(slot.revision(rev))?;
     }
     Ok(revisions)

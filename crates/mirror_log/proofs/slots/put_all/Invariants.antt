@@ -1,10 +1,7 @@
-use Rattle.std.proofs.Common.{◌≡◌, length, take}
+use Rattle.std.proofs.Common.{take}
 use Rattle.mirror_log.specs.Slots.{Hold, puts}
 use Rattle.mirror_log.proofs.slots.put_all.Given as goal
 
 -- the rows so far are put
 abbrev pub invariant-loop-row : goal.invariant-loop-row
-invariant-loop-row l = record {
-  long : length l.slots.items ≡ length l.fn.slots.items;
-  hold : Hold l.from l.slots.items (puts l.from (take l.row-index l.rows));
-}
+invariant-loop-row l = Hold l.slots.entries (puts l.from (take l.row-index l.rows))

@@ -1,13 +1,13 @@
-use Rattle.std.proofs.Common.{◌≡◌, ℕ, ◌<◌, ◌≤◌, List, length, take}
+use Rattle.std.proofs.Common.{ℕ, ◌+◌, ◌<◌, ◌≤◌, List, length, take}
 use Rattle.rev_log.specs.Changes.{ChangeData}
 use Rattle.mirror_log.specs.Slots.{Hold, Remove, slot_at}
 use Rattle.mirror_log.proofs.slots.remove_all.Given as goal
 
--- the rows so far are removed, and the slots before the last that was used are full
+-- the rows so far are removed, and the revisions before the last that was used have no room
 abbrev pub invariant-loop-row : goal.invariant-loop-row
 invariant-loop-row l = record {
-  long : length l.slots.items ≡ length l.fn.slots.items;
-  inside : l.at ≤ length l.slots.items;
-  full : (i : ℕ) → i < l.at → 64 ≤ length (slot_at l.slots.items i);
-  removed : (changes : List ChangeData) → Hold l.from l.fn.slots.items changes → Remove l.from changes (take l.row-index l.rows) l.slots.items;
+  after : l.from < l.at;
+  inside : l.at ≤ l.to + 1;
+  full : (rev : ℕ) → l.from < rev → rev < l.at → 64 ≤ length (slot_at l.slots.entries rev);
+  removed : (changes : List ChangeData) → Hold l.fn.slots.entries changes → Remove l.from l.to changes (take l.row-index l.rows) l.slots.entries;
 }

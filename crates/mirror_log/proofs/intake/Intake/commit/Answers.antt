@@ -13,8 +13,8 @@ pub returns-clause-at : goal.returns-clause-at
 returns-clause-at c = λ log revision at told.
     let to : ℕ = c.args.self.now.to in
     let n : ℕ = c.args.upto - (to + 1) in
-    let next : IntakeData = record { selection = c.self.inside.selection; to = to + 1; keys = c.take_out.new.keys; kept = c.clear.new.self.items } in
-    let new : IntakeData = record { selection = c.self.inside.selection; to = c.args.upto; keys = c.take_out.new.keys; kept = c.clear.new.self.items } in
+    let next : IntakeData = record { selection = c.self.inside.selection; most_gap = c.self.inside.most_gap; to = to + 1; keys = c.take_out.new.keys; kept = c.clear.new.self.items } in
+    let new : IntakeData = record { selection = c.self.inside.selection; most_gap = c.self.inside.most_gap; to = c.args.upto; keys = c.take_out.new.keys; kept = c.clear.new.self.items } in
     let first : IsAtEnd next (grown log (revision ∷ [])) =
     commits c.args.self.now (subst IsIntake c.self.view_is c.self.invariant) log at next revision told refl c.clear.ensures.items
     (λ key.

@@ -8,7 +8,7 @@ use Rattle.mirror_log.proofs.intake.Intake.forget.Goals as goal
 
 pub returns-clause-at : goal.returns-clause-at
 returns-clause-at c = λ log at.
-    let new : IntakeData = record { selection = c.self.inside.selection; to = c.self.inside.to; keys = c.take_out.new.keys; kept = c.clear.new.self.items } in
+    let new : IntakeData = record { selection = c.self.inside.selection; most_gap = c.self.inside.most_gap; to = c.self.inside.to; keys = c.take_out.new.keys; kept = c.clear.new.self.items } in
     forgets c.args.self.now (subst IsIntake c.self.view_is c.self.invariant) log at new (ap (λ (i : IntakeData). i.to) c.self.view_is) c.clear.ensures.items
     (λ key.
     c.take_out.ensures key

@@ -11,8 +11,8 @@ use Rattle.mirror_log.proofs.intake.Intake.keep.Goals as goal
 pub invariant_of-self-in-Ok : goal.invariant_of-self-in-Ok
 invariant_of-self-in-Ok c =
     let t : TransitionData = record { kind = c.args.kind; obj = c.args.obj; rev = c.args.rev } in
-    let new : IntakeData = record { selection = c.self.inside.selection; to = c.self.inside.to; keys = c.know.new.keys; kept = c.push.new.self.items } in
-    one_more c.args.self.now new t (subst IsIntake c.self.view_is c.self.invariant) c.requires.next c.requires.few c.requires.new_key (ap (λ (i : IntakeData). i.to) c.self.view_is)
+    let new : IntakeData = record { selection = c.self.inside.selection; most_gap = c.self.inside.most_gap; to = c.self.inside.to; keys = c.know.new.keys; kept = c.push.new.self.items } in
+    one_more c.args.self.now new t (subst IsIntake c.self.view_is c.self.invariant) c.requires.next c.requires.few c.requires.new_key (ap (λ (i : IntakeData). i.most_gap) c.self.view_is) (ap (λ (i : IntakeData). i.to) c.self.view_is)
     (c.in_ok-push.ensures.items
     ∙ ap (λ (o : Obj). c.self.inside.kept.items ++ (let u : TransitionData = record { kind = c.args.kind; obj = o; rev = c.args.rev } in u) ∷ []) c.in_ok-obj.ensures.ok
     ∙ ap (λ (i : IntakeData). i.kept ++ t ∷ []) c.self.view_is)
@@ -20,8 +20,8 @@ invariant_of-self-in-Ok c =
 pub invariant_of-self-in-Err : goal.invariant_of-self-in-Err
 invariant_of-self-in-Err c =
     let x : TransitionData = record { kind = c.args.kind; obj = c.in_ok-obj.obj.value; rev = c.args.rev } in
-    as_before (record { selection = c.self.inside.selection; to = c.self.inside.to; keys = c.self.inside.keys; kept = c.self.inside.kept.items })
-    (record { selection = c.self.inside.selection; to = c.self.inside.to; keys = c.know.new.keys; kept = c.pop.new.self.items }) c.self.invariant refl
+    as_before (record { selection = c.self.inside.selection; most_gap = c.self.inside.most_gap; to = c.self.inside.to; keys = c.self.inside.keys; kept = c.self.inside.kept.items })
+    (record { selection = c.self.inside.selection; most_gap = c.self.inside.most_gap; to = c.self.inside.to; keys = c.know.new.keys; kept = c.pop.new.self.items }) c.self.invariant refl refl
     (c.pop.ensures.rest
     ∙ ap (take (vec_len c.push.new.self - 1)) c.in_ok-push.ensures.items
     ∙ take_at c.self.inside.kept.items (x ∷ []) (vec_len c.push.new.self - 1) (omega (arith, c.in_ok-push.ensures.len, c.self.inside.kept.ok.0)))
@@ -29,7 +29,7 @@ invariant_of-self-in-Err c =
 pub returns-in-Ok-clause-at : goal.returns-in-Ok-clause-at
 returns-in-Ok-clause-at c = λ log at fits.
     let t : TransitionData = record { kind = c.args.kind; obj = c.args.obj; rev = c.args.rev } in
-    let new : IntakeData = record { selection = c.self.inside.selection; to = c.self.inside.to; keys = c.know.new.keys; kept = c.push.new.self.items } in
+    let new : IntakeData = record { selection = c.self.inside.selection; most_gap = c.self.inside.most_gap; to = c.self.inside.to; keys = c.know.new.keys; kept = c.push.new.self.items } in
     keeps c.args.self.now (subst IsIntake c.self.view_is c.self.invariant) log at new t (ap (λ (i : IntakeData). i.to) c.self.view_is)
     (c.in_ok-push.ensures.items
     ∙ ap (λ (o : Obj). c.self.inside.kept.items ++ (let u : TransitionData = record { kind = c.args.kind; obj = o; rev = c.args.rev } in u) ∷ []) c.in_ok-obj.ensures.ok

@@ -1,15 +1,15 @@
 use Rattle.std.proofs.Common.{ℕ, List, sym, subst}
 use Rattle.kube_meta.specs.Rows.{RowData}
-use Rattle.rev_front.specs.Passes.{FitFrom}
-use Rattle.rev_log.specs.Logs.{Log, Fits, end_of}
+use Rattle.rev_log.specs.Logs.{Log, end_of}
+use Rattle.up_store.specs.Hearing.{AreAscending}
 use Rattle.mirror_log.specs.Bridges.{Bridges}
 use Rattle.mirror_log.proofs.RebaseLemmas.{keys_stand, rebases}
 use Rattle.mirror_log.proofs.log.MirrorLog.rebase.Goals as goal
 
-pub commit_all-requires-clause-fits : goal.commit_all-requires-clause-fits
-commit_all-requires-clause-fits g c =
-    let fits = subst (λ (n : ℕ). FitFrom Fits n c.in_ok-revisions.revisions.items) c.to-to.ensures.answer c.in_ok-revisions.ensures.bridges.fits in
-    subst (λ (l : Log). FitFrom Fits (end_of l) c.in_ok-revisions.revisions.items) (sym c.in_ok-old.ensures.rests.log) fits
+pub commit_all-requires-clause-rise : goal.commit_all-requires-clause-rise
+commit_all-requires-clause-rise g c =
+    let rise = subst (λ (n : ℕ). AreAscending n c.in_ok-revisions.revisions.items c.args.base) c.to-to.ensures.answer c.in_ok-revisions.ensures.bridges.rise in
+    subst (λ (l : Log). AreAscending (end_of l) c.in_ok-revisions.revisions.items c.args.base) (sym c.in_ok-old.ensures.rests.log) rise
 
 pub commit_all-requires-clause-keys : goal.commit_all-requires-clause-keys
 commit_all-requires-clause-keys g c =
