@@ -32,7 +32,7 @@ goes_unbound old new bytes none goes = spent_none old.room new.room (length goes
 
 abbrev pub view : List ℕ → List ℕ → MirrorLogData → ReaderData → Option (Result Heard LinkNo) → MirrorData
 view label field log reading answer =
-    record { selection = log.selection; label = label; field = field; told = log.told; log = log.log; kept = log.kept; reading = reading; answer = answer }
+    record { selection = log.selection; most_gap = log.most_gap; label = label; field = field; told = log.told; log = log.log; kept = log.kept; reading = reading; answer = answer }
 
 module _ (label field : List ℕ) (log : MirrorLogData) (reading : ReaderData) (answer : Option (Result Heard LinkNo)) (old : MirrorData)
     (is : view label field log reading answer ≡ old) (mirror : IsMirror (view label field log reading answer)) where
@@ -67,7 +67,7 @@ module _ (label field : List ℕ) (log : MirrorLogData) (reading : ReaderData) (
     line_moved =
         let on = stays log after text result heard in
         subst (λ (m : MirrorData). IsMoved m (view label field after later answer)) is
-        (record { selection = on.selection; label = refl; field = refl; answer = refl; more = on.more; log = on.log })
+        (record { selection = on.selection; most_gap = on.most_gap; label = refl; field = refl; answer = refl; more = on.more; log = on.log })
 
     pub hears_line : (left : Option (List ℕ)) → Hears old taken left result (view label field after later answer)
     hears_line left =

@@ -111,17 +111,17 @@ module _ (log : Log) (ask : WatchAsk) (log_floor low b from : ℕ) (lines : List
   found_as line (Some found) h can read = ap Some (line_as line found h can read)
 
   -- what is wrong with it is a gap
-  pub lawful_fault : (line : Line) (found : Option PeerLine) → On line → ReadsPeerLine Pods text found → (p : Pass RevisionData) → IsLawfulFault line (line_fault (record { selection = s; told = p; log = m; kept = kept }) found)
-  lawful_fault (Told t) found h reads p =
-      let at : MirrorLogData = record { selection = s; told = p; log = m; kept = kept } in
-      let fits : IsAtMostGap (line_fault at (Some (as_read (Told t)))) = at_most (event_fault s m kept t) (taken_events_fit s m kept t h.pods (taken (Told t) h)) in
+  pub lawful_fault : (line : Line) (found : Option PeerLine) → On line → ReadsPeerLine Pods text found → (g : ℕ) (p : Pass RevisionData) → IsLawfulFault line (line_fault (record { selection = s; most_gap = g; told = p; log = m; kept = kept }) found)
+  lawful_fault (Told t) found h reads g p =
+      let at : MirrorLogData = record { selection = s; most_gap = g; told = p; log = m; kept = kept } in
+      let fits : IsAtMostGap (line_fault at (Some (as_read (Told t)))) = at_most (event_fault s g m kept t) (taken_events_fit s g m kept t h.pods (taken (Told t) h)) in
       subst (λ (f : Option PeerLine). IsAtMostGap (line_fault at f)) (sym (found_as (Told t) found h (event_told t h) reads)) fits
-  lawful_fault (Bookmark to) found h reads p =
-      let at : MirrorLogData = record { selection = s; told = p; log = m; kept = kept } in
-      let fits : IsAtMostGap (line_fault at (Some (as_read (Bookmark to)))) = at_most (mark_fault (end_of m) kept to false) (taken_marks_fit m kept to (taken (Bookmark to) h)) in
+  lawful_fault (Bookmark to) found h reads g p =
+      let at : MirrorLogData = record { selection = s; most_gap = g; told = p; log = m; kept = kept } in
+      let fits : IsAtMostGap (line_fault at (Some (as_read (Bookmark to)))) = at_most (mark_fault g (end_of m) kept to false) (taken_marks_fit g m kept to (taken (Bookmark to) h)) in
       subst (λ (f : Option PeerLine). IsAtMostGap (line_fault at f)) (sym (found_as (Bookmark to) found h (mark_told to h) reads)) fits
-  lawful_fault (Closing to) found h reads p = absurd (taken (Closing to) h)
-  lawful_fault (Lost to floor) found h reads p = tt
+  lawful_fault (Closing to) found h reads g p = absurd (taken (Closing to) h)
+  lawful_fault (Lost to floor) found h reads g p = tt
 
   lost_no_event : (at floor : ℕ) (kind : Kind) (obj : Obj) (rev : ℕ) → On (Lost at floor) → IsPeerLine Pods text (peer.Told kind obj rev) → ⊥
   lost_no_event at floor kind obj rev h read = told_type kind (same-type (type_of kind) types.Error (object_json obj rev) (expired_text at floor) (sym read.2 ∙ h.is))

@@ -52,8 +52,8 @@ of_fault (Some fault) why is = subst IsOfLine (some_of (taking_refusal fault) wh
 
 pub of_line : (m : MirrorLogData) (found : Option PeerLine) (why : LinkNo) → line_fault m found ≡ Some why → IsOfLine why
 of_line m None why is = subst IsOfLine (some_of no.BadLine why is) tt
-of_line m (Some (peer.Told kind obj rev)) why is = of_fault (event_fault m.selection m.log m.kept (record { kind = kind; obj = obj; rev = rev })) why is
-of_line m (Some (peer.Bookmark at closing)) why is = of_fault (mark_fault (end_of m.log) m.kept at closing) why is
+of_line m (Some (peer.Told kind obj rev)) why is = of_fault (event_fault m.selection m.most_gap m.log m.kept (record { kind = kind; obj = obj; rev = rev })) why is
+of_line m (Some (peer.Bookmark at closing)) why is = of_fault (mark_fault m.most_gap (end_of m.log) m.kept at closing) why is
 of_line m (Some (peer.Error code)) why is = subst IsOfLine (some_of (no.Told code) why is) tt
 
 -- ---- following over a line

@@ -57,30 +57,32 @@ heard_as old new line read fault (Err mirror.Memory) is as_line (none, takes) =
     record { line = line; is = as_line none; no_fault = is ∙ ap (option_map taking_refusal) none; takes = takes }
 
 -- a bookmark with which nothing is wrong closes nothing
-pub open_mark : (to : ℕ) (kept : List TransitionData) (at : ℕ) (closing : Bool) → mark_fault to kept at closing ≡ None → Some (peer.Bookmark at closing) ≡ Some (as_read (Bookmark at))
-open_mark to kept at true none = absurd (cc)
-open_mark to kept at false none = refl
+pub open_mark : (most_gap to : ℕ) (kept : List TransitionData) (at : ℕ) (closing : Bool) → mark_fault most_gap to kept at closing ≡ None → Some (peer.Bookmark at closing) ≡ Some (as_read (Bookmark at))
+open_mark most_gap to kept at true none = absurd (cc)
+open_mark most_gap to kept at false none = refl
 
 -- ---- what it leaves
 
 -- the selection, and a log that grew
 pub record Stays (old new : MirrorLogData) : Type 0 where
   pub selection : new.selection ≡ old.selection
+  pub most_gap : new.most_gap ≡ old.most_gap
   pub more : List RevisionData
   pub log : new.log ≡ grown old.log more
 
 unmoved : (old new : MirrorLogData) → new ≡ old → Stays old new
 unmoved old new same = record {
   selection = ap (λ (m : MirrorLogData). m.selection) same;
+  most_gap = ap (λ (m : MirrorLogData). m.most_gap) same;
   more = [];
   log = ap (λ (m : MirrorLogData). m.log) same ∙ ap (λ (revisions : List RevisionData). let log : Log = record old.log { revisions = revisions } in log) (sym (append-nil old.log.revisions));
 }
 
 whole : (old new : MirrorLogData) (read : Option PeerLine) → TakesRead old read new → Stays old new
-whole old new read takes = record { selection = takes.takes.selection; more = takes.takes.grows.more; log = takes.takes.grows.log_is }
+whole old new read takes = record { selection = takes.takes.selection; most_gap = takes.takes.most_gap; more = takes.takes.grows.more; log = takes.takes.grows.log_is }
 
 partly : (old new : MirrorLogData) (read : Option PeerLine) → TakesSomeRead old read new → Stays old new
-partly old new read takes = record { selection = takes.takes.selection; more = takes.takes.grows.more; log = takes.takes.grows.log_is }
+partly old new read takes = record { selection = takes.takes.selection; most_gap = takes.takes.most_gap; more = takes.takes.grows.more; log = takes.takes.grows.log_is }
 
 stays_read : (old new : MirrorLogData) (read : Option PeerLine) (why : LinkNo) → HearsRead old read (Err why) new → Stays old new
 stays_read old new read (no.Passed to at) hears = partly old new read hears.0

@@ -33,11 +33,11 @@ pub asked_whole : (old : MirrorData) (opening : OpeningData) (result : Result (U
     → TakesOpening old opening result new → IsSentOn text sent → IsAsked result text sent
 asked_whole old opening (Ok u) new text sent takes is = is
 asked_whole old opening (Err why) new text sent takes is =
-    asked (Unit {0}) why text sent (λ fault. not_written (end_of old.log) opening.base takes.1.0 (sym takes.1.1 ∙ fault)) is
+    asked (Unit {0}) why text sent (λ fault. not_written (end_of old.log) takes.1.0 (sym takes.1.1 ∙ fault)) is
   where
-    not_written : (to base : ℕ) (fault : RebaseNo) → ¬ (rebasing_refusal to base fault ≡ WriteFault)
-    not_written to base (rebase.Behind end) is = cc
-    not_written to base fault is = cc
+    not_written : (to : ℕ) (fault : RebaseNo) → ¬ (rebasing_refusal to fault ≡ WriteFault)
+    not_written to (rebase.Behind end) is = cc
+    not_written to fault is = cc
 
 -- a log that doesn't begin anew rests
 pub rebase_rests : (old : MirrorLogData) (rows : List RowData) (base : ℕ) (why : RebaseNo) (new : MirrorLogData) → Rebases old rows base (Err why) new → Rests old new
@@ -49,6 +49,7 @@ pub stays_mirror : (label field : List ℕ) (log : MirrorLogData) (reading : Rea
     → IsMirror (view label field log reading answer) → Rests log after → IsMirror (view label field after reading given)
 stays_mirror label field log reading answer given after mirror rests = record {
   pods = ap (λ (s : Selection). s.resource) rests.selection ∙ mirror.pods;
+  gap = rests.most_gap ∙ mirror.gap;
   read = subst (λ (s : Selection). IsRead Pods s.ns label field s) (sym rests.selection) mirror.read;
   namespace = subst (λ (s : Selection). IfSome s.ns IsNamespace) (sym rests.selection) mirror.namespace;
   some = subst (λ (l : Log). 1 ≤ l.first) (sym rests.log) mirror.some;
@@ -92,14 +93,13 @@ module _ (label field : List ℕ) (log : MirrorLogData) (reading : ReaderData) (
 
   -- a log that isn't taken to the opening is as before, and why is told
   pub not_taken : (opening : OpeningData) (rows : List RowData) (base to : ℕ) (why : RebaseNo) (after : MirrorLogData) (told : LinkNo)
-      → rows ≡ opening.rows → base ≡ opening.base → to ≡ end_of log.log → told ≡ rebasing_refusal to base why → Rebases log rows base (Err why) after
+      → rows ≡ opening.rows → base ≡ opening.base → to ≡ end_of log.log → told ≡ rebasing_refusal to why → Rebases log rows base (Err why) after
       → IsAsBefore old (view label field after reading (Some (Err told))) × IsNotTaken old opening told (view label field after reading (Some (Err told)))
   not_taken opening rows base to why after told rows_are base_is to_is told_is rebased =
       let rests : Rests log after = rebase_rests log rows base why after rebased in
       let fits : Rebases log opening.rows opening.base (Err why) after =
       subst (λ (l : List RowData). Rebases log l opening.base (Err why) after) rows_are (subst (λ (n : ℕ). Rebases log rows n (Err why) after) base_is rebased) in
-      let said : told ≡ rebasing_refusal (end_of log.log) opening.base why =
-      subst (λ (n : ℕ). told ≡ rebasing_refusal (end_of log.log) n why) base_is (subst (λ (n : ℕ). told ≡ rebasing_refusal n base why) to_is told_is) in
+      let said : told ≡ rebasing_refusal (end_of log.log) why = subst (λ (n : ℕ). told ≡ rebasing_refusal n why) to_is told_is in
       let before : IsAsBefore (view label field log reading answer) (view label field after reading (Some (Err told))) =
       record { same = record { selection = rests.selection; label = refl; field = refl }; log = rests.log; kept = rests.kept; reading = refl } in
       subst (λ (m : MirrorData). IsAsBefore m (view label field after reading (Some (Err told))) × IsNotTaken m opening told (view label field after reading (Some (Err told)))) is

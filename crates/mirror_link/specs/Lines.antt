@@ -25,8 +25,8 @@ IsBounded (peer.Error code) = Unit {0}
 abbrev pub line_fault : MirrorLogData → Option PeerLine → Option LinkNo
 line_fault m None = Some no.BadLine
 line_fault m (Some (peer.Told kind obj rev)) =
-    option_map taking_refusal (event_fault m.selection m.log m.kept (record { kind = kind; obj = obj; rev = rev }))
-line_fault m (Some (peer.Bookmark at closing)) = option_map taking_refusal (mark_fault (end_of m.log) m.kept at closing)
+    option_map taking_refusal (event_fault m.selection m.most_gap m.log m.kept (record { kind = kind; obj = obj; rev = rev }))
+line_fault m (Some (peer.Bookmark at closing)) = option_map taking_refusal (mark_fault m.most_gap (end_of m.log) m.kept at closing)
 line_fault m (Some (peer.Error code)) = Some (no.Told code)
 
 -- it was taken whole, or in part, and is this line of a body

@@ -23,13 +23,12 @@ hearing_refusal to (mirror.Refused why) = taking_refusal why
 hearing_refusal to (mirror.Passed at) = Passed to at
 hearing_refusal to mirror.Memory = Memory
 
--- why a mirror's log, which ends at `to`, isn't taken to an opening at `base`
-abbrev pub rebasing_refusal : ℕ → ℕ → RebaseNo → LinkNo
-rebasing_refusal to base (rebase.Behind end) = OtherLog
-rebasing_refusal to base rebase.OtherLog = OtherLog
-rebasing_refusal to base rebase.TooFar = Gap to base
-rebasing_refusal to base (rebase.Passed at) = Passed to at
-rebasing_refusal to base rebase.Memory = Memory
+-- why a mirror's log, which ends at this revision, isn't taken to an opening
+abbrev pub rebasing_refusal : ℕ → RebaseNo → LinkNo
+rebasing_refusal to (rebase.Behind end) = OtherLog
+rebasing_refusal to rebase.OtherLog = OtherLog
+rebasing_refusal to (rebase.Passed at) = Passed to at
+rebasing_refusal to rebase.Memory = Memory
 
 -- the answer that is given again: each but that a line was heard
 abbrev pub kept_answer : Result Heard LinkNo → Option (Result Heard LinkNo)

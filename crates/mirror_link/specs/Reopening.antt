@@ -52,7 +52,7 @@ pub record IsAsBefore (old new : MirrorData) : Type 0 where
 -- its log isn't taken to an opening, for this reason
 abbrev pub IsNotTaken : MirrorData → OpeningData → LinkNo → MirrorData → Type 0
 IsNotTaken old opening why new =
-    (fault : RebaseNo) × (why ≡ rebasing_refusal (end_of old.log) opening.base fault)
+    (fault : RebaseNo) × (why ≡ rebasing_refusal (end_of old.log) fault)
     × Rebases (log_part old) opening.rows opening.base (Err fault) (log_part new)
 
 -- what a mirror makes of an opening of its selection

@@ -39,6 +39,9 @@ use up_api::LogFacts;
 use up_store::StoreDoor;
 use watch_lines::lines_read_back;
 
+/// The most revisions without a line before one.
+const MOST_GAP: u64 = 1_000_000;
+
 /// A mirror of a peer's pods: a store of its own, whose log is what the peer's watch tells.
 #[derive(Drop)]
 pub struct Mirror<N: LogFacts, R: Wait + Copy> {
@@ -57,6 +60,7 @@ impl<N: LogFacts, R: Wait + Copy> Model for Mirror<N, R> {
 
     ghost view = { λ m. record {
       selection = m.log.selection;
+      most_gap = m.log.most_gap;
       label = m.label;
       field = m.field;
       told = m.log.told;
@@ -68,6 +72,7 @@ impl<N: LogFacts, R: Wait + Copy> Model for Mirror<N, R> {
 
     ghost invariant = { λ m. IsMirror (record {
       selection = m.log.selection;
+      most_gap = m.log.most_gap;
       label = m.label;
       field = m.field;
       told = m.log.told;
@@ -106,7 +111,7 @@ impl<N: LogFacts, R: Wait + Copy> Mirror<N, R> {
             rows,
             reader,
         } = opening.into_parts();
-        let log = MirrorLog::new(rt, alloc, selection, rows, base, blank, history)?;
+        let log = MirrorLog::new(rt, alloc, selection, rows, base, blank, history, MOST_GAP)?;
         Ok(Mirror {
             alloc,
             label,
@@ -266,7 +271,7 @@ impl<N: LogFacts, R: Wait + Copy> Mirror<N, R> {
                 Ok(())
             }
             Err(why) => {
-                let why = rebasing_refusal(to, base, why);
+                let why = rebasing_refusal(to, why);
                 self.answer = Some(Err(why));
                 Err(why)
             }

@@ -29,16 +29,12 @@ pub(crate) fn hearing_refusal(to: u64, why: MirrorNo) -> LinkNo
     }
 }
 
-/// Why a mirror's log, which ends at `to`, isn't taken to an opening at `base`.
-pub(crate) fn rebasing_refusal(to: u64, base: u64, why: RebaseNo) -> LinkNo
-    ensures { result ≡ refusals.rebasing_refusal to base why }
+/// Why a mirror's log, which ends at `to`, isn't taken to an opening.
+pub(crate) fn rebasing_refusal(to: u64, why: RebaseNo) -> LinkNo
+    ensures { result ≡ refusals.rebasing_refusal to why }
 {
     match why {
         RebaseNo::Behind { .. } | RebaseNo::OtherLog => LinkNo::OtherLog,
-        RebaseNo::TooFar => LinkNo::Gap {
-            last: to,
-            got: base,
-        },
         RebaseNo::Passed { at } => LinkNo::Passed { to, at },
         RebaseNo::Memory => LinkNo::Memory,
     }

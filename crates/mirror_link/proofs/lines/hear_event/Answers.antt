@@ -13,7 +13,7 @@ pub returns-in-Ok-clause-hears : goal.returns-in-Ok-clause-hears
 returns-in-Ok-clause-hears g c =
     let t : TransitionData = record { kind = c.args.kind; obj = c.args.obj; rev = c.args.rev } in
     let old = c.args.log.now in
-    heard_as old c.hear_event.new.self (Told t) (Some (peer.Told c.args.kind c.args.obj c.args.rev)) (event_fault old.selection old.log old.kept t) (Ok c.in-Ok.to) refl (λ none. refl) c.in-Ok.ensures.hears
+    heard_as old c.hear_event.new.self (Told t) (Some (peer.Told c.args.kind c.args.obj c.args.rev)) (event_fault old.selection old.most_gap old.log old.kept t) (Ok c.in-Ok.to) refl (λ none. refl) c.in-Ok.ensures.hears
 
 pub returns-in-Err-clause-hears : goal.returns-in-Err-clause-hears
 returns-in-Err-clause-hears g c =
@@ -21,4 +21,4 @@ returns-in-Err-clause-hears g c =
     let old = c.args.log.now in
     let new = c.hear_event.new.self in
     subst (λ (why : LinkNo). HearsRead old (Some (peer.Told c.args.kind c.args.obj c.args.rev)) (Err why) new) (as_view c.hearing_refusal.result c.in-Err.why c.to.result (end_of c.hear_event.new.self.log) c.hearing_refusal.ensures c.to.ensures.answer)
-    (heard_as old new (Told t) (Some (peer.Told c.args.kind c.args.obj c.args.rev)) (event_fault old.selection old.log old.kept t) (Err c.in-Err.why) refl (λ none. refl) c.in-Err.ensures.hears)
+    (heard_as old new (Told t) (Some (peer.Told c.args.kind c.args.obj c.args.rev)) (event_fault old.selection old.most_gap old.log old.kept t) (Err c.in-Err.why) refl (λ none. refl) c.in-Err.ensures.hears)

@@ -11,13 +11,13 @@ use Rattle.mirror_link.proofs.lines.hear_mark.Goals as goal
 pub returns-in-Ok-clause-hears : goal.returns-in-Ok-clause-hears
 returns-in-Ok-clause-hears g c =
     let old = c.args.log.now in
-    heard_as old c.hear_mark.new.self (Bookmark c.args.at) (Some (peer.Bookmark c.args.at c.args.closing)) (mark_fault (end_of old.log) old.kept c.args.at c.args.closing) (Ok c.in-Ok.to) refl
-    (open_mark (end_of old.log) old.kept c.args.at c.args.closing) c.in-Ok.ensures.hears
+    heard_as old c.hear_mark.new.self (Bookmark c.args.at) (Some (peer.Bookmark c.args.at c.args.closing)) (mark_fault old.most_gap (end_of old.log) old.kept c.args.at c.args.closing) (Ok c.in-Ok.to) refl
+    (open_mark old.most_gap (end_of old.log) old.kept c.args.at c.args.closing) c.in-Ok.ensures.hears
 
 pub returns-in-Err-clause-hears : goal.returns-in-Err-clause-hears
 returns-in-Err-clause-hears g c =
     let old = c.args.log.now in
     let new = c.hear_mark.new.self in
     subst (λ (why : LinkNo). HearsRead old (Some (peer.Bookmark c.args.at c.args.closing)) (Err why) new) (as_view c.hearing_refusal.result c.in-Err.why c.to.result (end_of c.hear_mark.new.self.log) c.hearing_refusal.ensures c.to.ensures.answer)
-    (heard_as old new (Bookmark c.args.at) (Some (peer.Bookmark c.args.at c.args.closing)) (mark_fault (end_of old.log) old.kept c.args.at c.args.closing) (Err c.in-Err.why) refl
-    (open_mark (end_of old.log) old.kept c.args.at c.args.closing) c.in-Err.ensures.hears)
+    (heard_as old new (Bookmark c.args.at) (Some (peer.Bookmark c.args.at c.args.closing)) (mark_fault old.most_gap (end_of old.log) old.kept c.args.at c.args.closing) (Err c.in-Err.why) refl
+    (open_mark old.most_gap (end_of old.log) old.kept c.args.at c.args.closing) c.in-Err.ensures.hears)

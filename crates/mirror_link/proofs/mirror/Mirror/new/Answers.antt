@@ -8,4 +8,4 @@ returns-clause-follows g c =
     let parts = c.into_parts-selection in
     let log = c.in_ok-log.ensures in
     begun_follows c.args.opening c.in_ok-log.log.selection c.in_ok-log.log.log c.in_ok-log.log.kept parts.ensures.lawful (log.0 ∙ parts.ensures.whose.0)
-    (opened_is c.in_ok-log.log.log c.base-base.result c.args.opening.base parts.result.rows.items c.args.opening.rows log.1 c.base-base.ensures.answer parts.ensures.rows) log.2
+    (opened_is c.in_ok-log.log.log c.base-base.result c.args.opening.base parts.result.rows.items c.args.opening.rows log.2 c.base-base.ensures.answer parts.ensures.rows) log.3
