@@ -6,7 +6,9 @@ use Rattle.httparse.specs.declared.spans.HeaderSpan.{HeaderSpan}
 use Rattle.httparse.specs.declared.spans.ResponseSpans.{ResponseSpans}
 use Rattle.http_read.specs.Heads.{most_fields}
 use Rattle.http_read.specs.Requests.{front}
-use Rattle.line_stream.specs.Heads.{IsOpenHead, IsNoHead, IsUnchunked, HasCode, BeginsChunks, RefusesResponse}
+use Rattle.line_stream.specs.Heads.{IsOpenHead, IsNoHead, IsUnchunked, HasCode, BeginsChunks, RefusesHead, RefusesResponse}
+use Rattle.line_stream.specs.Framings.{IsUnframed, BeginsFramed, RefusesFramed}
+use Rattle.line_stream.specs.declared.framing.Framing.{Framing}
 use Rattle.line_stream.specs.declared.refusal.LineNo.{LineNo}
 use Rattle.line_stream.specs.declared.refusal.LineNo.TheVariants.{BadHead, Refused}
 
@@ -32,9 +34,21 @@ BeginsAt bytes (Err why) =
 -- what the reading of a head answers, where these bytes came
 abbrev pub FindsSome : List ℕ → List HeaderSpan → Option (List ℕ) → Result ResponseSpans LineNo → Type 0
 FindsSome bytes spans left (Ok found) = FindsHead bytes spans found
-FindsSome bytes spans left (Err why) = RefusesResponse bytes left why
+FindsSome bytes spans left (Err why) = RefusesHead bytes left why
 
 -- the same with what the head says of its body
 abbrev pub FindsBody : List ℕ → Option (List ℕ) → Result ℕ LineNo → Type 0
 FindsBody bytes left (Ok start) = (start ≤ length bytes) × BeginsChunks bytes (drop start bytes)
 FindsBody bytes left (Err why) = RefusesResponse bytes left why
+
+-- what a whole head in front of the bytes says of how its body is framed: behind so many bytes, and how; or why there is
+-- none that is read
+abbrev pub FramesAt : List ℕ → Result (ℕ × Framing) LineNo → Type 0
+FramesAt bytes (Ok found) = (found.0 ≤ length bytes) × BeginsFramed bytes found.1 (drop found.0 bytes)
+FramesAt bytes (Err why) =
+    ((why ≡ BadHead) × IsUnframed bytes) ⊎ ((code : ℕ) × (why ≡ Refused code) × HasCode bytes code)
+
+-- the same where the head was read
+abbrev pub FindsFramed : List ℕ → Option (List ℕ) → Result (ℕ × Framing) LineNo → Type 0
+FindsFramed bytes left (Ok found) = (found.0 ≤ length bytes) × BeginsFramed bytes found.1 (drop found.0 bytes)
+FindsFramed bytes left (Err why) = RefusesFramed bytes left why

@@ -57,6 +57,18 @@ abbrev pub HasCode : List ℕ → ℕ → Type 0
 HasCode bytes code =
     (h : ResponseHead) × (after : List ℕ) × HasResponse bytes h after × (status_code h ≡ code) × (code ≢ 200)
 
+-- why bytes begin with no whole head; `left` is what is still to come
+abbrev pub RefusesHead : List ℕ → Option (List ℕ) → LineNo → Type 0
+RefusesHead bytes left BadHead = IsNoHead bytes
+RefusesHead bytes left (Refused code) = ⊥
+RefusesHead bytes left BadChunk = ⊥
+RefusesHead bytes left Overlong = ⊥
+RefusesHead bytes left Unfinished = ⊥
+RefusesHead bytes left Spent = ⊥
+RefusesHead bytes left CutShort = IsOpenHead bytes × IsExhausted left
+RefusesHead bytes left ReadFault = IsOpenHead bytes
+RefusesHead bytes left Memory = ⊤
+
 -- why bytes begin no chunked body; `left` is what is still to come
 abbrev pub RefusesResponse : List ℕ → Option (List ℕ) → LineNo → Type 0
 RefusesResponse bytes left BadHead = IsNoHead bytes ⊎ IsUnchunked bytes
@@ -70,13 +82,13 @@ RefusesResponse bytes left ReadFault = IsOpenHead bytes
 RefusesResponse bytes left Memory = ⊤
 
 -- a reader at the beginning of a body, of which it keeps these bytes
-abbrev pub at_body : Option ℕ → List ℕ → ReaderData
-at_body room kept = record { kept = kept; place = AtSize; part = []; room = room }
+abbrev pub at_body : Option ℕ → ℕ → List ℕ → ReaderData
+at_body room most kept = record { kept = kept; place = AtSize; part = []; room = room; most = most }
 
 -- what the reading of a head answers, over the bytes that were kept and those that were taken: the reader is at the
 -- beginning of the body; or there is none, and all the bytes are kept
 abbrev pub AnswersHead : LinesData → List ℕ → LinesData → Option (List ℕ) → Result (Unit {0}) LineNo → Type 0
 AnswersHead old bytes new left (Ok u) =
-    (after : List ℕ) × BeginsChunks bytes after × (new ≡ record old { at = at_body old.at.room after })
+    (after : List ℕ) × BeginsChunks bytes after × (new ≡ record old { at = at_body old.at.room old.at.most after })
 AnswersHead old bytes new left (Err why) =
     RefusesResponse bytes left why × (new ≡ record old { at = record old.at { kept = bytes } })

@@ -6,19 +6,20 @@ use Rattle.line_stream.specs.Standing.{Stands}
 
 -- behind the head of a chunked body no line stands yet
 abbrev pub BodiesBegin : Type 0
-BodiesBegin = (room : Option ℕ) (bytes after : List ℕ) → BeginsChunks bytes after → Stands room bytes [] (at_body room after)
+BodiesBegin =
+    (room : Option ℕ) (most : ℕ) (bytes after : List ℕ) → BeginsChunks bytes after → Stands room most bytes [] (at_body room most after)
 
 -- who stands in some bytes stands in them and those taken with one more line, where a line was read
 abbrev pub LinesGoOn : Type 0
 LinesGoOn =
-    (room : Option ℕ) (bytes taken text : List ℕ) (lines : List (List ℕ)) (old new : ReaderData) → Stands room bytes lines old
-    → ReadsText old (old.kept ++ taken) text new → Stands room (bytes ++ taken) (lines ++ text ∷ []) new
+    (room : Option ℕ) (most : ℕ) (bytes taken text : List ℕ) (lines : List (List ℕ)) (old new : ReaderData) → Stands room most bytes lines old
+    → ReadsText old (old.kept ++ taken) text new → Stands room most (bytes ++ taken) (lines ++ text ∷ []) new
 
 -- and with the same lines, where it went on within a line
 abbrev pub PartsGoOn : Type 0
 PartsGoOn =
-    (room : Option ℕ) (bytes taken : List ℕ) (lines : List (List ℕ)) (old new : ReaderData) → Stands room bytes lines old
-    → GoesOn old (old.kept ++ taken) new → Stands room (bytes ++ taken) lines new
+    (room : Option ℕ) (most : ℕ) (bytes taken : List ℕ) (lines : List (List ℕ)) (old new : ReaderData) → Stands room most bytes lines old
+    → GoesOn old (old.kept ++ taken) new → Stands room most (bytes ++ taken) lines new
 
 -- a line that was read is read so whatever follows, and no other: it doesn't matter how the bytes came in pieces
 abbrev pub LinesAreDetermined : Type 0

@@ -1,5 +1,6 @@
 pub mod Requests
 pub mod AskAnswers
+pub mod ClusterRequests
 pub mod Chunks
 pub mod Readers
 pub mod Looks
@@ -7,7 +8,10 @@ pub mod Moves
 pub mod Steps
 pub mod Answers
 pub mod Heads
+pub mod Framings
 pub mod HeadSteps
+pub mod Bodies
+pub mod BodySteps
 pub mod Standing
 pub mod Laws
 pub mod Streams

@@ -1,7 +1,7 @@
 -- What a look at the bytes that a reader keeps finds.
 use Rattle.std.specs.Prelude.{◌≡◌, ◌≢◌, ℕ, ◌+◌, ◌<◌, ◌≤◌, List, [], ◌∷◌, ◌++◌, length, take, drop, Some, Result, Ok, Err}
 use Rattle.line_stream.specs.Chunks.{ChunkPiece, piece_bytes, piece_data, Follows, MayBecomeEnd, NeverHasEnd, IsOpenAt, IsRefusedAt}
-use Rattle.line_stream.specs.Readers.{ReaderData, most_line, IsWithinLine, FitsRoom, IsOpen, IsReaderRefused}
+use Rattle.line_stream.specs.Readers.{ReaderData, IsWithinLine, FitsRoom, IsOpen, IsReaderRefused}
 use Rattle.httparse.specs.Ascii.{crlf_bytes}
 use Rattle.line_stream.specs.declared.place.Place.{Place}
 use Rattle.line_stream.specs.declared.place.Place.TheVariants.{Inside, Over}
@@ -53,14 +53,14 @@ pub record IsData (reader : ReaderData) (len left : ℕ) : Type 0 where
   pub place : reader.place ≡ Inside (len + left)
   pub room : FitsRoom reader.room len
   pub within : IsWithinLine (take len reader.kept)
-  pub short : length reader.part + len ≤ most_line
+  pub short : length reader.part + len ≤ reader.most
 
 -- the line feed that ends the line stands in front of the bytes, as data of the chunk
 pub record IsFeed (reader : ReaderData) (left : ℕ) : Type 0 where
   pub stands : reader.kept ≡ 10 ∷ drop 1 reader.kept
   pub place : reader.place ≡ Inside (1 + left)
   pub room : FitsRoom reader.room 1
-  pub short : length reader.part ≤ most_line
+  pub short : length reader.part ≤ reader.most
 
 -- what a look finds
 abbrev pub LooksAt : ReaderData → Result Look LineNo → Type 0

@@ -1,7 +1,7 @@
 -- How a reader comes nearer to the end of its line.
 use Rattle.std.specs.Prelude.{ℕ, ◌+◌, ◌-◌, ◌*◌, ◌<◌, ◌==◌, length, if◌then◌else◌}
 use Rattle.http_read.specs.Heads.{most_head}
-use Rattle.line_stream.specs.Readers.{ReaderData, most_line, GoesOn}
+use Rattle.line_stream.specs.Readers.{ReaderData, GoesOn}
 use Rattle.line_stream.specs.declared.place.Place.{Place}
 use Rattle.line_stream.specs.declared.place.Place.TheVariants.{AtSize, Inside, Last, Over}
 
@@ -16,7 +16,7 @@ framing_left Over = 0
 -- read
 abbrev pub steps_left : ReaderData → ℕ
 steps_left reader =
-    100 * (most_line + 1 - length reader.part) + framing_left reader.place + (most_head - length reader.kept)
+    100 * (reader.most + 1 - length reader.part) + framing_left reader.place + (most_head - length reader.kept)
 
 -- within a line, a reader went on over some of what it keeps
 pub record Moves (old new : ReaderData) : Type 0 where

@@ -1,6 +1,6 @@
 -- How the reading of a line ends.
 use Rattle.std.specs.Prelude.{◌≡◌, ◌≢◌, ℕ, ◌≤◌, List, [], ◌++◌, length, Some}
-use Rattle.line_stream.specs.Readers.{ReaderData, most_line, GoesOn, EndsLine, IsReaderRefused}
+use Rattle.line_stream.specs.Readers.{ReaderData, GoesOn, EndsLine, IsReaderRefused}
 use Rattle.line_stream.specs.declared.place.Place.TheVariants as place
 use Rattle.line_stream.specs.declared.refusal.LineNo.{LineNo}
 
@@ -11,7 +11,7 @@ pub data Outcome : Type 0 where
 
 -- where a reader stands shows this outcome; where no more data may be taken, that is a refusal
 abbrev pub HasOutcome : ReaderData → Outcome → Type 0
-HasOutcome reader whole = ((new : ReaderData) × EndsLine reader new) × (length reader.part ≤ most_line)
+HasOutcome reader whole = ((new : ReaderData) × EndsLine reader new) × (length reader.part ≤ reader.most)
 HasOutcome reader over = (reader.room ≢ Some 0) × (reader.place ≡ place.Over) × (reader.part ≡ [])
 HasOutcome reader (refused why) = IsReaderRefused reader why
 
@@ -19,5 +19,5 @@ HasOutcome reader (refused why) = IsReaderRefused reader why
 -- doesn't matter how the bytes came in pieces
 abbrev pub OutcomesAgree : Type 0
 OutcomesAgree =
-    (bytes more : List ℕ) (old first second : ReaderData) (o p : Outcome) → length old.part ≤ most_line
+    (bytes more : List ℕ) (old first second : ReaderData) (o p : Outcome) → length old.part ≤ old.most
     → GoesOn old bytes first → HasOutcome first o → GoesOn old (bytes ++ more) second → HasOutcome second p → o ≡ p

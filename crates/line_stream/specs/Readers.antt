@@ -6,17 +6,18 @@ use Rattle.line_stream.specs.declared.place.Place.TheVariants.{Inside, Over}
 use Rattle.line_stream.specs.declared.refusal.LineNo.{LineNo}
 use Rattle.line_stream.specs.declared.refusal.LineNo.TheVariants.{BadHead, Refused, BadChunk, Overlong, Unfinished, Spent, CutShort, ReadFault, Memory}
 
--- the most bytes of a line, without its line feed
+-- the most bytes of a line of a peer that is a server as this one, without its line feed
 abbrev pub most_line : ℕ
 most_line = 2097152
 
--- where a reader stands: the bytes that were read and not used, what comes next, the line so far, and how much data may
--- still be taken, if there is a bound
+-- where a reader stands: the bytes that were read and not used, what comes next, the line so far, how much data may
+-- still be taken, if there is a bound, and the most bytes of a line, without its line feed
 pub record ReaderData : Type 0 where
   pub kept : List ℕ
   pub place : Place
   pub part : List ℕ
   pub room : Option ℕ
+  pub most : ℕ
 
 -- a reader of lines: where it stands, and the last whole line
 pub record LinesData : Type 0 where
@@ -42,6 +43,7 @@ pub record Passes (old : ReaderData) (bytes content : List ℕ) (new : ReaderDat
   pub bytes_are : bytes ≡ framed ++ new.kept
   pub carries : Carries old.place framed content new.place
   pub room : Spends old.room (length content) new.room
+  pub most : new.most ≡ old.most
 
 -- over these bytes a reader went on within a line
 pub record GoesOn (old : ReaderData) (bytes : List ℕ) (new : ReaderData) : Type 0 where
@@ -49,7 +51,7 @@ pub record GoesOn (old : ReaderData) (bytes : List ℕ) (new : ReaderData) : Typ
   pub passes : Passes old bytes content new
   pub within : IsWithinLine content
   pub part : new.part ≡ old.part ++ content
-  pub short : length old.part ≤ most_line → length new.part ≤ most_line
+  pub short : length old.part ≤ old.most → length new.part ≤ old.most
 
 -- a reader took the line feed that ends its line, as data of the chunk, and stands right behind it
 pub record EndsLine (old new : ReaderData) : Type 0 where
@@ -58,6 +60,7 @@ pub record EndsLine (old new : ReaderData) : Type 0 where
   pub inside : old.place ≡ Inside (1 + left)
   pub place : new.place ≡ Inside left
   pub room : Spends old.room 1 new.room
+  pub most : new.most ≡ old.most
   pub part : new.part ≡ []
 
 -- over these bytes, those that it kept and those that it took, a reader came to the end of the line `text`: to its line
@@ -66,7 +69,7 @@ pub record ReadsText (old : ReaderData) (bytes text : List ℕ) (new : ReaderDat
   pub before : ReaderData
   pub goes : GoesOn old bytes before
   pub text_is : text ≡ before.part
-  pub short : length text ≤ most_line
+  pub short : length text ≤ old.most
   pub ends : EndsLine before new
 
 -- a whole line stands in the bytes that a reader keeps
@@ -84,7 +87,7 @@ pub record IsOverlong (reader : ReaderData) : Type 0 where
   pub fits : length content ≤ size
   pub room : FitsRoom reader.room (length content)
   pub within : IsWithinLine content
-  pub long : most_line < length reader.part + length content
+  pub long : reader.most < length reader.part + length content
 
 -- what a reader keeps is refused with this number, whatever follows
 abbrev pub IsReaderRefused : ReaderData → LineNo → Type 0

@@ -1,5 +1,5 @@
 -- Streams that are written and read.
-use Rattle.std.specs.Prelude.{◌≡◌, ◌⊎◌, ℕ, List, [], ◌∷◌, ◌++◌, Option, None, All}
+use Rattle.std.specs.Prelude.{◌≡◌, ◌⊎◌, ℕ, ◌+◌, ◌<◌, ◌^◌, List, [], ◌∷◌, ◌++◌, Option, None, All}
 use Rattle.std.specs.List.{flat_map}
 use Rattle.http_send.specs.Replies.{stream_head_text, chunk_text, stream_end_text}
 use Rattle.line_stream.specs.Readers.{ReaderData}
@@ -16,14 +16,19 @@ abbrev pub whole_stream : List (List ℕ) → List ℕ
 whole_stream lines = stream_bytes lines ++ stream_end_text
 
 -- a reader that used all bytes, and may take any amount of data
-abbrev pub reader_at : Place → ReaderData
-reader_at place = record { kept = []; place = place; part = []; room = None }
+abbrev pub reader_at : ℕ → Place → ReaderData
+reader_at most place = record { kept = []; place = place; part = []; room = None; most = most }
+
+-- lines that fit chunks, with their line feeds
+abbrev pub AreLines : ℕ → List (List ℕ) → Type 0
+AreLines most lines = (most + 1 < 2 ^ 64) × All (IsLine most) lines
 
 -- a stream stands with its lines, and the body is over where it has its end
 abbrev pub StreamsStand : Type 0
 StreamsStand =
-    (lines : List (List ℕ)) → All IsLine lines
-    → Stands None (stream_bytes lines) lines (reader_at AtSize) × Stands None (whole_stream lines) lines (reader_at Over)
+    (most : ℕ) (lines : List (List ℕ)) → AreLines most lines
+    → Stands None most (stream_bytes lines) lines (reader_at most AtSize)
+    × Stands None most (whole_stream lines) lines (reader_at most Over)
 
 -- these are the first lines, and all where the body is over
 pub record AreRead (lines read : List (List ℕ)) (reader : ReaderData) : Type 0 where
@@ -34,12 +39,12 @@ pub record AreRead (lines read : List (List ℕ)) (reader : ReaderData) : Type 0
 -- who stands in a beginning of a stream stands with its first lines
 abbrev pub StreamsReadBack : Type 0
 StreamsReadBack =
-    (lines read : List (List ℕ)) (room : Option ℕ) (bytes more : List ℕ) (reader : ReaderData) → All IsLine lines
-    → Stands room bytes read reader → bytes ++ more ≡ whole_stream lines → AreRead lines read reader
+    (limit : ℕ) (lines read : List (List ℕ)) (room : Option ℕ) (most : ℕ) (bytes more : List ℕ) (reader : ReaderData) → AreLines limit lines
+    → Stands room most bytes read reader → bytes ++ more ≡ whole_stream lines → AreRead lines read reader
 
 -- of the lines that stand in some bytes, and in them and those that follow, the ones begin the others
 abbrev pub ReadingsAgree : Type 0
 ReadingsAgree =
-    (lines others : List (List ℕ)) (room bound : Option ℕ) (bytes more : List ℕ) (reader other : ReaderData)
-    → Stands room bytes lines reader → Stands bound (bytes ++ more) others other
+    (lines others : List (List ℕ)) (room bound : Option ℕ) (most limit : ℕ) (bytes more : List ℕ) (reader other : ReaderData)
+    → Stands room most bytes lines reader → Stands bound limit (bytes ++ more) others other
     → ((later : List (List ℕ)) × (others ≡ lines ++ later)) ⊎ ((later : List (List ℕ)) × (lines ≡ others ++ later))

@@ -72,8 +72,12 @@ fn add_start(form: &mut Serializer<Global>, start: Start) -> Result<(), Memory>
     Ok(())
 }
 
-// Adds a selector, where it has a text.
-fn add_selector(form: &mut Serializer<Global>, name: &str, text: &str) -> Result<(), Memory>
+/// Adds a selector, or another pair, where it has a text.
+pub(crate) fn add_selector(
+    form: &mut Serializer<Global>,
+    name: &str,
+    text: &str,
+) -> Result<(), Memory>
     ensures { OnOk result (form.new ≡ record form.old { form = extend_pairs form.old.form (selector_pair name.now text.now) }) }
 {
     if text.is_empty() {

@@ -1,5 +1,6 @@
 //! The reader of lines.
 
+ghost use Rattle.std.specs.Result.{result_map_both};
 ghost use Rattle.std.specs.Prelude.{◌≡◌, ◌<◌, ◌≤◌, ◌++◌, ℕ, List, [], None, Some, length, take, drop, OnOk, IfErr};
 ghost use Rattle.edge_io.specs.Told.{prepended};
 ghost use Rattle.http_read.specs.Heads.{most_head};
@@ -9,7 +10,9 @@ ghost use Rattle.line_stream.specs.Moves.{Moves};
 ghost use Rattle.line_stream.specs.Steps.{Advances, Fills};
 ghost use Rattle.line_stream.specs.Heads.{AnswersHead};
 ghost use Rattle.line_stream.specs.Answers.{AnswersLine, Counts};
+ghost use Rattle.line_stream.specs.Bodies.{AnswersBody};
 
+use crate::bodies::read_reply;
 use crate::head::read_start;
 use crate::look::{Look, look_at};
 use crate::place::Place;
@@ -19,6 +22,9 @@ use http_read::{FillNo, Unread};
 use std::alloc::Global;
 use std::marker::Model;
 use std::mem::swap;
+
+/// The most bytes of a line of a peer that is a server as this one.
+pub const MOST_LINE: usize = 2_097_152;
 
 /// What is read of a body.
 #[derive(Clone, Copy, Debug)]
@@ -49,7 +55,8 @@ fn spent(room: Option<u64>, n: u64) -> Option<u64>
     }
 }
 
-/// Reads lines from the chunked body of a response. Contracts see where it stands, and the last whole line.
+/// Reads lines from the chunked body of a response, or a reply whole. Contracts see where it stands, and the last whole
+/// line.
 #[derive(Debug, Drop)]
 pub struct LineReader {
     kept: Unread,
@@ -57,6 +64,7 @@ pub struct LineReader {
     part: Vec<u8>,
     line: Vec<u8>,
     room: Option<u64>,
+    most: usize,
 }
 
 impl Model for LineReader {
@@ -65,16 +73,16 @@ impl Model for LineReader {
     ghost Value = { LinesData };
 
     ghost view = { λ r. record {
-      at = record { kept = r.kept; place = r.place; part = r.part.items; room = r.room };
+      at = record { kept = r.kept; place = r.place; part = r.part.items; room = r.room; most = r.most };
       line = r.line.items;
     } };
 }
 
 impl LineReader {
-    /// A reader of a connection from which nothing was read. It takes at most `room` bytes of data. Its memory is
-    /// asked for as it reads.
-    pub fn open(alloc: Global, room: u64) -> LineReader
-        ensures { result ≡ record { at = record { kept = []; place = Place.AtSize; part = []; room = Some room }; line = [] } }
+    /// A reader of a connection from which nothing was read. It takes at most `room` bytes of data in lines, of which
+    /// each has at most `most`. Its memory is asked for as it reads.
+    pub fn open(alloc: Global, room: u64, most: usize) -> LineReader
+        ensures { result ≡ record { at = record { kept = []; place = Place.AtSize; part = []; room = Some room; most = most }; line = [] } }
     {
         LineReader {
             kept: Unread::new(alloc),
@@ -82,6 +90,7 @@ impl LineReader {
             part: Vec::new(alloc),
             line: Vec::new(alloc),
             room: Some(room),
+            most,
         }
     }
 
@@ -171,6 +180,7 @@ impl LineReader {
             self.place,
             self.part.as_slice(),
             self.room,
+            self.most,
         )
     }
 
@@ -228,5 +238,20 @@ impl LineReader {
                 Err(why) => return Err(why),
             }
         }
+    }
+
+    /// Reads a reply of code 200 whole: its head, and then its body, of at most `limit` bytes, and answers the body's
+    /// data. The body is counted by its head, or in chunks. What was read beyond it stays kept, for the next reply.
+    ///
+    /// # Errors
+    ///
+    /// [`LineNo`]: what is wrong first in the bytes. Of a reply that ended so nothing more is to be read.
+    pub fn read_body<S: Source>(&mut self, source: &mut S, limit: u64) -> Result<Vec<u8>, LineNo>
+        ensures reads { (taken : List ℕ) × (S.left source.old ≡ prepended taken (S.left source.new))
+            × AnswersBody limit self.old (self.old.at.kept ++ taken) self.new (S.left source.new)
+            (result_map_both (λ text. text.items) (λ why. why) result) }
+        ensures counted { Counts result (S.faults source.old) (S.faults source.new) }
+    {
+        read_reply(&mut self.kept, source, limit)
     }
 }

@@ -1,6 +1,6 @@
 //! What stands in front of the bytes that a reader keeps.
 
-ghost use Rattle.std.specs.Prelude.{◌≡◌, ◌≢◌, ◌+◌, ◌<◌, ◌≤◌, ◌==◌, [], ◌∷◌, length, take, drop, if◌then◌else◌};
+ghost use Rattle.std.specs.Prelude.{◌≡◌, ◌≢◌, ◌+◌, ◌<◌, ◌≤◌, ◌==◌, nat_lt, [], ◌∷◌, length, take, drop, if◌then◌else◌};
 ghost use Rattle.line_stream.specs.Readers.{IsWithinLine, FitsRoom};
 ghost use Rattle.line_stream.specs.Looks.{LooksAt, look_of};
 
@@ -8,9 +8,6 @@ use crate::chunks::{Frame, look_at_size, look_behind_data, look_behind_last};
 use crate::place::Place;
 use crate::refusal::LineNo;
 use memchr::memchr;
-
-/// The most bytes of a line.
-const MOST_LINE: usize = 2_097_152;
 
 /// What a look at the bytes finds.
 #[derive(Clone, Copy)]
@@ -66,18 +63,31 @@ fn line_length(at_hand: &[u8]) -> usize
     }
 }
 
+// Whether so many bytes more make a line too long.
+fn is_too_long(part: usize, len: usize, most: usize) -> bool
+    ensures { result ≡ nat_lt most (part + len) }
+{
+    len > most || part > most - len
+}
+
 // Looks for the data of a chunk.
-fn look_at_data(kept: &[u8], size: u64, part: &[u8], room: Option<u64>) -> Result<Look, LineNo>
+fn look_at_data(
+    kept: &[u8],
+    size: u64,
+    part: &[u8],
+    room: Option<u64>,
+    most: usize,
+) -> Result<Look, LineNo>
     requires size { 0 < size }
     requires room { room ≢ Some 0 }
-    ensures { LooksAt (record { kept = kept.now; place = Place.Inside size; part = part.now; room = room }) result }
+    ensures { LooksAt (record { kept = kept.now; place = Place.Inside size; part = part.now; room = room; most = most }) result }
 {
     let at_hand = data_in(kept, size, room);
     if at_hand.is_empty() {
         return Ok(Look::Open);
     }
     let len = line_length(at_hand);
-    if part.len().saturating_add(len) > MOST_LINE {
+    if is_too_long(part.len(), len, most) {
         return Err(LineNo::Overlong);
     }
     if len == 0 {
@@ -103,8 +113,9 @@ pub(crate) fn look_at(
     place: Place,
     part: &[u8],
     room: Option<u64>,
+    most: usize,
 ) -> Result<Look, LineNo>
-    ensures { LooksAt (record { kept = kept.now; place = place; part = part.now; room = room }) result }
+    ensures { LooksAt (record { kept = kept.now; place = place; part = part.now; room = room; most = most }) result }
 {
     if let Some(0) = room {
         return Err(LineNo::Spent);
@@ -112,7 +123,7 @@ pub(crate) fn look_at(
     match place {
         Place::AtSize => found(look_at_size(kept)),
         Place::Inside(0) => found(look_behind_data(kept)),
-        Place::Inside(size) => look_at_data(kept, size, part, room),
+        Place::Inside(size) => look_at_data(kept, size, part, room, most),
         Place::Last => found(look_behind_last(kept)),
         Place::Over => look_over(part),
     }

@@ -1,10 +1,11 @@
 //! Why there is no line.
 
-/// Why a reader has no head or no line.
+/// Why a reader has no head, no line or no body.
 #[derive(Clone, Copy, Debug)]
 pub enum LineNo {
     /// No head of a chunked body: no response can stand there, it isn't whole in 16,384 bytes, it has more than 64
-    /// fields, or its code is 200 and its transfer coding isn't `chunked` alone.
+    /// fields, or its code is 200 and its transfer coding isn't `chunked` alone. Where a body is read whole, a head that
+    /// counts it and says no transfer coding is one too.
     BadHead,
     /// A whole head with a code other than 200.
     Refused {
@@ -13,7 +14,7 @@ pub enum LineNo {
     },
     /// No chunk can stand there, or its line isn't whole in 64 bytes.
     BadChunk,
-    /// A line of more than 2,097,152 bytes.
+    /// A line, or a whole body, of more bytes than it may have.
     Overlong,
     /// The body ended within a line.
     Unfinished,
