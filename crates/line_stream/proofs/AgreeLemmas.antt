@@ -38,16 +38,16 @@ first_feed (c ∷ a) (d ∷ b) x y wa wb e =
     (ap (λ l. c ∷ l) same.0 ∙ ap (λ (v : ℕ). v ∷ b) (ap first_of e), same.1)
 
 -- data of lines, and more, is data of lines in one way
-lines_agree : (lines others : List (List ℕ)) (more part : List ℕ) → All IsLine lines → All IsLine others → IsWithinLine part → lines_bytes lines ++ more ≡ lines_bytes others ++ part
+lines_agree : (m n : ℕ) (lines others : List (List ℕ)) (more part : List ℕ) → All (IsLine m) lines → All (IsLine n) others → IsWithinLine part → lines_bytes lines ++ more ≡ lines_bytes others ++ part
     → (later : List (List ℕ)) × (others ≡ lines ++ later) × (more ≡ lines_bytes later ++ part)
-lines_agree [] others more part a b w e = (others, refl, e)
-lines_agree (line ∷ lines) [] more part a b w e =
+lines_agree m n [] others more part a b w e = (others, refl, e)
+lines_agree m n (line ∷ lines) [] more part a b w e =
     absurd (within-none part line (lines_bytes lines ++ more) w (sym e ∙ append_assoc (line ++ 10 ∷ []) (lines_bytes lines) more ∙ append_assoc line (10 ∷ []) (lines_bytes lines ++ more)))
-lines_agree (line ∷ lines) (other ∷ others) more part a b w e =
-    let same = first_feed line other (lines_bytes lines ++ more) (lines_bytes others ++ part) (All-head IsLine line lines a).0 (All-head IsLine other others b).0
+lines_agree m n (line ∷ lines) (other ∷ others) more part a b w e =
+    let same = first_feed line other (lines_bytes lines ++ more) (lines_bytes others ++ part) (All-head (IsLine m) line lines a).0 (All-head (IsLine n) other others b).0
     (sym (append_assoc (line ++ 10 ∷ []) (lines_bytes lines) more ∙ append_assoc line (10 ∷ []) (lines_bytes lines ++ more)) ∙ e
     ∙ append_assoc (other ++ 10 ∷ []) (lines_bytes others) part ∙ append_assoc other (10 ∷ []) (lines_bytes others ++ part)) in
-    let later = lines_agree lines others more part (All-tail IsLine line lines a) (All-tail IsLine other others b) w same.1 in
+    let later = lines_agree m n lines others more part (All-tail (IsLine m) line lines a) (All-tail (IsLine n) other others b) w same.1 in
     (later.0, ap (λ l. l ∷ others) (sym same.0) ∙ ap (λ l. line ∷ l) later.1, later.2)
 
 -- no line stands in a part of one
@@ -77,8 +77,8 @@ nothing_of_none place (piece ∷ pieces) to rest x e =
 
 -- ---- readers
 
-module _ (lines read : List (List ℕ)) (room : Option ℕ) (bytes more : List ℕ) (reader : ReaderData)
-    (x : Stands room bytes read reader) (y : Stands None (bytes ++ more) lines (reader_at Over)) where
+module _ (limit : ℕ) (lines read : List (List ℕ)) (room : Option ℕ) (most : ℕ) (bytes more : List ℕ) (reader : ReaderData)
+    (x : Stands room most bytes read reader) (y : Stands None limit (bytes ++ more) lines (reader_at limit Over)) where
   -- the bodies are one
   same_body : x.body ++ more ≡ y.body
   same_body = (response_prefix_free bytes more x.begins.0 y.begins.0 x.body y.body x.begins.1.reads y.begins.1.reads).1
@@ -103,7 +103,7 @@ module _ (lines read : List (List ℕ)) (room : Option ℕ) (bytes more : List �
       let more_data = flat_map piece_data behind in
       let all : y.content ≡ x.content ++ more_data =
       y.passes.carries.content_are ∙ ap (flat_map piece_data) e ∙ flat_map-append piece_data x.passes.carries.pieces behind ∙ ap (λ l. l ++ more_data) (sym x.passes.carries.content_are) in
-      let later = lines_agree read lines (reader.part ++ more_data) [] x.holds.lines_are y.holds.lines_are y.holds.part_is.0
+      let later = lines_agree most limit read lines (reader.part ++ more_data) [] x.holds.lines_are y.holds.lines_are y.holds.part_is.0
       (sym (append_assoc (lines_bytes read) reader.part more_data) ∙ ap (λ l. l ++ more_data) (sym x.holds.joined) ∙ sym all ∙ y.holds.joined) in record {
         later = later.0;
         joined = later.1;
@@ -121,8 +121,8 @@ module _ (lines read : List (List ℕ)) (room : Option ℕ) (bytes more : List �
       ]
 
 pub streams-read-back : StreamsReadBack
-streams-read-back lines read room bytes more reader all x e =
-    reads-first lines read room bytes more reader x (subst (λ b. Stands None b lines (reader_at Over)) (sym e) (streams-stand lines all).1)
+streams-read-back limit lines read room most bytes more reader all x e =
+    reads-first limit lines read room most bytes more reader x (subst (λ b. Stands None limit b lines (reader_at limit Over)) (sym e) (streams-stand limit lines all).1)
 
 -- ---- two readers
 
@@ -133,15 +133,15 @@ data_on pieces others behind content other one two e =
     two ∙ ap (flat_map piece_data) e ∙ flat_map-append piece_data pieces behind ∙ ap (λ l. l ++ flat_map piece_data behind) (sym one)
 
 -- and more data has more lines
-lines_on : (content other data_behind : List ℕ) (lines others : List (List ℕ)) (part open_part : List ℕ) → HoldsLines content lines part → HoldsLines other others open_part → other ≡ content ++ data_behind
+lines_on : (m n : ℕ) (content other data_behind : List ℕ) (lines others : List (List ℕ)) (part open_part : List ℕ) → HoldsLines m content lines part → HoldsLines n other others open_part → other ≡ content ++ data_behind
     → (later : List (List ℕ)) × (others ≡ lines ++ later)
-lines_on content other data_behind lines others part open_part x y e =
-    let later = lines_agree lines others (part ++ data_behind) open_part x.lines_are y.lines_are y.part_is.0
+lines_on m n content other data_behind lines others part open_part x y e =
+    let later = lines_agree m n lines others (part ++ data_behind) open_part x.lines_are y.lines_are y.part_is.0
     (sym (append_assoc (lines_bytes lines) part data_behind) ∙ ap (λ l. l ++ data_behind) (sym x.joined) ∙ sym e ∙ y.joined) in
     (later.0, later.1)
 
 pub readings-agree : ReadingsAgree
-readings-agree lines others room bound bytes more reader other x y =
+readings-agree lines others room bound most limit bytes more reader other x y =
     let body : x.body ++ more ≡ y.body = (response_prefix_free bytes more x.begins.0 y.begins.0 x.body y.body x.begins.1.reads y.begins.1.reads).1 in
     let ps : List ChunkPiece = x.passes.carries.pieces in
     let qs : List ChunkPiece = y.passes.carries.pieces in
@@ -150,8 +150,8 @@ readings-agree lines others room bound bytes more reader other x y =
     ∙ ap (λ l. (l ++ reader.kept) ++ more) (sym x.passes.carries.bytes_are) ∙ ap (λ l. l ++ more) (sym x.passes.bytes_are)
     ∙ body ∙ y.passes.bytes_are ∙ ap (λ l. l ++ other.kept) y.passes.carries.bytes_are in
     elim (pieces-agree AtSize ps qs reader.place other.place (reader.kept ++ more) other.kept x.passes.carries.leads y.passes.carries.leads same) [
-      | inl b ↦ inl (lines_on x.content y.content (flat_map piece_data b.more) lines others reader.part other.part x.holds y.holds
+      | inl b ↦ inl (lines_on most limit x.content y.content (flat_map piece_data b.more) lines others reader.part other.part x.holds y.holds
           (data_on ps qs b.more x.content y.content x.passes.carries.content_are y.passes.carries.content_are b.joined))
-      | inr b ↦ inr (lines_on y.content x.content (flat_map piece_data b.more) others lines other.part reader.part y.holds x.holds
+      | inr b ↦ inr (lines_on limit most y.content x.content (flat_map piece_data b.more) others lines other.part reader.part y.holds x.holds
           (data_on qs ps b.more y.content x.content y.passes.carries.content_are x.passes.carries.content_are b.joined))
     ]

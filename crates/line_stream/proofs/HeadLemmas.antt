@@ -11,12 +11,13 @@ use Rattle.http_read.specs.Heads.{FieldText, most_head, most_fields, is_named, v
 use Rattle.http_read.specs.Requests.{front}
 use Rattle.http_read.proofs.HeadLemmas.{front-short}
 use Rattle.http_read.proofs.ScanLemmas.{filter-step, filter-around}
-use Rattle.line_stream.specs.Heads.{HasResponse, at_body, only, is_chunks, is_chunked, IsOpenHead, IsNoHead, RefusesResponse}
+use Rattle.line_stream.specs.Heads.{HasResponse, at_body, only, is_chunks, is_chunked, IsOpenHead, IsNoHead, RefusesHead, RefusesResponse}
 use Rattle.line_stream.specs.HeadSteps.{FindsHead, BeginsAt, FindsBody}
 use Rattle.line_stream.proofs.LookLemmas.{front-stands}
 use Rattle.line_stream.specs.Readers.{LinesData}
 use Rattle.line_stream.specs.declared.place.Place.TheVariants.{AtSize}
 use Rattle.line_stream.specs.declared.refusal.LineNo.{LineNo}
+use Rattle.line_stream.specs.declared.refusal.LineNo.TheVariants.{BadHead, Refused, BadChunk, Overlong, Unfinished, Spent, CutShort, ReadFault, Memory}
 
 -- spans for at most 64 fields found a head of at most 64 fields
 fields-fit : (buf : List ℕ) (spans : List HeaderSpan) (count : ℕ) (h : ResponseHead) → length spans ≡ most_fields → AreFieldsAt buf spans count h.fields
@@ -76,6 +77,18 @@ pub chunked-of : (bytes buf : List ℕ) (fields spans : List HeaderSpan) (found 
 chunked-of bytes buf fields spans found f e s =
     ap (λ l. is_chunks (only (values_of (codes "transfer-encoding") l))) (ap (λ b. map (header_bytes b) fields) e ∙ ap (map (header_bytes (front bytes))) s ∙ f.at.fields)
 
+-- why there is no whole head is why there is no body
+pub refuses-head : (bytes : List ℕ) (left : Option (List ℕ)) (why : LineNo) → RefusesHead bytes left why → RefusesResponse bytes left why
+refuses-head bytes left BadHead x = inl x
+refuses-head bytes left (Refused code) x = absurd x
+refuses-head bytes left BadChunk x = absurd x
+refuses-head bytes left Overlong x = absurd x
+refuses-head bytes left Unfinished x = absurd x
+refuses-head bytes left Spent x = absurd x
+refuses-head bytes left CutShort x = x
+refuses-head bytes left ReadFault x = x
+refuses-head bytes left Memory x = x
+
 -- a look at a head whose body doesn't begin is a refusal
 pub refuses-body : (bytes : List ℕ) (left : Option (List ℕ)) (why : LineNo) → BeginsAt bytes (Err why) → RefusesResponse bytes left why
 refuses-body bytes left why (inl x) = subst (RefusesResponse bytes left) (sym x.0) (inr x.1)
@@ -91,11 +104,11 @@ head-within bytes spans found f = omega (arith, f.within.section.len_fits, lengt
 -- ---- the same of a reader's fields
 
 pub kept-with : (a b : LinesData) (kept new : List ℕ) → a ≡ b → kept ≡ new
-    → record { at = record { kept = kept; place = a.at.place; part = a.at.part; room = a.at.room }; line = a.line } ≡ record b { at = record (b.at) { kept = new } }
+    → record { at = record { kept = kept; place = a.at.place; part = a.at.part; room = a.at.room; most = a.at.most }; line = a.line } ≡ record b { at = record (b.at) { kept = new } }
 kept-with a b kept new v e =
-    λ i. record { at = record { kept = e i; place = (v i).at.place; part = (v i).at.part; room = (v i).at.room }; line = (v i).line }
+    λ i. record { at = record { kept = e i; place = (v i).at.place; part = (v i).at.part; room = (v i).at.room; most = (v i).at.most }; line = (v i).line }
 
 pub body-with : (a b : LinesData) (kept part : List ℕ) → a ≡ b → part ≡ []
-    → record { at = record { kept = kept; place = AtSize; part = part; room = a.at.room }; line = a.line } ≡ record b { at = at_body b.at.room kept }
+    → record { at = record { kept = kept; place = AtSize; part = part; room = a.at.room; most = a.at.most }; line = a.line } ≡ record b { at = at_body b.at.room b.at.most kept }
 body-with a b kept part v e =
-    λ i. record { at = record { kept = kept; place = AtSize; part = e i; room = (v i).at.room }; line = (v i).line }
+    λ i. record { at = record { kept = kept; place = AtSize; part = e i; room = (v i).at.room; most = (v i).at.most }; line = (v i).line }

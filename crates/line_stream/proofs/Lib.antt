@@ -11,3 +11,6 @@ pub mod StreamHeadLemmas
 pub mod StreamLemmas
 pub mod AgreeLemmas
 pub mod OutcomeLemmas
+pub mod FramingLemmas
+pub mod BodyLemmas
+pub mod ClusterLemmas

@@ -1,5 +1,6 @@
 -- What is found in front of some bytes.
-use Rattle.std.proofs.Common.{◌≡◌, ◌==◌, true, ℕ, ◌+◌, ◌<◌, ◌≤◌, List, [], ◌∷◌, ◌++◌, length, take, drop, get_or, refl, sym, ap, subst, ◌∙◌, arith, append_assoc, min, length-append, length-take, length-take-le, ◌-◌, None, Some, take_all, take-append-drop}
+use Rattle.std.proofs.Common.{◌≡◌, ◌==◌, true, false, ltb, ℕ, ◌+◌, ◌<◌, ◌≤◌, List, [], ◌∷◌, ◌++◌, length, take, drop, get_or, refl, sym, ap, subst, ◌∙◌, arith, append_assoc, min, length-append, length-take, length-take-le, ◌-◌, None, Some, take_all, take-append-drop}
+use Rattle.std.proofs.lemmas.Bool.{ltb-true, ltb-false}
 use Rattle.std.proofs.lemmas.Bool.Decides.{nat_tests}
 use Rattle.std.proofs.lemmas.List.{take_min, take-append-le, drop-append-le, nil_from_length}
 use Rattle.httparse.specs.Ascii.{crlf_bytes}
@@ -7,7 +8,7 @@ use Rattle.httparse.specs.Grammar.{ChunkLine, print_chunk_line, HasNoChunkLine, 
 use Rattle.httparse.specs.Spans.{IsChunkLineAt}
 use Rattle.line_stream.specs.Chunks.{most_size, sized, place_behind, MayBecomeEnd, IsOpenAt}
 use Rattle.std.specs.Prelude.{Option}
-use Rattle.line_stream.specs.Readers.{most_line, IsWithinLine, FitsRoom, IsOverlong}
+use Rattle.line_stream.specs.Readers.{IsWithinLine, FitsRoom, IsOverlong}
 use Rattle.line_stream.specs.Looks.{IsFrame, IsData}
 use Rattle.line_stream.specs.declared.place.Place.{Place}
 use Rattle.line_stream.specs.declared.place.Place.TheVariants.{AtSize, Inside}
@@ -73,12 +74,11 @@ front-of-front kept hand len e h =
     sym (take-append-le len hand (drop (length hand) kept) h)
     ∙ ap (take len) (ap (λ l. l ++ drop (length hand) kept) e ∙ take-append-drop (length hand) kept)
 
-module _ (kept part hand : List ℕ) (size len : ℕ) (room : Option ℕ)
+module _ (kept part hand : List ℕ) (size len : ℕ) (room : Option ℕ) (most : ℕ)
     (front : hand ≡ take (length hand) kept) (fits : length hand ≤ size) (may : FitsRoom room (length hand))
     (within : len ≤ length hand) (line : IsWithinLine (take len hand)) where
-  pub is-overlong : {sum : ℕ} → sum ≡ min (length part + len) 18446744073709551615 → most_line < sum
-      → IsOverlong (record { kept = kept; place = Inside size; part = part; room = room })
-  is-overlong {sum} s long =
+  pub is-overlong : true ≡ ltb most (length part + len) → IsOverlong (record { kept = kept; place = Inside size; part = part; room = room; most = most })
+  is-overlong long =
       let same = front-of-front kept hand len front within in
       let size_is : length (take len kept) ≡ len = ap length (sym same) ∙ length-take-le len hand within in record {
         content = take len kept;
@@ -89,16 +89,16 @@ module _ (kept part hand : List ℕ) (size len : ℕ) (room : Option ℕ)
         fits = omega (arith, size_is, fits, within);
         room = fits-less room (length hand) (length (take len kept)) (omega (arith, size_is, within)) may;
         within = subst IsWithinLine same line;
-        long = omega (arith, s, long, size_is);
+        long = omega (arith, ltb-true most (length part + len) (sym long), size_is);
       }
 
-  pub is-data : length hand ≤ length kept → {sum : ℕ} → sum ≡ min (length part + len) 18446744073709551615 → sum ≤ most_line → (len ≡ 0 → ⊥)
-      → IsData (record { kept = kept; place = Inside size; part = part; room = room }) len (size - len)
-  is-data here {sum} s short some = record {
+  pub is-data : length hand ≤ length kept → false ≡ ltb most (length part + len) → (len ≡ 0 → ⊥)
+      → IsData (record { kept = kept; place = Inside size; part = part; room = room; most = most }) len (size - len)
+  is-data here short some = record {
     some = omega (arith, some);
     stands = omega (arith, within, here);
     place = ap Inside {x = size} {y = len + (size - len)} (omega (arith, fits, within));
     room = fits-less room (length hand) len within may;
     within = subst IsWithinLine (front-of-front kept hand len front within) line;
-    short = omega (arith, s, short);
+    short = ltb-false most (length part + len) (sym short);
   }

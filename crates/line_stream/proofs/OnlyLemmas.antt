@@ -21,6 +21,7 @@ record IsSame (first second : ReaderData) : Type 0 where
   kept : first.kept ≡ second.kept
   part : first.part ≡ second.part
   room : first.room ≡ second.room
+  most : first.most ≡ second.most
 
 none_ahead : (old first second : ReaderData) (bytes : List ℕ) (x : GoesOn old bytes first) (y : GoesOn old bytes second) → IsAhead first second x.content y.content
     → AtFeed first.place first.kept → IsSame first second
@@ -31,10 +32,11 @@ none_ahead old first second bytes x y a feed =
       kept = a.bytes ∙ ap (λ m. flat_map piece_bytes m ++ second.kept) none;
       part = x.part ∙ ap (λ c. old.part ++ c) (sym same) ∙ sym y.part;
       room = spends-one old.room first.room second.room (length x.content) x.passes.room (subst (λ c. Spends old.room (length c) second.room) same y.passes.room);
+      most = x.passes.most ∙ sym y.passes.most;
     }
 
 mirrored : (first second : ReaderData) → IsSame first second → IsSame second first
-mirrored first second x = record { place = sym x.place; kept = sym x.kept; part = sym x.part; room = sym x.room }
+mirrored first second x = record { place = sym x.place; kept = sym x.kept; part = sym x.part; room = sym x.room; most = sym x.most }
 
 same_before : (old first second : ReaderData) (bytes : List ℕ) → GoesOn old bytes first → GoesOn old bytes second → AtFeed first.place first.kept → AtFeed second.place second.kept
     → IsSame first second
@@ -66,7 +68,8 @@ same-after first second new later more x y same =
     let kept : later.kept ≡ new.kept ++ more = ap tail_of (sym y.feed ∙ sym same.kept ∙ ap (λ l. l ++ more) x.feed) in
     let part : later.part ≡ new.part = y.part ∙ sym x.part in
     let room : later.room ≡ new.room = spends-one second.room later.room new.room 1 y.room (subst (λ r. Spends r 1 new.room) same.room x.room) in
-    λ i. record { kept = kept i; place = place i; part = part i; room = room i }
+    let most : later.most ≡ new.most = y.most ∙ sym same.most ∙ sym x.most in
+    λ i. record { kept = kept i; place = place i; part = part i; room = room i; most = most i }
 
 pub lines-are-determined : LinesAreDetermined
 lines-are-determined bytes more text other old new later x y =

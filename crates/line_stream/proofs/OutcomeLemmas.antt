@@ -9,7 +9,7 @@ use Rattle.std.proofs.lemmas.List.Concat.{flat_map-append}
 use Rattle.std.proofs.Math.Seq.{take-append-add}
 use Rattle.httparse.specs.Grammar.{ChunkLine, IsChunkLine, print_chunk_line, HasNoChunkLine}
 use Rattle.line_stream.specs.Chunks.{ChunkPiece, sized, byte, ended, piece_bytes, piece_data, Follows, Leads, most_size, IsRefusedAt, NeverHasEnd}
-use Rattle.line_stream.specs.Readers.{ReaderData, most_line, Spends, FitsRoom, GoesOn, EndsLine, IsOverlong}
+use Rattle.line_stream.specs.Readers.{ReaderData, Spends, FitsRoom, GoesOn, EndsLine, IsOverlong}
 use Rattle.line_stream.proofs.PieceLemmas.{pieces-agree}
 use Rattle.line_stream.proofs.ReaderLemmas.{goes-more}
 use Rattle.line_stream.proofs.IdleLemmas.{IsAhead, goings-agree, at-feed, feed-none}
@@ -99,7 +99,7 @@ unfolding by_place
 unfinished_is place [] kept e some = absurd (omega (arith, some))
 unfinished_is place (b ∷ part) kept e some = ap (λ p. by_place p (b ∷ part) kept) e
 
-overlong_is : (r : ReaderData) → length r.part ≤ most_line → (r.room ≡ Some 0 → ⊥) → IsOverlong r → outcome_of r ≡ refused Overlong
+overlong_is : (r : ReaderData) → length r.part ≤ r.most → (r.room ≡ Some 0 → ⊥) → IsOverlong r → outcome_of r ≡ refused Overlong
 overlong_is r short some x = by_content x.content refl
   where
     by_content : (content : List ℕ) → x.content ≡ content → outcome_of r ≡ refused Overlong
@@ -112,7 +112,7 @@ overlong_is r short some x = by_content x.content refl
             other_is r left b (content ++ x.after) some (x.place ∙ ap Inside s) (x.at_hand ∙ ap (λ l. l ++ x.after) e)
             (All-head (λ (v : ℕ). v ≢ 10) b content (All-same (λ (v : ℕ). v ≢ 10) (b ∷ content) x.content (sym e) x.within))
 
-outcome_is : (r : ReaderData) (o : Outcome) → length r.part ≤ most_line → HasOutcome r o → o ≡ outcome_of r
+outcome_is : (r : ReaderData) (o : Outcome) → length r.part ≤ r.most → HasOutcome r o → o ≡ outcome_of r
 unfolding outcome_of
 outcome_is r whole short x = sym (feed_is r x.0.0 x.0.1)
 outcome_is r over short x = sym (has_room r.room r.place r.part r.kept x.0 ∙ over_is r.place r.part r.kept x.1 x.2)
@@ -137,7 +137,8 @@ same_reader old first second bytes x y a none =
     let kept : first.kept ≡ second.kept = a.bytes ∙ ap (λ m. flat_map piece_bytes m ++ second.kept) none in
     let part : first.part ≡ second.part = x.part ∙ ap (λ c. old.part ++ c) (sym same) ∙ sym y.part in
     let room : first.room ≡ second.room = spends_one old.room first.room second.room (length x.content) x.passes.room (subst (λ c. Spends old.room (length c) second.room) same y.passes.room) in
-    λ i. record { kept = kept i; place = place i; part = part i; room = room i }
+    let most : first.most ≡ second.most = x.passes.most ∙ sym y.passes.most in
+    λ i. record { kept = kept i; place = place i; part = part i; room = room i; most = most i }
   where
     spends_one : (room a b : Option ℕ) (n : ℕ) → Spends room n a → Spends room n b → a ≡ b
     spends_one None a b n x y = x ∙ sym y
@@ -235,7 +236,7 @@ room_left (Some r) first second n m d x y fits less some e =
 
 -- whoever goes on within a line that is too long stands within it
 still_overlong : (old first second : ReaderData) (bytes : List ℕ) (x : GoesOn old bytes first) (y : GoesOn old bytes second) (a : IsAhead first second x.content y.content)
-    → (first.room ≡ Some 0 → ⊥) → IsOverlong first → length second.part ≤ most_line → outcome_of second ≡ refused Overlong
+    → (first.room ≡ Some 0 → ⊥) → IsOverlong first → length second.part ≤ second.most → outcome_of second ≡ refused Overlong
 still_overlong old first second bytes x y a some o short =
     elim (pieces-agree first.place a.more (map byte o.content) second.place (Inside rest) second.kept o.after a.leads leads same) [
       | inl b ↦ within b.more b.joined b.leads b.bytes
@@ -265,6 +266,8 @@ still_overlong old first second bytes x y a some o short =
           arith,
           o.long,
           short,
+          x.passes.most,
+          y.passes.most,
           first_size,
           second_size,
           ap (λ m. length (flat_map piece_data m)) e ∙ ap length (flat_map-append piece_data (map byte o.content) more)
@@ -294,7 +297,7 @@ outcome_stays : (r : ReaderData) (more : List ℕ) (o : Outcome) → HasOutcome 
 outcome_stays r more whole x = (
   (
     record (x.0.0) { kept = x.0.0.kept ++ more },
-    record { left = x.0.1.left; feed = ap (λ l. l ++ more) x.0.1.feed; inside = x.0.1.inside; place = x.0.1.place; room = x.0.1.room; part = x.0.1.part },
+    record { left = x.0.1.left; feed = ap (λ l. l ++ more) x.0.1.feed; inside = x.0.1.inside; place = x.0.1.place; room = x.0.1.room; most = x.0.1.most; part = x.0.1.part },
   ),
   x.1,
 )
@@ -350,11 +353,17 @@ outcome_stays r more (refused ReadFault) x = x
 outcome_stays r more (refused Memory) x = x
 
 -- where one stands ahead of the other
-module _ (old first second : ReaderData) (bytes : List ℕ) (short : length old.part ≤ most_line) (x : GoesOn old bytes first) (y : GoesOn old bytes second)
+module _ (old first second : ReaderData) (bytes : List ℕ) (short : length old.part ≤ old.most) (x : GoesOn old bytes first) (y : GoesOn old bytes second)
     (a : IsAhead first second x.content y.content) where
+  first_short : length first.part ≤ first.most
+  first_short = subst (λ (m : ℕ). length first.part ≤ m) (sym x.passes.most) (x.short short)
+
+  second_short : length second.part ≤ second.most
+  second_short = subst (λ (m : ℕ). length second.part ≤ m) (sym y.passes.most) (y.short short)
+
   same_outcome : (o p : Outcome) → HasOutcome first o → HasOutcome second p → a.more ≡ [] → o ≡ p
   same_outcome o p h k none =
-      outcome_is first o (x.short short) h ∙ ap outcome_of (same_reader old first second bytes x y a none) ∙ sym (outcome_is second p (y.short short) k)
+      outcome_is first o first_short h ∙ ap outcome_of (same_reader old first second bytes x y a none) ∙ sym (outcome_is second p second_short k)
 
   over_none : (place : Place) → place ≡ Over → (pieces : List ChunkPiece) (to : Place) → Leads place pieces to → pieces ≡ []
   over_none place e pieces to leads = nothing_over pieces to (subst (λ q. Leads q pieces to) e leads)
@@ -368,12 +377,12 @@ module _ (old first second : ReaderData) (bytes : List ℕ) (short : length old.
   ahead_agrees (refused (Refused code)) p h k = absurd h
   ahead_agrees (refused BadChunk) p h k = same_outcome (refused BadChunk) p h k (refused_stays first.place first.kept a.more second.place second.kept h.1 a.leads a.bytes)
   ahead_agrees (refused Overlong) p h k =
-      sym (still_overlong old first second bytes x y a h.0 h.1 (y.short short)) ∙ sym (outcome_is second p (y.short short) k)
+      sym (still_overlong old first second bytes x y a h.0 h.1 second_short) ∙ sym (outcome_is second p second_short k)
   ahead_agrees (refused Unfinished) p h k = same_outcome (refused Unfinished) p h k (over_none first.place h.1 a.more second.place a.leads)
   ahead_agrees (refused Spent) p h k =
       sym (no_room second.room second.place second.part second.kept
       (none_left old.room first.room second.room (length x.content) (length y.content) x.passes.room y.passes.room (omega (arith, ap length a.rest, length-append x.content (flat_map piece_data a.more))) h))
-      ∙ sym (outcome_is second p (y.short short) k)
+      ∙ sym (outcome_is second p second_short k)
     where
       none_left : (room one two : Option ℕ) (n m : ℕ) → Spends room n one → Spends room m two → n ≤ m → one ≡ Some 0 → two ≡ Some 0
       none_left None one two n m s t less e = absurd (some_none (sym s ∙ e))

@@ -31,7 +31,7 @@ spends-append (Some r) (Some s) c n m x y =
 -- ---- one behind the other
 
 pub passes-none : (reader : ReaderData) → Passes reader reader.kept [] reader
-passes-none reader = record { framed = []; bytes_are = refl; carries = carries-none reader.place; room = spends-none reader.room }
+passes-none reader = record { framed = []; bytes_are = refl; carries = carries-none reader.place; room = spends-none reader.room; most = refl }
 
 pub passes-append : (old mid new : ReaderData) (bytes c d : List ℕ) → Passes old bytes c mid → Passes mid mid.kept d new → Passes old bytes (c ++ d) new
 passes-append old mid new bytes c d x y = record {
@@ -39,6 +39,7 @@ passes-append old mid new bytes c d x y = record {
   bytes_are = x.bytes_are ∙ ap (λ l. x.framed ++ l) y.bytes_are ∙ sym (append_assoc x.framed y.framed new.kept);
   carries = carries-append old.place mid.place new.place x.framed y.framed c d x.carries y.carries;
   room = subst (λ n. Spends old.room n new.room) (sym (length-append c d)) (spends-append old.room mid.room new.room (length c) (length d) x.room y.room);
+  most = y.most ∙ x.most;
 }
 
 pub goes-none : (reader : ReaderData) → GoesOn reader reader.kept reader
@@ -56,7 +57,8 @@ goes-on old mid new bytes x y = record {
   passes = passes-append old mid new bytes x.content y.content x.passes y.passes;
   within = All-append (λ (b : ℕ). b ≢ 10) x.content y.content x.within y.within;
   part = y.part ∙ ap (λ l. l ++ y.content) x.part ∙ append_assoc old.part x.content y.content;
-  short = λ h. y.short (x.short h);
+  short = λ h. subst (λ (m : ℕ). length new.part ≤ m) x.passes.most
+      (y.short (subst (λ (m : ℕ). length mid.part ≤ m) (sym x.passes.most) (x.short h)));
 }
 
 -- more bytes were taken
@@ -68,6 +70,7 @@ goes-more old mid bytes came x = record {
     bytes_are = ap (λ l. l ++ came) x.passes.bytes_are ∙ append_assoc x.passes.framed mid.kept came;
     carries = x.passes.carries;
     room = x.passes.room;
+    most = x.passes.most;
   };
   within = x.within;
   part = x.part;
@@ -79,7 +82,7 @@ reads-on old mid new bytes text x y = record {
   before = y.before;
   goes = goes-on old mid y.before bytes x y.goes;
   text_is = y.text_is;
-  short = y.short;
+  short = subst (λ (m : ℕ). length text ≤ m) x.passes.most y.short;
   ends = y.ends;
 }
 
@@ -89,7 +92,7 @@ framing_behind : (n : ℕ) (b : Bool) → (n == 0) ≡ b → framing_left (cond 
 framing_behind n true e = refl
 framing_behind n false e = ap (λ t. cond t 71 3) e
 
-inside_least : (n : ℕ) (b : Bool) → (n == 0) ≡ b → (3 ≤ cond b 71 3) × (cond b 71 3 ≤ 71)
+pub inside_least : (n : ℕ) (b : Bool) → (n == 0) ≡ b → (3 ≤ cond b 71 3) × (cond b 71 3 ≤ 71)
 inside_least n true e = (omega arith, omega arith)
 inside_least n false e = (omega arith, omega arith)
 
@@ -119,6 +122,7 @@ frame-moves reader len to f =
           bytes_are = f.stands;
           carries = subst (λ c. Carries reader.place (piece_bytes f.piece) c to) f.no_data one;
           room = spends-none reader.room;
+          most = refl;
         };
         within = All-nil (λ (b : ℕ). b ≢ 10);
         part = sym (append-nil reader.part);
@@ -128,7 +132,7 @@ frame-moves reader len to f =
     }
 
 pub data-moves : (reader : ReaderData) (len left : ℕ) (room : Option ℕ) → IsData reader len left → Spends reader.room len room
-    → Moves reader (record { kept = drop len reader.kept; place = Inside left; part = reader.part ++ take len reader.kept; room = room })
+    → Moves reader (record { kept = drop len reader.kept; place = Inside left; part = reader.part ++ take len reader.kept; room = room; most = reader.most })
 data-moves reader len left room d spends =
     let content = take len reader.kept in
     let size : length content ≡ len = length-take-le len reader.kept d.stands in
@@ -141,6 +145,7 @@ data-moves reader len left room d spends =
           bytes_are = sym (take-append-drop len reader.kept);
           carries = subst (λ p. Carries p content content (Inside left)) (sym (d.place ∙ ap (λ (n : ℕ). Inside (n + left)) {x = len} {y = length content} (sym size))) (carries-data content left);
           room = subst (λ n. Spends reader.room n room) (sym size) spends;
+          most = refl;
         };
         within = d.within;
         part = refl;
@@ -150,43 +155,43 @@ data-moves reader len left room d spends =
     }
 
 pub feed-reads : (reader : ReaderData) (left : ℕ) (room : Option ℕ) → IsFeed reader left → Spends reader.room 1 room
-    → ReadsText reader reader.kept reader.part (record { kept = drop 1 reader.kept; place = Inside left; part = []; room = room })
+    → ReadsText reader reader.kept reader.part (record { kept = drop 1 reader.kept; place = Inside left; part = []; room = room; most = reader.most })
 feed-reads reader left room f spends = record {
   before = reader;
   goes = goes-none reader;
   text_is = refl;
   short = f.short;
-  ends = record { left = left; feed = f.stands; inside = f.place; place = refl; room = spends; part = refl };
+  ends = record { left = left; feed = f.stands; inside = f.place; place = refl; room = spends; most = refl; part = refl };
 }
 
 -- ---- the same of a reader's fields
 
 module _ (old inner : ReaderData) (e : inner ≡ old) where
   pub pass-moves : {kept : List ℕ} (len : ℕ) (to : Place) → kept ≡ drop len inner.kept → IsFrame old.place old.kept len to
-      → Moves old (record { kept = kept; place = to; part = inner.part; room = inner.room })
+      → Moves old (record { kept = kept; place = to; part = inner.part; room = inner.room; most = inner.most })
   pass-moves {kept} len to k f =
       let s : old ≡ inner = sym e in
       let rest : drop len old.kept ≡ kept = ap (λ r. drop len r.kept) s ∙ sym k in
-      subst (Moves old) (λ i. record { kept = rest i; place = to; part = (s i).part; room = (s i).room }) (frame-moves old len to f)
+      subst (Moves old) (λ i. record { kept = rest i; place = to; part = (s i).part; room = (s i).room; most = (s i).most }) (frame-moves old len to f)
 
   pub take-moves : {kept part : List ℕ} {room : Option ℕ} (len left : ℕ) → kept ≡ drop len inner.kept → part ≡ inner.part ++ take len inner.kept
-      → Spends inner.room len room → IsData old len left → Moves old (record { kept = kept; place = Inside left; part = part; room = room })
+      → Spends inner.room len room → IsData old len left → Moves old (record { kept = kept; place = Inside left; part = part; room = room; most = inner.most })
   take-moves {kept} {part} {room} len left k p spends d =
       let s : old ≡ inner = sym e in
       let rest : drop len old.kept ≡ kept = ap (λ r. drop len r.kept) s ∙ sym k in
       let more : old.part ++ take len old.kept ≡ part = ap (λ r. r.part ++ take len r.kept) s ∙ sym p in
-      subst (Moves old) (λ i. record { kept = rest i; place = Inside left; part = more i; room = room })
+      subst (Moves old) (λ i. record { kept = rest i; place = Inside left; part = more i; room = room; most = (s i).most })
       (data-moves old len left room d (subst (λ r. Spends r.room len room) e spends))
 
   pub end-reads : {kept part text : List ℕ} {room : Option ℕ} (left : ℕ) → kept ≡ drop 1 inner.kept → part ≡ [] → text ≡ inner.part
-      → Spends inner.room 1 room → IsFeed old left → ReadsText old old.kept text (record { kept = kept; place = Inside left; part = part; room = room })
+      → Spends inner.room 1 room → IsFeed old left → ReadsText old old.kept text (record { kept = kept; place = Inside left; part = part; room = room; most = inner.most })
   end-reads {kept} {part} {text} {room} left k p t spends f =
       let s : old ≡ inner = sym e in
       let rest : drop 1 old.kept ≡ kept = ap (λ r. drop 1 r.kept) s ∙ sym k in
       let none : [] ≡ part = sym p in
       let line : old.part ≡ text = ap (λ r. r.part) s ∙ sym t in
-      subst (λ x. ReadsText old old.kept x (record { kept = kept; place = Inside left; part = part; room = room })) line
-      (subst (ReadsText old old.kept old.part) (λ i. record { kept = rest i; place = Inside left; part = none i; room = room })
+      subst (λ x. ReadsText old old.kept x (record { kept = kept; place = Inside left; part = part; room = room; most = inner.most })) line
+      (subst (ReadsText old old.kept old.part) (λ i. record { kept = rest i; place = Inside left; part = none i; room = room; most = (s i).most })
       (feed-reads old left room f (subst (λ r. Spends r.room 1 room) e spends)))
 
 -- each byte that is read brings the end of a line nearer

@@ -44,13 +44,13 @@ chunk_carries content some few =
     (carries-one (Inside 0) AtSize ended (refl, refl)))
 
 -- the chunks of lines
-lines_carry : (lines : List (List ℕ)) → All IsLine lines → Carries AtSize (flat_map (λ line. chunk_text (line ++ 10 ∷ [])) lines) (lines_bytes lines) AtSize
-lines_carry [] all = carries-none AtSize
-lines_carry (line ∷ lines) all =
-    let fits = All-head IsLine line lines all in
+lines_carry : (most : ℕ) → most + 1 < 2 ^ 64 → (lines : List (List ℕ)) → All (IsLine most) lines → Carries AtSize (flat_map (λ line. chunk_text (line ++ 10 ∷ [])) lines) (lines_bytes lines) AtSize
+lines_carry most few [] all = carries-none AtSize
+lines_carry most few (line ∷ lines) all =
+    let fits = All-head (IsLine most) line lines all in
     let size = length-append line (10 ∷ []) in
     carries-append AtSize AtSize AtSize (chunk_text (line ++ 10 ∷ [])) (flat_map (λ l. chunk_text (l ++ 10 ∷ [])) lines) (line ++ 10 ∷ []) (lines_bytes lines)
-    (chunk_carries (line ++ 10 ∷ []) (omega (arith, size)) (omega (arith, size, fits.1))) (lines_carry lines (All-tail IsLine line lines all))
+    (chunk_carries (line ++ 10 ∷ []) (omega (arith, size)) (omega (arith, size, fits.1, few))) (lines_carry most few lines (All-tail (IsLine most) line lines all))
 
 -- the last chunk
 end_carries : Carries AtSize stream_end_text [] Over
@@ -58,22 +58,22 @@ unfolding digits
 end_carries =
     carries-append AtSize Last Over (chunk_head_text 0) crlf_bytes [] [] (size_carries 0 (omega arith)) (carries-one Last Over ended refl)
 
-stands_at : (lines : List (List ℕ)) (bytes body : List ℕ) (place : Place) → All IsLine lines → bytes ≡ stream_head_text ++ body → Carries AtSize body (lines_bytes lines) place
-    → Stands None bytes lines (reader_at place)
-stands_at lines bytes body place all e carries =
-    subst (λ b. Stands None b lines (reader_at place)) (sym e) (record {
+stands_at : (most : ℕ) (lines : List (List ℕ)) (bytes body : List ℕ) (place : Place) → All (IsLine most) lines → bytes ≡ stream_head_text ++ body → Carries AtSize body (lines_bytes lines) place
+    → Stands None most bytes lines (reader_at most place)
+stands_at most lines bytes body place all e carries =
+    subst (λ b. Stands None most b lines (reader_at most place)) (sym e) (record {
       body = body;
       begins = stream-begins body;
       content = lines_bytes lines;
-      passes = record { framed = body; bytes_are = sym (append-nil body); carries = carries; room = refl };
+      passes = record { framed = body; bytes_are = sym (append-nil body); carries = carries; room = refl; most = refl };
       holds = record { joined = sym (append-nil (lines_bytes lines)); lines_are = all; part_is = (All-nil (λ (b : ℕ). b ≢ 10), omega arith) };
     })
 
 pub streams-stand : StreamsStand
-streams-stand lines all =
+streams-stand most lines (few, all) =
     let chunks = flat_map (λ line. chunk_text (line ++ 10 ∷ [])) lines in
-    let carry = lines_carry lines all in (
-      stands_at lines (stream_bytes lines) chunks AtSize all refl carry,
-      stands_at lines (whole_stream lines) (chunks ++ stream_end_text) Over all (append_assoc stream_head_text chunks stream_end_text)
+    let carry = lines_carry most few lines all in (
+      stands_at most lines (stream_bytes lines) chunks AtSize all refl carry,
+      stands_at most lines (whole_stream lines) (chunks ++ stream_end_text) Over all (append_assoc stream_head_text chunks stream_end_text)
           (subst (λ c. Carries AtSize (chunks ++ stream_end_text) c Over) (append-nil (lines_bytes lines)) (carries-append AtSize AtSize Over chunks stream_end_text (lines_bytes lines) [] carry end_carries)),
     )

@@ -30,14 +30,18 @@ fn fill_kept<S: Source>(kept: &mut Unread, source: &mut S) -> Result<(), LineNo>
 }
 
 // Moves bytes to the data, as many as there are, until it has `whole`.
-fn move_upto(kept: &mut Unread, data: &mut Vec<u8>, whole: u64) -> Result<(), LineNo>
-    requires { length data.old.items ≤ whole }
-    ensures moves { OnOk result (Moved kept.old data.old.items whole kept.new data.new.items) }
-    ensures same { IfErr result (λ why. (why ≡ LineNo.Memory) × (kept.new ≡ kept.old) × (data.new.items ≡ data.old.items)) }
+fn move_upto(kept: &mut Unread, content: &mut Vec<u8>, whole: u64) -> Result<(), LineNo>
+    requires { length content.old.items ≤ whole }
+    ensures moves { OnOk result (Moved kept.old content.old.items whole kept.new content.new.items) }
+    ensures same { IfErr result (λ why. (why ≡ LineNo.Memory) × (kept.new ≡ kept.old) × (content.new.items ≡ content.old.items)) }
 {
-    let n = (kept.bytes().len() as u64).min(whole - data.len() as u64) as usize;
-    if data.extend_from_slice(&kept.bytes()[..n]).is_err() {
-        return Err(LineNo::Memory);
+    let n = kept
+        .bytes()
+        .len()
+        .min((whole - content.len() as u64) as usize);
+    match content.extend_from_slice(&kept.bytes()[..n]) {
+        Ok(()) => {}
+        Err(_) => return Err(LineNo::Memory),
     }
     kept.consume(n);
     Ok(())
@@ -47,18 +51,18 @@ fn move_upto(kept: &mut Unread, data: &mut Vec<u8>, whole: u64) -> Result<(), Li
 fn read_counted<S: Source>(
     kept: &mut Unread,
     source: &mut S,
-    data: &mut Vec<u8>,
+    content: &mut Vec<u8>,
     size: u64,
 ) -> Result<(), LineNo>
-    requires { data.old.items ≡ [] }
+    requires { content.old.items ≡ [] }
     ensures reads { (taken : List ℕ) × (S.left source.old ≡ prepended taken (S.left source.new))
-        × ReadsCounted size (kept.old ++ taken) data.new.items kept.new (S.left source.new) result }
+        × ReadsCounted size (kept.old ++ taken) content.new.items kept.new (S.left source.new) result }
     ensures counted { Counts result (S.faults source.old) (S.faults source.new) }
 {
-    move_upto(kept, data, size)?;
-    while (data.len() as u64) < size {
+    move_upto(kept, content, size)?;
+    while (content.len() as u64) < size {
         fill_kept(kept, source)?;
-        move_upto(kept, data, size)?;
+        move_upto(kept, content, size)?;
     }
     Ok(())
 }
@@ -81,14 +85,14 @@ fn pass(kept: &mut Unread, frame: Frame) -> Result<Option<Place>, LineNo>
 // Takes data of a chunk of which so much is left.
 fn take_data(
     kept: &mut Unread,
-    data: &mut Vec<u8>,
+    content: &mut Vec<u8>,
     size: u64,
     limit: u64,
 ) -> Result<Option<Place>, LineNo>
     requires { 0 < size }
-    ensures { StepsChunk limit (Place.Inside size) kept.old data.old.items result kept.new data.new.items }
+    ensures { StepsChunk limit (Place.Inside size) kept.old content.old.items result kept.new content.new.items }
 {
-    let here = data.len() as u64;
+    let here = content.len() as u64;
     if size > limit.saturating_sub(here) {
         return Err(LineNo::Overlong);
     }
@@ -96,19 +100,19 @@ fn take_data(
         return Ok(None);
     }
     let whole = here + size;
-    move_upto(kept, data, whole)?;
-    Ok(Some(Place::Inside(whole - data.len() as u64)))
+    move_upto(kept, content, whole)?;
+    Ok(Some(Place::Inside(whole - content.len() as u64)))
 }
 
 // Goes one step on in a body in chunks, in the bytes that are kept.
 fn step(
     kept: &mut Unread,
     place: Place,
-    data: &mut Vec<u8>,
+    content: &mut Vec<u8>,
     limit: u64,
 ) -> Result<Option<Place>, LineNo>
     requires { place ≢ Place.Over }
-    ensures { StepsChunk limit place kept.old data.old.items result kept.new data.new.items }
+    ensures { StepsChunk limit place kept.old content.old.items result kept.new content.new.items }
 {
     match place {
         Place::AtSize => {
@@ -119,7 +123,7 @@ fn step(
             let frame = look_behind_data(kept.bytes());
             pass(kept, frame)
         }
-        Place::Inside(size) => take_data(kept, data, size, limit),
+        Place::Inside(size) => take_data(kept, content, size, limit),
         Place::Last => {
             let frame = look_behind_last(kept.bytes());
             pass(kept, frame)
@@ -132,12 +136,12 @@ fn step(
 fn read_chunks<S: Source>(
     kept: &mut Unread,
     source: &mut S,
-    data: &mut Vec<u8>,
+    content: &mut Vec<u8>,
     limit: u64,
 ) -> Result<(), LineNo>
-    requires { data.old.items ≡ [] }
+    requires { content.old.items ≡ [] }
     ensures reads { (taken : List ℕ) × (S.left source.old ≡ prepended taken (S.left source.new))
-        × ReadsChunks limit (kept.old ++ taken) data.new.items kept.new (S.left source.new) result }
+        × ReadsChunks limit (kept.old ++ taken) content.new.items kept.new (S.left source.new) result }
     ensures counted { Counts result (S.faults source.old) (S.faults source.new) }
 {
     let mut place = Place::AtSize;
@@ -145,7 +149,7 @@ fn read_chunks<S: Source>(
         if let Place::Over = place {
             return Ok(());
         }
-        match step(kept, place, data, limit) {
+        match step(kept, place, content, limit) {
             Ok(Some(to)) => place = to,
             Ok(None) => fill_kept(kept, source)?,
             Err(why) => return Err(why),
@@ -157,19 +161,19 @@ fn read_chunks<S: Source>(
 fn read_rest<S: Source>(
     kept: &mut Unread,
     source: &mut S,
-    data: &mut Vec<u8>,
+    content: &mut Vec<u8>,
     framing: Framing,
     limit: u64,
 ) -> Result<(), LineNo>
-    requires { data.old.items ≡ [] }
+    requires { content.old.items ≡ [] }
     ensures reads { (taken : List ℕ) × (S.left source.old ≡ prepended taken (S.left source.new))
-        × ReadsRest limit framing (kept.old ++ taken) data.new.items kept.new (S.left source.new) result }
+        × ReadsRest limit framing (kept.old ++ taken) content.new.items kept.new (S.left source.new) result }
     ensures counted { Counts result (S.faults source.old) (S.faults source.new) }
 {
     match framing {
         Framing::Counted(size) if size > limit => Err(LineNo::Overlong),
-        Framing::Counted(size) => read_counted(kept, source, data, size),
-        Framing::Chunked => read_chunks(kept, source, data, limit),
+        Framing::Counted(size) => read_counted(kept, source, content, size),
+        Framing::Chunked => read_chunks(kept, source, content, limit),
     }
 }
 
@@ -188,9 +192,9 @@ pub(crate) fn read_reply<S: Source>(
         Err(why) => return Err(why),
     };
     kept.consume(start);
-    let mut data = Vec::new(kept.allocator());
-    match read_rest(kept, source, &mut data, framing, limit) {
-        Ok(()) => Ok(data),
+    let mut content = Vec::new(kept.allocator());
+    match read_rest(kept, source, &mut content, framing, limit) {
+        Ok(()) => Ok(content),
         Err(why) => Err(why),
     }
 }

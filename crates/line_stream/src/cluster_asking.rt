@@ -57,12 +57,12 @@ pub fn ask_namespace<K: Sink>(sink: &mut K) -> Result<(), AskNo>
 {
     send_pieces(
         sink,
-        &[b"GET /api/v1/namespaces/kube-system", BEHIND_TARGET],
+        &[
+            b"GET /api/v1/namespaces/kube-system",
+            b" HTTP/1.1\r\nHost: localhost\r\nAccept: application/json\r\n\r\n",
+        ],
     )
 }
-
-// What stands behind a request's target.
-const BEHIND_TARGET: &[u8] = b" HTTP/1.1\r\nHost: localhost\r\nAccept: application/json\r\n\r\n";
 
 // The query of a page.
 fn page_form(alloc: Global, token: &str) -> Result<String, Memory>
@@ -97,33 +97,31 @@ fn send_collection<K: Sink>(
     ensures { Asks result (request.collection_request resource ns.now form.now)
         (sent_through K.written K.settled K.faults sink.old sink.new) }
 {
-    let base = resource.base_path().as_bytes();
-    let plural = resource.plural().as_bytes();
     match ns {
         Some(ns) => send_pieces(
             sink,
             &[
                 b"GET ",
-                base,
+                resource.base_path().as_bytes(),
                 b"/namespaces/",
                 ns.as_str().as_bytes(),
                 b"/",
-                plural,
+                resource.plural().as_bytes(),
                 b"?",
                 form.as_bytes(),
-                BEHIND_TARGET,
+                b" HTTP/1.1\r\nHost: localhost\r\nAccept: application/json\r\n\r\n",
             ],
         ),
         None => send_pieces(
             sink,
             &[
                 b"GET ",
-                base,
+                resource.base_path().as_bytes(),
                 b"/",
-                plural,
+                resource.plural().as_bytes(),
                 b"?",
                 form.as_bytes(),
-                BEHIND_TARGET,
+                b" HTTP/1.1\r\nHost: localhost\r\nAccept: application/json\r\n\r\n",
             ],
         ),
     }

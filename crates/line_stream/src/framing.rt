@@ -1,6 +1,8 @@
 //! How the body of a reply is framed.
 
-ghost use Rattle.std.specs.Prelude.{◌≡◌, Some, IsTrue, List, ℕ, All, map, length, option_and_then, codes};
+ghost use Rattle.std.specs.Prelude.{◌≡◌, All, map, length, option_and_then, codes};
+ghost use Rattle.std.specs.Char.{is_ascii_digit};
+ghost use Rattle.std.specs.List.{list_all};
 ghost use Rattle.std.specs.Option.{option_map};
 ghost use Rattle.httparse.specs.Spans.{IsHeaderWithin, header_bytes};
 ghost use Rattle.http_read.specs.Heads.{values_of};
@@ -33,11 +35,24 @@ fn is_unsaid(bytes: &[u8], fields: &[HeaderSpan], name: &[u8]) -> bool
     true
 }
 
+// Whether each byte is a digit.
+fn are_digits(value: &[u8]) -> bool
+    ensures { result ≡ list_all is_ascii_digit value.now }
+{
+    value.iter().all(|b| b.is_ascii_digit())
+}
+
 // Whether a length is written so.
 fn is_length(value: &[u8]) -> bool
     ensures { result ≡ head.is_length value.now }
 {
-    !value.is_empty() && value.len() <= 15 && value.iter().all(|b| b.is_ascii_digit())
+    if value.is_empty() {
+        return false;
+    }
+    if value.len() > 15 {
+        return false;
+    }
+    are_digits(value)
 }
 
 // The length that a Content-Length field gives.
@@ -58,7 +73,10 @@ fn counted(value: Option<&[u8]>) -> Option<Framing>
     ensures { result ≡ option_map (λ n. Framing.Counted n) (option_and_then head.length_value (option_map (λ value. value.now) value)) }
 {
     match value {
-        Some(value) => length_value(value).map(Framing::Counted),
+        Some(value) => match length_value(value) {
+            Some(size) => Some(Framing::Counted(size)),
+            None => None,
+        },
         None => None,
     }
 }

@@ -1,0 +1,11 @@
+use Rattle.std.proofs.Common.{ℕ, List, ◌-◌, ◌++◌, length, take, min, ap, ◌∙◌}
+use Rattle.line_stream.proofs.BodyLemmas.{moved}
+use Rattle.line_stream.proofs.bodies.move_upto.Goals as goal
+
+pub returns-clause-moves : goal.returns-clause-moves
+returns-clause-moves c =
+    let n : ℕ = c.min-n.result in
+    moved c.args.kept.now c.args.content.now.items c.args.whole n _ _ c.requires
+    (c.min-n.ensures ∙ ap (λ (l : List ℕ). min (length l) (c.args.whole - length c.args.content.now.items)) c.bytes.ensures)
+    c.consume.ensures
+    (c.in-Ok.ensures.items ∙ ap (λ l. c.args.content.now.items ++ take n l) c.bytes-2.ensures)
