@@ -4,6 +4,7 @@ use Rattle.kube_meta.specs.Rows.{RowData}
 use Rattle.kube_meta.specs.declared.resources.Resource.TheVariants.{Pods}
 use Rattle.select_all.specs.declared.selection.Kind.TheVariants.{Added}
 use Rattle.mirror_link.specs.Reading.{AreTexts, most_opening}
+use Rattle.line_stream.specs.Readers.{most_line}
 use Rattle.line_stream.specs.Streams.{ReadingsAgree}
 use Rattle.watch_lines.specs.Laws.{LinesAreOne, as_read}
 use Rattle.watch_lines.specs.Lines.{IsPeerLine}
@@ -48,7 +49,7 @@ texts_one one (t ∷ a) (u ∷ b) later (row ∷ rows) (o ∷ others) base other
     (ap (λ r. r ∷ others) (row_of row o line) ∙ ap (λ l. row ∷ l) rest.0, rest.1)
 
 pub openings_are_one : LinesAreOne → ReadingsAgree → OpeningsAreOne
-openings_are_one one agree bytes more first second x y = elim (agree x.texts y.texts (Some most_opening) (Some most_opening) bytes more x.reader y.reader x.stands y.stands) [
+openings_are_one one agree bytes more first second x y = elim (agree x.texts y.texts (Some most_opening) (Some most_opening) most_line most_line bytes more x.reader y.reader x.stands y.stands) [
   | inl behind ↦ texts_one one x.texts y.texts behind.0 first.rows second.rows first.base second.base x.texts_are y.texts_are behind.1
   | inr behind ↦
       let same = texts_one one y.texts x.texts behind.0 second.rows first.rows second.base first.base y.texts_are x.texts_are behind.1 in

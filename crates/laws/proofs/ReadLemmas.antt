@@ -1,10 +1,11 @@
 -- The stream of a watch, read.
-use Rattle.std.proofs.Common.{◌≡◌, ◌≢◌, ℕ, Bool, true, false, List, [], ◌∷◌, ◌++◌, get_or, map, All, refl, sym, ap, ◌∙◌, subst, append_assoc, append-nil}
+use Rattle.std.proofs.Common.{◌≡◌, ◌≢◌, ℕ, Bool, true, false, List, [], ◌∷◌, ◌++◌, get_or, map, All, refl, sym, ap, ◌∙◌, subst, append_assoc, append-nil, arith}
 use Rattle.std.specs.Prelude.{◌||◌}
 use Rattle.std.specs.List.{AllByRecursion, flat_map, list_any}
 use Rattle.std.proofs.lemmas.List.Elements.{All-from_recursion, All-map}
 use Rattle.http_send.specs.Replies.{stream_head_text, chunk_text, stream_end_text}
 use Rattle.kube_meta.specs.declared.resources.Resource.{Resource}
+use Rattle.line_stream.specs.Readers.{most_line}
 use Rattle.line_stream.specs.Standing.{IsLine as IsReadLine}
 use Rattle.meta_view.specs.declared.form.Form.TheVariants.{Whole}
 use Rattle.rev_log.specs.Logs.{Log}
@@ -38,13 +39,13 @@ within (b ∷ text) none = (λ same. feed b text same none, within text (rest b 
     rest : (b : ℕ) (text : List ℕ) → HasNoLineFeed (b ∷ text) → HasNoLineFeed text
     rest b text none = either (is_line_feed b) (list_any is_line_feed text) none
 
-readable : LinesReadBack → TextsHaveNoLineFeed → (resource : Resource) (line : Line) → MayBeRead resource line → IsReadLine (line_text Whole resource line)
+readable : LinesReadBack → TextsHaveNoLineFeed → (resource : Resource) (line : Line) → MayBeRead resource line → IsReadLine most_line (line_text Whole resource line)
 readable back feeds resource line may =
     let text : List ℕ = line_text Whole resource line in
     (All-from_recursion (λ (b : ℕ). b ≢ 10) text (within text (feeds resource text (as_read line) ((back resource line (as_read line) may.0).1 refl))), may.1)
 
-all_readable : LinesReadBack → TextsHaveNoLineFeed → (resource : Resource) (lines : List Line) → All (MayBeRead resource) lines → All IsReadLine (map (line_text Whole resource) lines)
-all_readable back feeds resource lines may = All-map IsReadLine (line_text Whole resource) lines (λ k line inside. readable back feeds resource (get_or lines k line) (may k line inside))
+all_readable : LinesReadBack → TextsHaveNoLineFeed → (resource : Resource) (lines : List Line) → All (MayBeRead resource) lines → All (IsReadLine most_line) (map (line_text Whole resource) lines)
+all_readable back feeds resource lines may = All-map (IsReadLine most_line) (line_text Whole resource) lines (λ k line inside. readable back feeds resource (get_or lines k line) (may k line inside))
 
 -- ---- what is written
 
@@ -93,7 +94,7 @@ watches_are_read back feeds terms p opened q ask watch ended room bytes more rea
     let texts : List (List ℕ) = map (line_text Whole resource) lines in
     let whole = written resource lines ended in
     let joined : bytes ++ (more ++ whole.0) ≡ whole_stream texts = begins_whole bytes more whole.0 (stream_text in_chunks resource lines ended) (whole_stream texts) same whole.1 in
-    let first : AreRead texts read reader = streams-read-back texts read room bytes (more ++ whole.0) reader (all_readable back feeds resource lines may) stands joined in
+    let first : AreRead texts read reader = streams-read-back most_line texts read room most_line bytes (more ++ whole.0) reader (omega arith, all_readable back feeds resource lines may) stands joined in
     let begun = first_lines (line_text Whole resource) lines read first.later first.joined in
     let body = turns_are_bodies terms p opened q ask watch start turns in
     let begins : BeginsBody log q.floor terms.window ask body.0.at begun.0 =

@@ -39,5 +39,5 @@ abbrev pub WatchesAreRead : Type 0
 WatchesAreRead =
     (terms : Terms) (p opened q : Pass RevisionData) (ask : WatchAsk) (watch : Turns) (ended : Bool) (room : Option ℕ) (bytes more : List ℕ) (read : List (List ℕ)) (reader : ReaderData) →
     IsWatchStart terms.base p ask watch.begun opened → IsWatchTurns terms ask opened watch q → All (MayBeRead ask.selection.resource) (watch_lines terms ask opened watch) →
-    bytes ++ more ≡ stream_text in_chunks ask.selection.resource (watch_lines terms ask opened watch) ended → Stands room bytes read reader →
+    bytes ++ more ≡ stream_text in_chunks ask.selection.resource (watch_lines terms ask opened watch) ended → Stands room most_line bytes read reader →
     (at : ℕ) × AreOfBody (log_of terms.base q) q.floor terms.window ask at read

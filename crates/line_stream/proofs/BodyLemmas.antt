@@ -1,5 +1,5 @@
 -- How whole bodies are read.
-use Rattle.std.proofs.Common.{◌≡◌, ℕ, ◌+◌, ◌-◌, ◌<◌, ◌≤◌, List, [], ◌∷◌, ◌++◌, None, Some, length, take, drop, refl, sym, ap, subst, ◌∙◌, arith, min, append_assoc, append-nil, length-append, length-drop, length-take-le, take-append-drop, inl, inr}
+use Rattle.std.proofs.Common.{◌≡◌, ℕ, ◌+◌, ◌-◌, ◌<◌, ◌≤◌, List, [], ◌∷◌, ◌++◌, None, Some, length, take, drop, refl, sym, ap, subst, ◌∙◌, arith, min, append_assoc, append-nil, eq-zero-or-pos, length-append, length-drop, length-take-le, take-append-drop, inl, inr}
 use Rattle.std.specs.Prelude.{Option, Result, Ok, Err, ◌==◌}
 use Rattle.std.specs.Result.{result_map_both}
 use Rattle.std.proofs.lemmas.List.{nil_from_length}
@@ -7,13 +7,15 @@ use Rattle.edge_io.specs.Told.{prepended}
 use Rattle.line_stream.specs.Answers.{Counts}
 use Rattle.line_stream.specs.Bodies.{IsInCounted, IsInChunks, ReadsBody}
 use Rattle.line_stream.specs.BodySteps.{FillsKept, Moved, reading_at, PassesFrame, IsWithinFrame, PassesChunk, StepsChunk, StopsChunk, StopsChunks, IsFront, ReadsChunks, ReadsCounted, StopsCounted, ReadsRest}
-use Rattle.line_stream.specs.Chunks.{Carries, piece_bytes}
+use Rattle.line_stream.specs.Chunks.{Carries, piece_bytes, IsOpenAt}
 use Rattle.line_stream.specs.Framings.{BeginsFramed}
 use Rattle.line_stream.specs.Looks.{LooksAtFrame}
 use Rattle.line_stream.specs.Moves.{steps_left}
 use Rattle.line_stream.specs.Steps.{GivesNone}
+use Rattle.line_stream.proofs.FramingLemmas.{framed-append}
+use Rattle.line_stream.proofs.IdleLemmas.{open-few}
 use Rattle.line_stream.proofs.PieceLemmas.{carries-none, carries-one, carries-data, carries-append}
-use Rattle.line_stream.proofs.ReaderLemmas.{frame-moves, inside_least}
+use Rattle.line_stream.proofs.ReaderLemmas.{frame-moves, inside_least, fill-nearer}
 use Rattle.line_stream.specs.declared.chunks.Frame.{Frame}
 use Rattle.line_stream.specs.declared.chunks.Frame.TheVariants as frame
 use Rattle.line_stream.specs.declared.framing.Framing.{Framing}
@@ -48,9 +50,11 @@ module _ (kept content : List ℕ) (whole : ℕ) (later more : List ℕ) (m : Mo
   splits = ap length m.from ∙ length-append m.bytes later
 
   pub some-moved : length content < whole → 0 < length kept → 0 < length m.bytes
-  some-moved room some =
-      let last : length more < whole → length later ≡ 0 = λ less. ap length (m.all less) in
-      omega (arith, grows, splits, room, some, last, m.within)
+  unfolding grows splits
+  some-moved room some = elim (eq-zero-or-pos (length m.bytes)) [
+    | inl none ↦ absurd (omega (arith, grows, splits, some, none, ap length (m.all (omega (arith, grows, none, room)))))
+    | inr went ↦ went
+  ]
 
   pub less-left : length content < whole → 0 < length kept → whole - length more < whole - length content
   less-left room some = omega (arith, some-moved room some, grows, room, m.within)
@@ -76,6 +80,9 @@ pub split-on : (bytes content kept later more : List ℕ) (whole : ℕ) → byte
 split-on bytes content kept later more whole e m =
     e ∙ ap (λ l. content ++ l) m.from ∙ sym (append_assoc content m.bytes later) ∙ ap (λ l. l ++ later) (sym m.to)
 
+pub split-same : (bytes content kept later more : List ℕ) → bytes ≡ content ++ kept → later ≡ kept → more ≡ content → bytes ≡ more ++ later
+split-same bytes content kept later more e l m = e ∙ ap (λ k. content ++ k) (sym l) ∙ ap (λ c. c ++ later) (sym m)
+
 pub stops-counted : (size : ℕ) (content kept : List ℕ) (left : Option (List ℕ)) (before after : ℕ) (why : LineNo) → GivesNone left before after why
     → length content < size → kept ≡ [] → StopsCounted size content kept left why
 stops-counted size content kept left before after BadHead x less none = absurd x
@@ -90,27 +97,27 @@ stops-counted size content kept left before after Memory x less none = tt
 
 -- ---- the counts
 
-pub counts-none : {A : Type 0} (left : Option (List ℕ)) (first before after : ℕ) (why : LineNo) → GivesNone left before after why → before ≡ first → Counts {A} (Err why) first after
-counts-none left first before after BadHead x e = absurd x
-counts-none left first before after (Refused code) x e = absurd x
-counts-none left first before after BadChunk x e = absurd x
-counts-none left first before after Overlong x e = absurd x
-counts-none left first before after Unfinished x e = absurd x
-counts-none left first before after Spent x e = absurd x
-counts-none {A} left first before after CutShort x e = x.1 ∙ e
-counts-none {A} left first before after ReadFault x e = subst (λ (n : ℕ). Counts {A} (Err ReadFault) n after) e x
-counts-none {A} left first before after Memory x e = x ∙ e
+pub counts-none : (A : Type 0) (left : Option (List ℕ)) (first before after : ℕ) (why : LineNo) → GivesNone left before after why → before ≡ first → Counts {A = A} (Err why) first after
+counts-none A left first before after BadHead x e = absurd x
+counts-none A left first before after (Refused code) x e = absurd x
+counts-none A left first before after BadChunk x e = absurd x
+counts-none A left first before after Overlong x e = absurd x
+counts-none A left first before after Unfinished x e = absurd x
+counts-none A left first before after Spent x e = absurd x
+counts-none A left first before after CutShort x e = x.1 ∙ e
+counts-none A left first before after ReadFault x e = subst (λ (n : ℕ). Counts {A = A} (Err ReadFault) n after) e x
+counts-none A left first before after Memory x e = x ∙ e
 
-pub counts-as : {A B : Type 0} (first before after : ℕ) (why : LineNo) → Counts {A} (Err why) before after → before ≡ first → Counts {B} (Err why) first after
-counts-as first before after BadHead x e = x ∙ e
-counts-as first before after (Refused code) x e = x ∙ e
-counts-as first before after BadChunk x e = x ∙ e
-counts-as first before after Overlong x e = x ∙ e
-counts-as first before after Unfinished x e = x ∙ e
-counts-as first before after Spent x e = x ∙ e
-counts-as first before after CutShort x e = x ∙ e
-counts-as {A} {B} first before after ReadFault x e = subst (λ (n : ℕ). Counts {B} (Err ReadFault) n after) e x
-counts-as first before after Memory x e = x ∙ e
+pub counts-as : (A B : Type 0) (first before after : ℕ) (why : LineNo) → Counts {A = A} (Err why) before after → before ≡ first → Counts {A = B} (Err why) first after
+counts-as A B first before after BadHead x e = x ∙ e
+counts-as A B first before after (Refused code) x e = x ∙ e
+counts-as A B first before after BadChunk x e = x ∙ e
+counts-as A B first before after Overlong x e = x ∙ e
+counts-as A B first before after Unfinished x e = x ∙ e
+counts-as A B first before after Spent x e = x ∙ e
+counts-as A B first before after CutShort x e = x ∙ e
+counts-as A B first before after ReadFault x e = subst (λ (n : ℕ). Counts {A = B} (Err ReadFault) n after) e x
+counts-as A B first before after Memory x e = x ∙ e
 
 -- ---- a body in chunks
 
@@ -141,14 +148,14 @@ frame-steps limit place kept content frame.Refused answer later look pass =
     let rests : StepsChunk limit place kept content (Err BadChunk) later content = (pass.1, refl, look) in
     subst (λ a. StepsChunk limit place kept content a later content) (sym pass.0) rests
 
-pub data-passes : (limit size : ℕ) (kept content later more : List ℕ) → 0 < size → length content + size ≤ limit → 0 < length kept
-    → Moved kept content (length content + size) later more → PassesChunk limit (Inside size) kept content (Inside (length content + size - length more)) later more
-data-passes limit size kept content later more some fits here m =
-    let left : ℕ = length content + size - length more in
-    let grown = ap length m.to ∙ length-append content m.bytes in
-    let parts = ap length m.from ∙ length-append m.bytes later in
-    let went : 0 < length m.bytes = some-moved kept content (length content + size) later more m (omega (arith, some)) here in
-    let split : length m.bytes + left ≡ size = omega (arith, grown, m.within) in
+pub data-passes : (limit size here now : ℕ) (kept content later more : List ℕ) → here ≡ length content → now ≡ length more → 0 < size → here + size ≤ limit → 0 < length kept
+    → Moved kept content (here + size) later more → PassesChunk limit (Inside size) kept content (Inside (here + size - now)) later more
+data-passes limit size here now kept content later more here_is now_is some fits stands m =
+    let left : ℕ = here + size - now in
+    let grown : length more ≡ length content + length m.bytes = ap length m.to ∙ length-append content m.bytes in
+    let parts : length kept ≡ length m.bytes + length later = ap length m.from ∙ length-append m.bytes later in
+    let went : 0 < length m.bytes = some-moved kept content (here + size) later more m (omega (arith, some, here_is)) stands in
+    let split : length m.bytes + left ≡ size = omega (arith, grown, m.within, here_is, now_is) in
     let least = inside_least left (left == 0) refl in
     let before = inside_least size (size == 0) refl in record {
       framed = m.bytes;
@@ -157,7 +164,7 @@ data-passes limit size kept content later more some fits here m =
       carries = subst (λ (n : ℕ). Carries (Inside n) m.bytes m.bytes (Inside left)) split (carries-data m.bytes left);
       grown = m.to;
       short = λ h. omega (arith, m.within, fits);
-      nearer = omega (arith, went, fits, m.within, grown, parts, least.1, before.0);
+      nearer = omega (arith, went, fits, m.within, grown, parts, here_is, least.1, before.0);
     }
 
 pub front-first : (kept content : List ℕ) → content ≡ [] → IsFront (kept ++ []) content kept AtSize
@@ -174,6 +181,15 @@ front-on limit bytes content kept later more place to x y = record {
   joined = x.joined ∙ ap (λ l. x.framed ++ l) y.bytes ∙ sym (append_assoc x.framed y.framed later);
   carries = subst (λ c. Carries AtSize (x.framed ++ y.framed) c to) (sym y.grown) (carries-append AtSize place to x.framed y.framed content y.taken x.carries y.carries);
 }
+
+-- each byte that is read brings the end of the body nearer
+pub fill-brings : (limit : ℕ) (place : Place) (kept content came filled more : List ℕ) → IsOpenAt place kept → 0 < length came → filled ≡ kept ++ came → more ≡ content
+    → steps_left (reading_at limit place filled more) < steps_left (reading_at limit place kept content)
+fill-brings limit place kept content came filled more opens some f m =
+    let before : ℕ = steps_left (reading_at limit place kept content) in
+    subst (λ k. steps_left (reading_at limit place k more) < before) (sym f)
+    (subst (λ d. steps_left (reading_at limit place (kept ++ came) d) < before) (sym m)
+    (fill-nearer (reading_at limit place kept content) came (open-few place kept opens) some))
 
 -- more bytes were taken
 pub front-more : (first taken came content kept filled : List ℕ) (place : Place) → IsFront (first ++ taken) content kept place → filled ≡ kept ++ came
@@ -204,17 +220,17 @@ stops-chunk limit place kept content later more left CutShort l m x = absurd x
 stops-chunk limit place kept content later more left ReadFault l m x = absurd x
 stops-chunk limit place kept content later more left Memory l m x = tt
 
-pub counts-chunk : {A : Type 0} (limit : ℕ) (place : Place) (kept content : List ℕ) (before after : ℕ) (why : LineNo) → StopsChunk limit place kept content why → after ≡ before
-    → Counts {A} (Err why) before after
-counts-chunk limit place kept content before after BadHead x e = absurd x
-counts-chunk limit place kept content before after (Refused code) x e = absurd x
-counts-chunk limit place kept content before after BadChunk x e = e
-counts-chunk limit place kept content before after Overlong x e = e
-counts-chunk limit place kept content before after Unfinished x e = absurd x
-counts-chunk limit place kept content before after Spent x e = absurd x
-counts-chunk limit place kept content before after CutShort x e = absurd x
-counts-chunk limit place kept content before after ReadFault x e = absurd x
-counts-chunk limit place kept content before after Memory x e = e
+pub counts-chunk : (A : Type 0) (limit : ℕ) (place : Place) (kept content : List ℕ) (before after : ℕ) (why : LineNo) → StopsChunk limit place kept content why → after ≡ before
+    → Counts {A = A} (Err why) before after
+counts-chunk A limit place kept content before after BadHead x e = absurd x
+counts-chunk A limit place kept content before after (Refused code) x e = absurd x
+counts-chunk A limit place kept content before after BadChunk x e = e
+counts-chunk A limit place kept content before after Overlong x e = e
+counts-chunk A limit place kept content before after Unfinished x e = absurd x
+counts-chunk A limit place kept content before after Spent x e = absurd x
+counts-chunk A limit place kept content before after CutShort x e = absurd x
+counts-chunk A limit place kept content before after ReadFault x e = absurd x
+counts-chunk A limit place kept content before after Memory x e = e
 
 -- the source has no more
 pub stops-open : (limit : ℕ) (place : Place) (kept content : List ℕ) (left : Option (List ℕ)) (before after : ℕ) (why : LineNo) → GivesNone left before after why
@@ -280,3 +296,18 @@ module _ (limit : ℕ) (bytes body content kept : List ℕ) (left : Option (List
       (inr (inl (size, record { body = body; begins = begins; joined = sym x.2 }, x.1)))
   body-stops (Counted size) why begins (inr x) = counted_stops size why (counted-read size begins x.0) x.1
   body-stops Chunked why begins x = chunks_stop x.0 why (chunks-read x.0 begins x.1) x.2
+
+-- the head and the body one behind the other
+module _ (limit start : ℕ) (first taken came bytes body content kept : List ℕ) (left : Option (List ℕ)) (framing : Framing)
+    (bytes_are : bytes ≡ first ++ taken) (body_is : body ≡ drop start bytes) (begins : BeginsFramed bytes framing (drop start bytes)) where
+  all : first ++ (taken ++ came) ≡ bytes ++ came
+  all = sym (append_assoc first taken came) ∙ ap (λ l. l ++ came) (sym bytes_are)
+
+  begun : BeginsFramed (bytes ++ came) framing (body ++ came)
+  begun = framed-append bytes body came framing (subst (BeginsFramed bytes framing) (sym body_is) begins)
+
+  pub reply-read : (u : Unit {0}) → ReadsRest limit framing (body ++ came) content kept left (Ok u) → ReadsBody limit (first ++ (taken ++ came)) kept left (Ok content)
+  reply-read u x = subst (λ b. ReadsBody limit b kept left (Ok content)) (sym all) (body-read limit (bytes ++ came) (body ++ came) content kept left framing u begun x)
+
+  pub reply-stops : (why : LineNo) → ReadsRest limit framing (body ++ came) content kept left (Err why) → ReadsBody limit (first ++ (taken ++ came)) kept left (Err why)
+  reply-stops why x = subst (λ b. ReadsBody limit b kept left (Err why)) (sym all) (body-stops limit (bytes ++ came) (body ++ came) content kept left framing why begun x)

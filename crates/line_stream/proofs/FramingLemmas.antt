@@ -55,15 +55,15 @@ module _ (codings lengths : List (List ℕ)) where
       ap (λ (b : Bool). cond b (Some Chunked) (cond (are_unsaid codings) (option_map Counted (option_and_then length_value (only lengths))) None)) is
 
   pub said-otherwise : false ≡ is_chunks (only codings) → false ≡ are_unsaid codings → None ≡ framing_said codings lengths
-  said-otherwise no other =
+  said-otherwise unlike other =
       ap (λ (b : Bool). cond b (option_map Counted (option_and_then length_value (only lengths))) None) other
-      ∙ ap (λ (b : Bool). cond b (Some Chunked) (cond (are_unsaid codings) (option_map Counted (option_and_then length_value (only lengths))) None)) no
+      ∙ ap (λ (b : Bool). cond b (Some Chunked) (cond (are_unsaid codings) (option_map Counted (option_and_then length_value (only lengths))) None)) unlike
 
   pub said-length : false ≡ is_chunks (only codings) → true ≡ are_unsaid codings
       → option_map Counted (option_and_then length_value (only lengths)) ≡ framing_said codings lengths
-  said-length no none =
+  said-length unlike none =
       ap (λ (b : Bool). cond b (option_map Counted (option_and_then length_value (only lengths))) None) none
-      ∙ ap (λ (b : Bool). cond b (Some Chunked) (cond (are_unsaid codings) (option_map Counted (option_and_then length_value (only lengths))) None)) no
+      ∙ ap (λ (b : Bool). cond b (Some Chunked) (cond (are_unsaid codings) (option_map Counted (option_and_then length_value (only lengths))) None)) unlike
 
 -- ---- a length
 

@@ -82,16 +82,19 @@ fn pass(kept: &mut Unread, frame: Frame) -> Result<Option<Place>, LineNo>
     }
 }
 
-// Takes data of a chunk of which so much is left.
-fn take_data(
+// Goes one step on in a chunk of which so much is left: takes data, or what stands behind it.
+fn step_inside(
     kept: &mut Unread,
     content: &mut Vec<u8>,
     size: u64,
     limit: u64,
 ) -> Result<Option<Place>, LineNo>
-    requires { 0 < size }
     ensures { StepsChunk limit (Place.Inside size) kept.old content.old.items result kept.new content.new.items }
 {
+    if size == 0 {
+        let frame = look_behind_data(kept.bytes());
+        return pass(kept, frame);
+    }
     let here = content.len() as u64;
     if size > limit.saturating_sub(here) {
         return Err(LineNo::Overlong);
@@ -119,11 +122,7 @@ fn step(
             let frame = look_at_size(kept.bytes());
             pass(kept, frame)
         }
-        Place::Inside(0) => {
-            let frame = look_behind_data(kept.bytes());
-            pass(kept, frame)
-        }
-        Place::Inside(size) => take_data(kept, content, size, limit),
+        Place::Inside(size) => step_inside(kept, content, size, limit),
         Place::Last => {
             let frame = look_behind_last(kept.bytes());
             pass(kept, frame)

@@ -88,11 +88,11 @@ fn changes_form(alloc: Global, from: u64) -> Result<String, Memory>
 }
 
 // Writes a request for the objects of a resource, and sends it on.
-fn send_collection<K: Sink>(
+fn send_collection<'x, K: Sink>(
     sink: &mut K,
     resource: Resource,
-    ns: &Option<Text>,
-    form: &str,
+    ns: &'x Option<Text>,
+    form: &'x str,
 ) -> Result<(), AskNo>
     ensures { Asks result (request.collection_request resource ns.now form.now)
         (sent_through K.written K.settled K.faults sink.old sink.new) }

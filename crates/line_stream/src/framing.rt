@@ -1,6 +1,6 @@
 //! How the body of a reply is framed.
 
-ghost use Rattle.std.specs.Prelude.{◌≡◌, All, map, length, option_and_then, codes};
+ghost use Rattle.std.specs.Prelude.{◌≡◌, All, map, length, codes};
 ghost use Rattle.std.specs.Char.{is_ascii_digit};
 ghost use Rattle.std.specs.List.{list_all};
 ghost use Rattle.std.specs.Option.{option_map};
@@ -68,15 +68,12 @@ fn length_value(value: &[u8]) -> Option<u64>
     }
 }
 
-// The framing by a length, where one is given.
-fn counted(value: Option<&[u8]>) -> Option<Framing>
-    ensures { result ≡ option_map (λ n. Framing.Counted n) (option_and_then head.length_value (option_map (λ value. value.now) value)) }
+// The framing by a length, where a field gives one.
+fn counted(value: &[u8]) -> Option<Framing>
+    ensures { result ≡ option_map (λ n. Framing.Counted n) (head.length_value value.now) }
 {
-    match value {
-        Some(value) => match length_value(value) {
-            Some(size) => Some(Framing::Counted(size)),
-            None => None,
-        },
+    match length_value(value) {
+        Some(size) => Some(Framing::Counted(size)),
         None => None,
     }
 }
@@ -93,5 +90,8 @@ pub(crate) fn framing_of(bytes: &[u8], fields: &[HeaderSpan]) -> Option<Framing>
     if !is_unsaid(bytes, fields, b"transfer-encoding") {
         return None;
     }
-    counted(only_value(bytes, fields, b"content-length"))
+    match only_value(bytes, fields, b"content-length") {
+        Some(value) => counted(value),
+        None => None,
+    }
 }

@@ -6,12 +6,15 @@ use crate::words::text_of;
 use case_rows::{Steps, Wording};
 use edge_io::MemSource;
 use kube_meta::{Memory, Resource};
-use line_stream::{LineReader, Step};
+use line_stream::{LineReader, MOST_LINE, Step};
 use std::alloc::Global;
 use watch_lines::{PeerLine, read_line};
 
 /// How much data is read where a row doesn't say it.
 const ROOM: u64 = 1 << 30;
+
+/// The most bytes of a line where a row doesn't say it.
+const MOST: u64 = MOST_LINE as u64;
 
 /// Bytes in words, read as lines of a watch of pods.
 #[derive(Drop)]
@@ -22,25 +25,42 @@ impl Steps for Streams {
         if let Some(words) = step.strip_prefix("CUT ") {
             return cut(alloc, text_of(alloc, words)?.as_bytes(), told);
         }
-        let (room, words) = room_of(step);
-        read_both(alloc, text_of(alloc, words)?.as_bytes(), room, told)
+        if let Some((limit, words)) = number_in(step, "BODY:") {
+            return bodies(alloc, text_of(alloc, words)?.as_bytes(), limit, told);
+        }
+        if let Some((most, words)) = number_in(step, "LINE:") {
+            return lines(alloc, text_of(alloc, words)?.as_bytes(), ROOM, most, told);
+        }
+        let (room, words) = number_in(step, "ROOM:").unwrap_or((ROOM, step));
+        lines(alloc, text_of(alloc, words)?.as_bytes(), room, MOST, told)
     }
 }
 
-// The room that a step says, and its words.
-fn room_of(step: &str) -> (u64, &str) {
-    if let Some((said, words)) = step.split_once(' ') {
-        if let Some(room) = said.strip_prefix("ROOM:") {
-            return (room.parse::<u64>().unwrap_or(ROOM), words);
-        }
-    }
-    (ROOM, step)
+// The number that a step begins with, under this name, and its words.
+fn number_in<'a>(step: &'a str, name: &str) -> Option<(u64, &'a str)> {
+    let (said, words) = step.split_once(' ')?;
+    let number = said.strip_prefix(name)?.parse::<u64>().ok()?;
+    Some((number, words))
 }
 
 // The lines of some bytes that come at once; and of the same that come one by one, where these are others.
-fn read_both(alloc: Global, bytes: &[u8], room: u64, told: &mut Wording) -> Result<(), Memory> {
-    let fast = read(alloc, bytes, room, 65536)?;
-    let slow = read(alloc, bytes, room, 1)?;
+fn lines(
+    alloc: Global,
+    bytes: &[u8],
+    room: u64,
+    most: u64,
+    told: &mut Wording,
+) -> Result<(), Memory> {
+    let fast = read(alloc, bytes, room, most, 65536)?;
+    let slow = read(alloc, bytes, room, most, 1)?;
+    tell_both(fast.as_str(), slow.as_str(), told);
+    Ok(())
+}
+
+// The same of whole bodies.
+fn bodies(alloc: Global, bytes: &[u8], limit: u64, told: &mut Wording) -> Result<(), Memory> {
+    let fast = read_bodies(alloc, bytes, limit, 65536)?;
+    let slow = read_bodies(alloc, bytes, limit, 1)?;
     tell_both(fast.as_str(), slow.as_str(), told);
     Ok(())
 }
@@ -53,13 +73,35 @@ pub fn tell_both(fast: &str, slow: &str, told: &mut Wording) {
     }
 }
 
-// The lines of some bytes, and how they end.
-fn read(alloc: Global, bytes: &[u8], room: u64, step: usize) -> Result<String, Memory>
+// The bodies of replies one behind the other, and why no further one stands there.
+fn read_bodies(alloc: Global, bytes: &[u8], limit: u64, step: usize) -> Result<String, Memory>
     requires { 0 < step }
 {
     let mut told = Wording::new(alloc);
     let mut source = MemSource::new(bytes.to_vec(alloc)?, step, Vec::new(alloc));
-    let mut reader = LineReader::open(alloc, room);
+    let mut reader = LineReader::open(alloc, 0, 0);
+    for _ in 0..bytes.len() {
+        match reader.read_body(&mut source, limit) {
+            Ok(body) => {
+                told.add(str::from_utf8(body.as_slice()).unwrap_or("bytes"));
+                told.add("; ");
+            }
+            Err(why) => {
+                told.debug(&why);
+                return told.whole();
+            }
+        }
+    }
+    told.whole()
+}
+
+// The lines of some bytes, and how they end.
+fn read(alloc: Global, bytes: &[u8], room: u64, most: u64, step: usize) -> Result<String, Memory>
+    requires { 0 < step }
+{
+    let mut told = Wording::new(alloc);
+    let mut source = MemSource::new(bytes.to_vec(alloc)?, step, Vec::new(alloc));
+    let mut reader = LineReader::open(alloc, room, most as usize);
     match reader.read_head(&mut source) {
         Ok(()) => tell_lines(alloc, &mut reader, &mut source, bytes.len(), &mut told)?,
         Err(why) => told.debug(&why),
@@ -107,10 +149,10 @@ fn tell_line(line: &Option<PeerLine>, told: &mut Wording) {
 
 // How often the bytes, cut somewhere, aren't read as a beginning of their lines, and then as cut short.
 fn cut(alloc: Global, bytes: &[u8], told: &mut Wording) -> Result<(), Memory> {
-    let whole = read(alloc, bytes, ROOM, 65536)?;
+    let whole = read(alloc, bytes, ROOM, MOST, 65536)?;
     let mut others = 0u64;
     for n in 0..bytes.len() {
-        let part = read(alloc, &bytes[..n], ROOM, 65536)?;
+        let part = read(alloc, &bytes[..n], ROOM, MOST, 65536)?;
         if !begins(whole.as_str(), part.as_str()) {
             others = others.saturating_add(1);
         }

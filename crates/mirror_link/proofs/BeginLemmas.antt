@@ -4,7 +4,7 @@ use Rattle.line_stream.specs.Requests.{request_text}
 use Rattle.line_stream.specs.declared.start.Start.TheVariants.{Revision}
 use Rattle.kube_meta.specs.Rows.{RowData}
 use Rattle.line_stream.specs.Heads.{AnswersHead, BeginsChunks, RefusesResponse, at_body}
-use Rattle.line_stream.specs.Readers.{LinesData}
+use Rattle.line_stream.specs.Readers.{LinesData, most_line}
 use Rattle.line_stream.specs.declared.refusal.LineNo.{LineNo}
 use Rattle.mirror_law.specs.Following.{Follows}
 use Rattle.mirror_law.specs.Mirrors.{opened_log}
@@ -24,11 +24,11 @@ use Rattle.mirror_link.proofs.HearLemmas.{follows_as}
 
 -- ---- the head of the stream
 
-module _ (old new : LinesData) (taken : List ℕ) (left : Option (List ℕ)) (empty : old.at.kept ≡ []) (unbound : old.at.room ≡ None) where
+module _ (old new : LinesData) (taken : List ℕ) (left : Option (List ℕ)) (empty : old.at.kept ≡ []) (unbound : old.at.room ≡ None) (limit : old.at.most ≡ most_line) where
   -- a chunked body begins
   pub begins : (u : Unit {0}) → AnswersHead old (old.at.kept ++ taken) new left (Ok u) → Begins taken left (Ok u) new.at
   begins u (after, chunks, is) =
-      (after, subst (λ (kept : List ℕ). BeginsChunks (kept ++ taken) after) empty chunks, ap (λ (r : LinesData). r.at) is ∙ ap (λ (room : Option ℕ). at_body room after) unbound)
+      (after, subst (λ (kept : List ℕ). BeginsChunks (kept ++ taken) after) empty chunks, ap (λ (r : LinesData). r.at) is ∙ ap (λ (room : Option ℕ). at_body room old.at.most after) unbound ∙ ap (λ (most : ℕ). at_body None most after) limit)
 
   -- none does
   pub begins_none : (fault : LineNo) (why : LinkNo) → why ≡ reading_refusal fault → AnswersHead old (old.at.kept ++ taken) new left (Err fault) → Begins taken left (Err why) new.at

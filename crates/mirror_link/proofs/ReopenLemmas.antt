@@ -54,6 +54,7 @@ stays_mirror label field log reading answer given after mirror rests = record {
   namespace = subst (λ (s : Selection). IfSome s.ns IsNamespace) (sym rests.selection) mirror.namespace;
   some = subst (λ (l : Log). 1 ≤ l.first) (sym rests.log) mirror.some;
   unbound = mirror.unbound;
+  limit = mirror.limit;
 }
 
 module _ (label field : List ℕ) (log : MirrorLogData) (reading : ReaderData) (answer : Option (Result Heard LinkNo)) (old : MirrorData)

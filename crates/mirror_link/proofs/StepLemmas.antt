@@ -11,7 +11,7 @@ use Rattle.edge_io.proofs.ToldLemmas.{prepended-prepended}
 use Rattle.line_stream.specs.Heads.{AnswersHead, BeginsChunks, RefusesResponse, at_body}
 use Rattle.line_stream.specs.declared.refusal.LineNo.{LineNo}
 use Rattle.mirror_link.specs.OpeningRefusals.{reading_refusal}
-use Rattle.line_stream.specs.Readers.{LinesData, ReaderData, ReadsText, Spends}
+use Rattle.line_stream.specs.Readers.{LinesData, ReaderData, most_line, ReadsText, Spends}
 use Rattle.select_all.specs.declared.selection.Selection.{Selection}
 use Rattle.select_all.specs.Selecting.{selects}
 use Rattle.watch_lines.specs.Laws.{as_read}
@@ -36,11 +36,11 @@ stepped s rows old bytes left text new found (Err why) later read reads adds = e
 ]
 
 -- behind the head
-pub rows_begin : (s : Selection) (bytes after : List ℕ) → BeginsChunks bytes after → HasRows s bytes [] (at_body (Some most_opening) after)
+pub rows_begin : (s : Selection) (bytes after : List ℕ) → BeginsChunks bytes after → HasRows s bytes [] (at_body (Some most_opening) most_line after)
 unfolding IsStrictlySortedBy
 rows_begin s bytes after begins = record {
   texts = [];
-  stands = bodies-begin (Some most_opening) bytes after begins;
+  stands = bodies-begin (Some most_opening) most_line bytes after begins;
   texts_are = tt;
   rows_are = record { rising = tt; selected = All-nil (λ row. IsTrue (selects s row.obj)); stored = All-nil (λ row. IsStored Pods row.obj) };
 }
@@ -50,7 +50,7 @@ module _ (s : Selection) (bytes taken : List ℕ) (left : Option (List ℕ)) (ro
   pub rows_go_on : (later : List RowData) (new : ReaderData) → Steps s rows old (old.kept ++ taken) left (Ok None) later new → HasRows s (bytes ++ taken) later new
   rows_go_on later new (text, row, read, is, later_is, selected, next) = subst (λ (l : List RowData). HasRows s (bytes ++ taken) l new) (sym later_is) (record {
     texts = has.texts ++ text ∷ [];
-    stands = lines-go-on (Some most_opening) bytes taken text has.texts old new has.stands read;
+    stands = lines-go-on (Some most_opening) most_line bytes taken text has.texts old new has.stands read;
     texts_are = subst (AreTexts (has.texts ++ text ∷ [])) (sym (map_push (λ row. Told (initial row)) rows row))
         (zip_push (λ t line. IsPeerLine Pods t (as_read line)) has.texts (initial_lines rows) text (Told (initial row)) has.texts_are is);
     rows_are = record {
@@ -64,7 +64,7 @@ module _ (s : Selection) (bytes taken : List ℕ) (left : Option (List ℕ)) (ro
   pub rows_end : (base : ℕ) (later : List RowData) (new : ReaderData) → Steps s rows old (old.kept ++ taken) left (Ok (Some base)) later new → HasRowsAt s (bytes ++ taken) later base new
   rows_end base later new (text, read, is, later_is, upto) = subst (λ (l : List RowData). HasRowsAt s (bytes ++ taken) l base new) (sym later_is) (record {
     texts = has.texts ++ text ∷ [];
-    stands = lines-go-on (Some most_opening) bytes taken text has.texts old new has.stands read;
+    stands = lines-go-on (Some most_opening) most_line bytes taken text has.texts old new has.stands read;
     texts_are = zip_push (λ t line. IsPeerLine Pods t (as_read line)) has.texts (initial_lines rows) text (Closing base) has.texts_are is;
     rows_are = has.rows_are;
     old = all_upto rows base upto;
@@ -79,7 +79,7 @@ module _ (s : Selection) (bytes taken : List ℕ) (left : Option (List ℕ)) (ro
       reader = new;
       has = record {
         texts = has.texts;
-        stands = parts-go-on (Some most_opening) bytes taken has.texts old new has.stands none.goes;
+        stands = parts-go-on (Some most_opening) most_line bytes taken has.texts old new has.stands none.goes;
         texts_are = has.texts_are;
         rows_are = has.rows_are;
       };
@@ -90,7 +90,7 @@ module _ (s : Selection) (bytes taken : List ℕ) (left : Option (List ℕ)) (ro
       reader = new;
       texts = has.texts;
       text = bad.text;
-      stands = lines-go-on (Some most_opening) bytes taken bad.text has.texts old new has.stands bad.read;
+      stands = lines-go-on (Some most_opening) most_line bytes taken bad.text has.texts old new has.stands bad.read;
       texts_are = has.texts_are;
       rows_are = has.rows_are;
       found = bad.found;
@@ -119,11 +119,12 @@ line_takes old new bytes text room read is =
 -- ---- the loop
 
 pub begun : (s : Selection) (old new : LinesData) (taken : List ℕ) (left : Option (List ℕ)) (rows : List RowData) (u : Unit {0}) →
-    old.at.kept ≡ [] → old.at.room ≡ Some most_opening → rows ≡ [] → AnswersHead old (old.at.kept ++ taken) new left (Ok u) → HasRows s taken rows new.at
-begun s old new taken left rows u empty room none (after, begins, is) =
+    old.at.kept ≡ [] → old.at.room ≡ Some most_opening → old.at.most ≡ most_line → rows ≡ [] → AnswersHead old (old.at.kept ++ taken) new left (Ok u) → HasRows s taken rows new.at
+begun s old new taken left rows u empty room limit none (after, begins, is) =
     let begins_here : BeginsChunks taken after = subst (λ (kept : List ℕ). BeginsChunks (kept ++ taken) after) empty begins in
-    let at : new.at ≡ at_body (Some most_opening) after = ap (λ (r : LinesData). r.at) is ∙ ap (λ (n : Option ℕ). at_body n after) room in
-    subst (λ (r : ReaderData). HasRows s taken rows r) (sym at) (subst (λ (l : List RowData). HasRows s taken l (at_body (Some most_opening) after)) (sym none) (rows_begin s taken after begins_here))
+    let at : new.at ≡ at_body (Some most_opening) most_line after =
+    ap (λ (r : LinesData). r.at) is ∙ ap (λ (n : Option ℕ). at_body n old.at.most after) room ∙ ap (λ (n : ℕ). at_body (Some most_opening) n after) limit in
+    subst (λ (r : ReaderData). HasRows s taken rows r) (sym at) (subst (λ (l : List RowData). HasRows s taken l (at_body (Some most_opening) most_line after)) (sym none) (rows_begin s taken after begins_here))
 
 pub headless : (s : Selection) (old new : LinesData) (taken : List ℕ) (left : Option (List ℕ)) (fault : LineNo) (why : LinkNo) →
     old.at.kept ≡ [] → why ≡ reading_refusal fault → AnswersHead old (old.at.kept ++ taken) new left (Err fault) → HasNoRows s taken left why

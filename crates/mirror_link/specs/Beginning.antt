@@ -3,7 +3,7 @@ use Rattle.std.specs.Prelude.{◌≡◌, ◌⊎◌, ℕ, List, [], Option, None,
 use Rattle.line_stream.specs.Requests.{request_text}
 use Rattle.line_stream.specs.declared.start.Start.TheVariants.{Revision}
 use Rattle.line_stream.specs.Heads.{BeginsChunks, RefusesResponse, at_body}
-use Rattle.line_stream.specs.Readers.{ReaderData}
+use Rattle.line_stream.specs.Readers.{ReaderData, most_line}
 use Rattle.line_stream.specs.declared.refusal.LineNo.{LineNo}
 use Rattle.mirror_law.specs.Mirrors.{opened_log}
 use Rattle.mirror_link.specs.Openings.{OpeningData}
@@ -35,5 +35,5 @@ BeginsNone bytes left why =
 
 -- what a mirror's reading is once it has asked: at the beginning of a chunked body, without a bound
 abbrev pub Begins : List ℕ → Option (List ℕ) → Result (Unit {0}) LinkNo → ReaderData → Type 0
-Begins bytes left (Ok u) reading = (after : List ℕ) × BeginsChunks bytes after × (reading ≡ at_body None after)
+Begins bytes left (Ok u) reading = (after : List ℕ) × BeginsChunks bytes after × (reading ≡ at_body None most_line after)
 Begins bytes left (Err why) reading = BeginsNone bytes left why

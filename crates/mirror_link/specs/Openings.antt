@@ -3,7 +3,7 @@ use Rattle.std.specs.Prelude.{◌≡◌, ℕ, ◌≤◌, ◌^◌, IsTrue, List, 
 use Rattle.kube_meta.specs.Names.{IsNamespace}
 use Rattle.kube_meta.specs.declared.resources.Resource.TheVariants.{Pods}
 use Rattle.kube_meta.specs.Rows.{RowData, AreRising}
-use Rattle.line_stream.specs.Readers.{ReaderData}
+use Rattle.line_stream.specs.Readers.{ReaderData, most_line}
 use Rattle.select_all.specs.declared.selection.Selection.{Selection}
 use Rattle.select_all.specs.Reading.{IsRead}
 use Rattle.select_all.specs.Selecting.{selects}
@@ -27,7 +27,7 @@ pub record AreOpened (s : Selection) (rows : List RowData) : Type 0 where
   pub stored : All (λ row. IsStored Pods row.obj) rows
 
 -- what holds of each opening: its selection is read from its texts; none of its rows is younger than its base; and its
--- reading goes on without a bound
+-- reading goes on without a bound, with the limit of a line
 pub record IsOpeningOf (opening : OpeningData) : Type 0 where
   pub pods : opening.selection.resource ≡ Pods
   pub read : IsRead Pods opening.selection.ns opening.label opening.field opening.selection
@@ -37,6 +37,7 @@ pub record IsOpeningOf (opening : OpeningData) : Type 0 where
   pub rows : AreOpened opening.selection opening.rows
   pub old : All (λ row. row.rev ≤ opening.base) opening.rows
   pub unbound : opening.reading.room ≡ None
+  pub limit : opening.reading.most ≡ most_line
 
 -- its lines: an event for each row, and the bookmark that ends them
 abbrev pub opened_lines : OpeningData → List Line

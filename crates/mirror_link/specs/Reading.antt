@@ -8,7 +8,7 @@ use Rattle.kube_meta.specs.declared.resources.Resource.TheVariants.{Pods}
 use Rattle.kube_meta.specs.Rows.{RowData, key_of}
 use Rattle.line_stream.specs.Answers.{Faults}
 use Rattle.line_stream.specs.Heads.{RefusesResponse}
-use Rattle.line_stream.specs.Readers.{ReaderData, GoesOn, ReadsText}
+use Rattle.line_stream.specs.Readers.{ReaderData, most_line, GoesOn, ReadsText}
 use Rattle.line_stream.specs.Standing.{Stands}
 use Rattle.line_stream.specs.declared.place.Place.TheVariants as place
 use Rattle.line_stream.specs.declared.refusal.LineNo.{LineNo}
@@ -94,7 +94,7 @@ Steps s rows old bytes left (Err why) later new =
 -- the bytes so far are a head and the events of these rows, and the reader stands at their end
 pub record HasRows (s : Selection) (bytes : List ℕ) (rows : List RowData) (reader : ReaderData) : Type 0 where
   pub texts : List (List ℕ)
-  pub stands : Stands (Some most_opening) bytes texts reader
+  pub stands : Stands (Some most_opening) most_line bytes texts reader
   pub texts_are : AreTexts texts (initial_lines rows)
   pub rows_are : AreOpened s rows
 
@@ -102,7 +102,7 @@ pub record HasRows (s : Selection) (bytes : List ℕ) (rows : List RowData) (rea
 pub record HasOpening (bytes : List ℕ) (opening : OpeningData) : Type 0 where
   pub texts : List (List ℕ)
   pub reader : ReaderData
-  pub stands : Stands (Some most_opening) bytes texts reader
+  pub stands : Stands (Some most_opening) most_line bytes texts reader
   pub texts_are : AreTexts texts (opened_lines opening)
   pub reading : opening.reading ≡ record reader { room = None }
 
@@ -120,7 +120,7 @@ pub record HasBadLine (s : Selection) (bytes : List ℕ) (why : LinkNo) : Type 0
   pub reader : ReaderData
   pub texts : List (List ℕ)
   pub text : List ℕ
-  pub stands : Stands (Some most_opening) bytes (texts ++ text ∷ []) reader
+  pub stands : Stands (Some most_opening) most_line bytes (texts ++ text ∷ []) reader
   pub texts_are : AreTexts texts (initial_lines rows)
   pub rows_are : AreOpened s rows
   pub found : Option PeerLine
@@ -130,7 +130,7 @@ pub record HasBadLine (s : Selection) (bytes : List ℕ) (why : LinkNo) : Type 0
 -- the rows that the bytes have, and the base at which they stand
 pub record HasRowsAt (s : Selection) (bytes : List ℕ) (rows : List RowData) (base : ℕ) (reader : ReaderData) : Type 0 where
   pub texts : List (List ℕ)
-  pub stands : Stands (Some most_opening) bytes texts reader
+  pub stands : Stands (Some most_opening) most_line bytes texts reader
   pub texts_are : AreTexts texts (initial_lines rows ++ Closing base ∷ [])
   pub rows_are : AreOpened s rows
   pub old : All (λ row. row.rev ≤ base) rows

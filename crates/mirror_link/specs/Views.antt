@@ -2,7 +2,7 @@
 use Rattle.std.specs.Prelude.{◌≡◌, ℕ, ◌≤◌, List, Option, None, Result, IfSome}
 use Rattle.kube_meta.specs.Names.{IsNamespace}
 use Rattle.kube_meta.specs.declared.resources.Resource.TheVariants.{Pods}
-use Rattle.line_stream.specs.Readers.{ReaderData}
+use Rattle.line_stream.specs.Readers.{ReaderData, most_line}
 use Rattle.rev_front.specs.Passes.{Pass}
 use Rattle.rev_log.specs.Changes.{RevisionData}
 use Rattle.rev_log.specs.Logs.{Log, grown}
@@ -30,8 +30,8 @@ pub record MirrorData : Type 0 where
   pub reading : ReaderData
   pub answer : Option (Result Heard LinkNo)
 
--- What holds of each: it is of pods, and its selection is read from its texts; 1,000,000 revisions may lie before a line; its log begins at a revision from 1 on;
--- and its reading has no bound.
+-- What holds of each: it is of pods, and its selection is read from its texts; 1,000,000 revisions may lie before a line;
+-- its log begins at a revision from 1 on; and its reading has no bound, but the limit of a line.
 pub record IsMirror (m : MirrorData) : Type 0 where
   pub pods : m.selection.resource ≡ Pods
   pub gap : m.most_gap ≡ most_gap
@@ -39,6 +39,7 @@ pub record IsMirror (m : MirrorData) : Type 0 where
   pub namespace : IfSome m.selection.ns IsNamespace
   pub some : 1 ≤ m.log.first
   pub unbound : m.reading.room ≡ None
+  pub limit : m.reading.most ≡ most_line
 
 -- its log, apart from the connection
 abbrev pub log_part : MirrorData → MirrorLogData

@@ -28,7 +28,7 @@ use crate::opening::{Opening, Parts};
 use crate::refusals::{kept_answer, rebasing_refusal};
 use edge_io::{Sink, Source};
 use kube_meta::{Memory, Text};
-use line_stream::{AskNo, LineReader, Start, Step, ask_watch};
+use line_stream::{AskNo, LineReader, MOST_LINE, Start, Step, ask_watch};
 use mirror_log::MirrorLog;
 use rev_front::Blank;
 use rev_log::Revision;
@@ -222,7 +222,7 @@ impl<N: LogFacts, R: Wait + Copy> Mirror<N, R> {
         ensures read_faults { CountsReads result (S.faults source.old) (S.faults source.new) }
     {
         self.log.forget();
-        self.reader = LineReader::open(self.alloc, 0);
+        self.reader = LineReader::open(self.alloc, 0, MOST_LINE);
         self.reader.unbound();
         let asked = self.ask(source, sink);
         self.answer = match asked {

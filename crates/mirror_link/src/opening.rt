@@ -15,7 +15,7 @@ use crate::LinkNo;
 use crate::opening_lines::read_rows;
 use edge_io::{Sink, Source};
 use kube_meta::{Row, Text};
-use line_stream::{LineReader, Start, ask_watch};
+use line_stream::{LineReader, MOST_LINE, Start, ask_watch};
 use select_all::Selection;
 use std::alloc::Global;
 use std::marker::Model;
@@ -89,7 +89,7 @@ impl Opening {
             Ok(()) => {}
             Err(fault) => return Err(LinkNo::from(fault)),
         }
-        let mut reader = LineReader::open(alloc, MOST_OPENING);
+        let mut reader = LineReader::open(alloc, MOST_OPENING, MOST_LINE);
         let mut rows = Vec::new(alloc);
         let base = match read_rows(alloc, &selection, &mut reader, &mut rows, source) {
             Ok(base) => base,

@@ -3,6 +3,7 @@
 ghost use Rattle.std.specs.Prelude.{◌≡◌, ◌++◌, ◌∷◌, OnOk, ℕ, List, [], ◌≤◌, Some};
 ghost use Rattle.edge_io.specs.Told.{prepended};
 ghost use Rattle.mirror_link.specs.Asking.{CountsReads};
+ghost use Rattle.line_stream.specs.Readers.{most_line};
 ghost use Rattle.mirror_link.specs.Reading.{Adds, ReadsRows, Steps, most_opening};
 ghost use Rattle.mirror_link.specs.Reading as reading;
 ghost use Rattle.select_all.specs.declared.selection.Selection.{Selection as Asked};
@@ -135,7 +136,7 @@ pub(crate) fn read_rows<S: Source>(
     rows: &mut Vec<Row>,
     source: &mut S,
 ) -> Result<u64, LinkNo>
-    requires fresh { (reader.old.at.kept ≡ []) × (reader.old.at.room ≡ Some most_opening) }
+    requires fresh { (reader.old.at.kept ≡ []) × (reader.old.at.room ≡ Some most_opening) × (reader.old.at.most ≡ most_line) }
     requires empty { rows.old.items ≡ [] }
     ensures reads { (taken : List ℕ) × (S.left source.old ≡ prepended taken (S.left source.new))
         × ReadsRows selection.now taken (S.left source.new) result rows.new.items reader.new.at }

@@ -2,7 +2,7 @@
 
 use edge_io::{Failed, Sink, Source};
 use itoa::Buffer;
-use line_stream::{LineNo, LineReader};
+use line_stream::{LineNo, LineReader, MOST_LINE};
 use std::alloc::Global;
 
 /// The code of the reply to a list that is to be not older than a revision which the log hasn't reached.
@@ -32,7 +32,7 @@ pub fn standing_of<S: Source, K: Sink>(
     if ask(at, sink).is_err() {
         return Standing::Unknown;
     }
-    match LineReader::open(alloc, 0).read_head(source) {
+    match LineReader::open(alloc, 0, MOST_LINE).read_head(source) {
         Ok(()) | Err(LineNo::BadHead) => Standing::Reached,
         Err(LineNo::Refused { code: TOO_LARGE }) => Standing::Behind,
         Err(_) => Standing::Unknown,

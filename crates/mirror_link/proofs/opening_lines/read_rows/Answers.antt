@@ -12,7 +12,7 @@ returns-in-Err-clause-reads g c =
 pub loop-base-init : goal.loop-base-init
 loop-base-init g c =
     let read = c.in-Ok.ensures.reads in (
-      (read.0, read.1, begun c.args.selection.now c.args.reader.now c.read_head.new.self read.0 (g.S.Source.left c.read_head.new.source) c.args.rows.now.items c.in-Ok.field-0 c.requires.fresh.0 c.requires.fresh.1 c.requires.empty read.2),
+      (read.0, read.1, begun c.args.selection.now c.args.reader.now c.read_head.new.self read.0 (g.S.Source.left c.read_head.new.source) c.args.rows.now.items c.in-Ok.field-0 c.requires.fresh.0 c.requires.fresh.1 c.requires.fresh.2 c.requires.empty read.2),
       c.in-Ok.ensures.counted,
     )
 

@@ -15,7 +15,7 @@ returns-clause-reads g c =
       read.0,
       read.1,
       begins c.self.inside.reader c.read_head.new.self read.0 (g.S.Source.left c.read_head.new.source) (ap (λ (m : MirrorData). m.reading.kept) c.self.view_is ∙ c.requires.kept.0)
-          (ap (λ (m : MirrorData). m.reading.room) c.self.view_is ∙ c.requires.kept.1) c.in-Ok-read_head.field-0 read.2,
+          (ap (λ (m : MirrorData). m.reading.room) c.self.view_is ∙ c.requires.kept.1) c.self.invariant.limit c.in-Ok-read_head.field-0 read.2,
     )
 
 pub returns-in-Err-clause-asks : goal.returns-in-Err-clause-asks
@@ -36,5 +36,5 @@ returns-in-Err-read_head-clause-reads g c =
       read.0,
       read.1,
       begins_none c.self.inside.reader c.read_head.new.self read.0 (g.S.Source.left c.read_head.new.source) (ap (λ (m : MirrorData). m.reading.kept) c.self.view_is ∙ c.requires.kept.0)
-          (ap (λ (m : MirrorData). m.reading.room) c.self.view_is ∙ c.requires.kept.1) c.in-Err-read_head.fault c.from-in-Err-read_head.result c.from-in-Err-read_head.ensures read.2,
+          (ap (λ (m : MirrorData). m.reading.room) c.self.view_is ∙ c.requires.kept.1) c.self.invariant.limit c.in-Err-read_head.fault c.from-in-Err-read_head.result c.from-in-Err-read_head.ensures read.2,
     )
