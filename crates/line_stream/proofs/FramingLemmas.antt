@@ -19,8 +19,8 @@ use Rattle.http_read.specs.Requests.{front}
 use Rattle.http_read.proofs.HeadLemmas.{length-short}
 use Rattle.http_read.proofs.ScanLemmas.{filter-step, filter-around}
 use Rattle.kube_meta.proofs.RevisionLemmas.{own, all_ascii_digits-list_all}
-use Rattle.line_stream.specs.Framings.{are_unsaid, framing_said, framing_of, BeginsFramed, RefusesFramed}
-use Rattle.line_stream.specs.Heads.{only, is_chunks, RefusesHead}
+use Rattle.line_stream.specs.Framings.{are_unsaid, framing_said, framing_in, BeginsFramed, RefusesFramed}
+use Rattle.line_stream.specs.Heads.{only, is_chunks, LacksHead}
 use Rattle.line_stream.specs.HeadSteps.{FindsHead, FramesAt, FindsFramed}
 use Rattle.line_stream.specs.declared.framing.Framing.{Framing}
 use Rattle.line_stream.specs.declared.framing.Framing.TheVariants.{Counted, Chunked}
@@ -83,13 +83,13 @@ length-parsed value r is parses =
 -- ---- what a head says
 
 pub framing-of : (bytes buf : List ℕ) (fields spans : List HeaderSpan) (found : ResponseSpans) (f : FindsHead bytes spans found) → buf ≡ front bytes → fields ≡ take found.headers spans
-    → framing_said (values_of (codes "transfer-encoding") (map (header_bytes buf) fields)) (values_of (codes "content-length") (map (header_bytes buf) fields)) ≡ framing_of f.head
+    → framing_said (values_of (codes "transfer-encoding") (map (header_bytes buf) fields)) (values_of (codes "content-length") (map (header_bytes buf) fields)) ≡ framing_in f.head
 framing-of bytes buf fields spans found f e s =
     ap (λ l. framing_said (values_of (codes "transfer-encoding") l) (values_of (codes "content-length") l))
     (ap (λ b. map (header_bytes b) fields) e ∙ ap (map (header_bytes (front bytes))) s ∙ f.at.fields)
 
 -- why there is no whole head is why there is no body
-pub refuses-framed : (bytes : List ℕ) (left : Option (List ℕ)) (why : LineNo) → RefusesHead bytes left why → RefusesFramed bytes left why
+pub refuses-framed : (bytes : List ℕ) (left : Option (List ℕ)) (why : LineNo) → LacksHead bytes left why → RefusesFramed bytes left why
 refuses-framed bytes left BadHead x = inl x
 refuses-framed bytes left (Refused code) x = absurd x
 refuses-framed bytes left BadChunk x = absurd x

@@ -11,7 +11,7 @@ use Rattle.http_read.specs.Heads.{FieldText, most_head, most_fields, is_named, v
 use Rattle.http_read.specs.Requests.{front}
 use Rattle.http_read.proofs.HeadLemmas.{front-short}
 use Rattle.http_read.proofs.ScanLemmas.{filter-step, filter-around}
-use Rattle.line_stream.specs.Heads.{HasResponse, at_body, only, is_chunks, is_chunked, IsOpenHead, IsNoHead, RefusesHead, RefusesResponse}
+use Rattle.line_stream.specs.Heads.{HasResponse, at_body, only, is_chunks, is_chunked, IsOpenHead, IsNoHead, LacksHead, RefusesResponse}
 use Rattle.line_stream.specs.HeadSteps.{FindsHead, BeginsAt, FindsBody}
 use Rattle.line_stream.proofs.LookLemmas.{front-stands}
 use Rattle.line_stream.specs.Readers.{LinesData}
@@ -78,7 +78,7 @@ chunked-of bytes buf fields spans found f e s =
     ap (λ l. is_chunks (only (values_of (codes "transfer-encoding") l))) (ap (λ b. map (header_bytes b) fields) e ∙ ap (map (header_bytes (front bytes))) s ∙ f.at.fields)
 
 -- why there is no whole head is why there is no body
-pub refuses-head : (bytes : List ℕ) (left : Option (List ℕ)) (why : LineNo) → RefusesHead bytes left why → RefusesResponse bytes left why
+pub refuses-head : (bytes : List ℕ) (left : Option (List ℕ)) (why : LineNo) → LacksHead bytes left why → RefusesResponse bytes left why
 refuses-head bytes left BadHead x = inl x
 refuses-head bytes left (Refused code) x = absurd x
 refuses-head bytes left BadChunk x = absurd x

@@ -13,4 +13,5 @@ pub mod AgreeLemmas
 pub mod OutcomeLemmas
 pub mod FramingLemmas
 pub mod BodyLemmas
+pub mod BodyAgreeLemmas
 pub mod ClusterLemmas

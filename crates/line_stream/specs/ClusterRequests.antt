@@ -10,10 +10,14 @@ use Rattle.line_stream.specs.Requests.{Pair, selector_pair}
 abbrev pub get_request : List ℕ → List ℕ
 get_request target = codes "GET " ++ (target ++ codes " HTTP/1.1\r\nHost: localhost\r\nAccept: application/json\r\n\r\n")
 
--- the path of all objects of a resource, or of those in a namespace
+-- the path of all objects of this name below a base, or of those in a namespace
+abbrev pub path_below : List ℕ → List ℕ → Option (List ℕ) → List ℕ
+path_below base plural None = base ++ (codes "/" ++ plural)
+path_below base plural (Some ns) = base ++ (codes "/namespaces/" ++ (ns ++ (codes "/" ++ plural)))
+
+-- the same of a resource
 abbrev pub collection_path : Resource → Option (List ℕ) → List ℕ
-collection_path resource None = base_path_of resource ++ (codes "/" ++ plural_of resource)
-collection_path resource (Some ns) = base_path_of resource ++ (codes "/namespaces/" ++ (ns ++ (codes "/" ++ plural_of resource)))
+collection_path resource ns = path_below (base_path_of resource) (plural_of resource) ns
 
 -- a GET of it with this query
 abbrev pub collection_request : Resource → Option (List ℕ) → List ℕ → List ℕ

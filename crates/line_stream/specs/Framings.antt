@@ -23,20 +23,20 @@ framing_said codings lengths =
     if is_chunks (only codings) then Some Chunked
     else (if are_unsaid codings then option_map Counted (option_and_then length_value (only lengths)) else None)
 
-abbrev pub framing_of : ResponseHead → Option Framing
-framing_of h =
+abbrev pub framing_in : ResponseHead → Option Framing
+framing_in h =
     framing_said (values_of (codes "transfer-encoding") (map name_and_value h.fields))
     (values_of (codes "content-length") (map name_and_value h.fields))
 
 -- a whole head of code 200, whose body is framed so
 abbrev pub BeginsFramed : List ℕ → Framing → List ℕ → Type 0
 BeginsFramed bytes framing after =
-    (h : ResponseHead) × HasResponse bytes h after × (status_code h ≡ 200) × (framing_of h ≡ Some framing)
+    (h : ResponseHead) × HasResponse bytes h after × (status_code h ≡ 200) × (framing_in h ≡ Some framing)
 
 -- a whole head of code 200, whose body is framed in no way that is read
 abbrev pub IsUnframed : List ℕ → Type 0
 IsUnframed bytes =
-    (h : ResponseHead) × (after : List ℕ) × HasResponse bytes h after × (status_code h ≡ 200) × (framing_of h ≡ None)
+    (h : ResponseHead) × (after : List ℕ) × HasResponse bytes h after × (status_code h ≡ 200) × (framing_in h ≡ None)
 
 -- why bytes begin no body that is read; `left` is what is still to come
 abbrev pub RefusesFramed : List ℕ → Option (List ℕ) → LineNo → Type 0

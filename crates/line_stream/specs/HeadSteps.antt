@@ -6,7 +6,7 @@ use Rattle.httparse.specs.declared.spans.HeaderSpan.{HeaderSpan}
 use Rattle.httparse.specs.declared.spans.ResponseSpans.{ResponseSpans}
 use Rattle.http_read.specs.Heads.{most_fields}
 use Rattle.http_read.specs.Requests.{front}
-use Rattle.line_stream.specs.Heads.{IsOpenHead, IsNoHead, IsUnchunked, HasCode, BeginsChunks, RefusesHead, RefusesResponse}
+use Rattle.line_stream.specs.Heads.{IsOpenHead, IsNoHead, IsUnchunked, HasCode, BeginsChunks, LacksHead, RefusesResponse}
 use Rattle.line_stream.specs.Framings.{IsUnframed, BeginsFramed, RefusesFramed}
 use Rattle.line_stream.specs.declared.framing.Framing.{Framing}
 use Rattle.line_stream.specs.declared.refusal.LineNo.{LineNo}
@@ -34,7 +34,7 @@ BeginsAt bytes (Err why) =
 -- what the reading of a head answers, where these bytes came
 abbrev pub FindsSome : List ℕ → List HeaderSpan → Option (List ℕ) → Result ResponseSpans LineNo → Type 0
 FindsSome bytes spans left (Ok found) = FindsHead bytes spans found
-FindsSome bytes spans left (Err why) = RefusesHead bytes left why
+FindsSome bytes spans left (Err why) = LacksHead bytes left why
 
 -- the same with what the head says of its body
 abbrev pub FindsBody : List ℕ → Option (List ℕ) → Result ℕ LineNo → Type 0

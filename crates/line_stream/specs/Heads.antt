@@ -58,16 +58,16 @@ HasCode bytes code =
     (h : ResponseHead) × (after : List ℕ) × HasResponse bytes h after × (status_code h ≡ code) × (code ≢ 200)
 
 -- why bytes begin with no whole head; `left` is what is still to come
-abbrev pub RefusesHead : List ℕ → Option (List ℕ) → LineNo → Type 0
-RefusesHead bytes left BadHead = IsNoHead bytes
-RefusesHead bytes left (Refused code) = ⊥
-RefusesHead bytes left BadChunk = ⊥
-RefusesHead bytes left Overlong = ⊥
-RefusesHead bytes left Unfinished = ⊥
-RefusesHead bytes left Spent = ⊥
-RefusesHead bytes left CutShort = IsOpenHead bytes × IsExhausted left
-RefusesHead bytes left ReadFault = IsOpenHead bytes
-RefusesHead bytes left Memory = ⊤
+abbrev pub LacksHead : List ℕ → Option (List ℕ) → LineNo → Type 0
+LacksHead bytes left BadHead = IsNoHead bytes
+LacksHead bytes left (Refused code) = ⊥
+LacksHead bytes left BadChunk = ⊥
+LacksHead bytes left Overlong = ⊥
+LacksHead bytes left Unfinished = ⊥
+LacksHead bytes left Spent = ⊥
+LacksHead bytes left CutShort = IsOpenHead bytes × IsExhausted left
+LacksHead bytes left ReadFault = IsOpenHead bytes
+LacksHead bytes left Memory = ⊤
 
 -- why bytes begin no chunked body; `left` is what is still to come
 abbrev pub RefusesResponse : List ℕ → Option (List ℕ) → LineNo → Type 0

@@ -12,6 +12,7 @@ pub mod Framings
 pub mod HeadSteps
 pub mod Bodies
 pub mod BodySteps
+pub mod BodyLaws
 pub mod Standing
 pub mod Laws
 pub mod Streams

@@ -62,7 +62,10 @@ fn read_counted<S: Source>(
     move_upto(kept, content, size)?;
     while (content.len() as u64) < size {
         fill_kept(kept, source)?;
-        move_upto(kept, content, size)?;
+        match move_upto(kept, content, size) {
+            Ok(()) => {}
+            Err(why) => return Err(why),
+        }
     }
     Ok(())
 }

@@ -1,6 +1,6 @@
 //! Requests to a cluster, written.
 
-ghost use Rattle.std.specs.Prelude.{◌≡◌, [], IfOk};
+ghost use Rattle.std.specs.Prelude.{◌≡◌, [], ◌++◌, IfOk, codes};
 ghost use Rattle.std.specs.List.{flat_map};
 ghost use Rattle.std.specs.String.{string_bytes};
 ghost use Rattle.edge_io.specs.Sent.{sent_through};
@@ -88,13 +88,27 @@ fn changes_form(alloc: Global, from: u64) -> Result<String, Memory>
 }
 
 // Writes a request for the objects of a resource, and sends it on.
-fn send_collection<'x, K: Sink>(
+fn send_collection<K: Sink>(
     sink: &mut K,
     resource: Resource,
+    ns: &Option<Text>,
+    form: &str,
+) -> Result<(), AskNo>
+    ensures { Asks result (request.collection_request resource ns.now form.now)
+        (sent_through K.written K.settled K.faults sink.old sink.new) }
+{
+    send_below(sink, resource.base_path(), resource.plural(), ns, form)
+}
+
+// Writes a request for the objects of this name below a base, and sends it on.
+fn send_below<'x, K: Sink>(
+    sink: &mut K,
+    base: &'x str,
+    plural: &'x str,
     ns: &'x Option<Text>,
     form: &'x str,
 ) -> Result<(), AskNo>
-    ensures { Asks result (request.collection_request resource ns.now form.now)
+    ensures { Asks result (request.get_request (request.path_below base.now plural.now ns.now ++ (codes "?" ++ form.now)))
         (sent_through K.written K.settled K.faults sink.old sink.new) }
 {
     match ns {
@@ -102,11 +116,11 @@ fn send_collection<'x, K: Sink>(
             sink,
             &[
                 b"GET ",
-                resource.base_path().as_bytes(),
+                base.as_bytes(),
                 b"/namespaces/",
                 ns.as_str().as_bytes(),
                 b"/",
-                resource.plural().as_bytes(),
+                plural.as_bytes(),
                 b"?",
                 form.as_bytes(),
                 b" HTTP/1.1\r\nHost: localhost\r\nAccept: application/json\r\n\r\n",
@@ -116,9 +130,9 @@ fn send_collection<'x, K: Sink>(
             sink,
             &[
                 b"GET ",
-                resource.base_path().as_bytes(),
+                base.as_bytes(),
                 b"/",
-                resource.plural().as_bytes(),
+                plural.as_bytes(),
                 b"?",
                 form.as_bytes(),
                 b" HTTP/1.1\r\nHost: localhost\r\nAccept: application/json\r\n\r\n",

@@ -1,5 +1,6 @@
 //! Laws of the reading of lines.
 
+ghost use Rattle.line_stream.specs.BodyLaws as body;
 ghost use Rattle.line_stream.specs.Laws as law;
 ghost use Rattle.line_stream.specs.Outcomes as outcome;
 ghost use Rattle.line_stream.specs.Streams as stream;
@@ -30,4 +31,9 @@ pub fn readings_agree()
 /// and it has that one however the bytes came in pieces.
 pub fn outcomes_agree()
     ensures { outcome.OutcomesAgree }
+{}
+
+/// Bytes that begin with a whole reply of code 200 have one body, and bytes that follow don't change it.
+pub fn bodies_are_read_in_one_way()
+    ensures { body.BodiesAreDetermined }
 {}

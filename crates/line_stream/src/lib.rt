@@ -21,7 +21,10 @@ mod start;
 
 pub use asking::{AskNo, ask_watch};
 pub use cluster_asking::{ask_changes, ask_namespace, ask_page};
-pub use laws::{lines_are_read_in_one_way, outcomes_agree, readings_agree, streams_are_read_back};
+pub use laws::{
+    bodies_are_read_in_one_way, lines_are_read_in_one_way, outcomes_agree, readings_agree,
+    streams_are_read_back,
+};
 pub use lines::{LineReader, MOST_LINE, Step};
 pub use place::Place;
 pub use refusal::LineNo;

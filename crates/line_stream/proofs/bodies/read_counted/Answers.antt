@@ -21,7 +21,7 @@ pub loop-kept-preserved : goal.loop-kept-preserved
 loop-kept-preserved g c =
     let before = c.loop-kept.invariant in
     let came = c.in_ok-fill_kept.ensures in
-    let m = c.in_ok-move_upto-2.ensures.moves in record {
+    let m = c.in-Ok.ensures.moves in record {
       taken = (
         before.taken.0 ++ came.0,
         before.taken.1 ∙ ap (prepended before.taken.0) came.3 ∙ prepended-prepended before.taken.0 came.0 _,
@@ -32,15 +32,15 @@ loop-kept-preserved g c =
       quiet = came.4 ∙ before.quiet;
     }
 
-pub returns-in_err-move_upto-2-clause-reads : goal.returns-in_err-move_upto-2-clause-reads
-returns-in_err-move_upto-2-clause-reads g c =
+pub returns-in-Err-clause-reads : goal.returns-in-Err-clause-reads
+returns-in-Err-clause-reads g c =
     let before = c.loop-kept.invariant in
     let came = c.in_ok-fill_kept.ensures in
-    let same = c.in_err-move_upto-2.ensures.same in (
+    let same = c.in-Err.ensures.same in (
       before.taken.0 ++ came.0,
       before.taken.1 ∙ ap (prepended before.taken.0) came.3 ∙ prepended-prepended before.taken.0 came.0 _,
       (
         split-same _ _ _ _ _ (split-more c.args.kept.now before.taken.0 came.0 _ _ _ before.taken.2 came.2) same.1 same.2,
-        subst (StopsCounted c.args.size c.move_upto-2.new.content.items c.move_upto-2.new.kept (g.S.Source.left c.fill_kept.new.source)) (sym same.0) tt,
+        subst (StopsCounted c.args.size c.move_upto-in-loop-kept.new.content.items c.move_upto-in-loop-kept.new.kept (g.S.Source.left c.fill_kept.new.source)) (sym same.0) tt,
       ),
     )

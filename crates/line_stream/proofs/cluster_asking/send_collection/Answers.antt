@@ -1,23 +1,13 @@
-use Rattle.std.proofs.Common.{subst, ◌∙◌}
+use Rattle.std.proofs.Common.{◌++◌, codes, subst}
 use Rattle.edge_io.specs.Sent.{sent_through}
+use Rattle.kube_meta.specs.Resources.{plural_of}
 use Rattle.line_stream.specs.AskAnswers.{Asks}
-use Rattle.line_stream.proofs.ClusterLemmas.{collection_some, collection_all}
+use Rattle.line_stream.specs.ClusterRequests.{get_request, path_below}
 use Rattle.line_stream.proofs.cluster_asking.send_collection.Goals as goal
 
-pub returns-in-Some : goal.returns-in-Some
-returns-in-Some g c =
-    let sent = sent_through g.K.Sink.written g.K.Sink.settled g.K.Sink.faults c.args.sink.now c.send_pieces.new.sink in
-    rw c.in-Some.is
-    (subst (λ t. Asks c.send_pieces.result t sent)
-    (collection_some c.args.resource _ c.args.form.now _ _ _ _ (c.as_bytes.ensures.value ∙ c.base_path.ensures) (c.as_bytes-in-Some.ensures.value ∙ c.as_str.ensures)
-    (c.as_bytes-in-Some-2.ensures.value ∙ c.plural.ensures) c.as_bytes-in-Some-3.ensures.value)
-    c.send_pieces.ensures)
-
-pub returns-in-None : goal.returns-in-None
-returns-in-None g c =
-    let sent = sent_through g.K.Sink.written g.K.Sink.settled g.K.Sink.faults c.args.sink.now c.send_pieces-in-None.new.sink in
-    rw c.in-None.is
-    (subst (λ t. Asks c.send_pieces-in-None.result t sent)
-    (collection_all c.args.resource c.args.form.now _ _ _ (c.as_bytes-in-None.ensures.value ∙ c.base_path-in-None.ensures)
-    (c.as_bytes-in-None-2.ensures.value ∙ c.plural-in-None.ensures) c.as_bytes-in-None-3.ensures.value)
-    c.send_pieces-in-None.ensures)
+pub returns : goal.returns
+returns g c =
+    let sent = sent_through g.K.Sink.written g.K.Sink.settled g.K.Sink.faults c.args.sink.now c.send_below.new.sink in
+    let query = codes "?" ++ c.args.form.now in
+    subst (λ b. Asks c.send_below.result (get_request (path_below b (plural_of c.args.resource) c.args.ns.now ++ query)) sent) c.base_path.ensures
+    (subst (λ p. Asks c.send_below.result (get_request (path_below c.base_path.result.now p c.args.ns.now ++ query)) sent) c.plural.ensures c.send_below.ensures)
