@@ -4,8 +4,8 @@
 #[derive(Clone, Copy, Debug)]
 pub enum LineNo {
     /// No head of a chunked body: no response can stand there, it isn't whole in 16,384 bytes, it has more than 64
-    /// fields, or its code is 200 and its transfer coding isn't `chunked` alone. Where a body is read whole, a head that
-    /// counts it and says no transfer coding is one too.
+    /// fields, or its code is 200 and its transfer coding isn't `chunked` alone. Where a body is read whole, a head
+    /// that counts it and says no transfer coding is one too.
     BadHead,
     /// A whole head with a code other than 200.
     Refused {

@@ -17,8 +17,9 @@ use Rattle.mirror_link.specs.declared.heard.Heard.{Heard}
 abbrev pub most_gap : ℕ
 most_gap = 1000000
 
--- whose it is, by the texts of its selectors, how many revisions without a line may lie before one, what its pass knows of its store, its log, the lines of the revision
--- behind the log's end, where the reading of the connection is, and the answer that it gives again, if it has one
+-- whose it is, how many revisions without a line may lie before one, the texts of its selectors, what its pass knows of
+-- its store, its log, the lines of the revision behind the log's end, where the reading of the connection is, and the
+-- answer that it gives again, if it has one
 pub record MirrorData : Type 0 where
   pub selection : Selection
   pub most_gap : ℕ

@@ -51,8 +51,8 @@ impl<N: LogFacts, R: Wait + Copy> Model for MirrorLog<N, R> {
 }
 
 impl<N: LogFacts, R: Wait + Copy> MirrorLog<N, R> {
-    /// The log of a new store, from rows that stand at its base. No more than `most_gap` revisions without a line may lie
-    /// before one.
+    /// The log of a new store, from rows that stand at its base. No more than `most_gap` revisions without a line may
+    /// lie before one.
     pub fn new(
         rt: R,
         alloc: Global,
@@ -168,8 +168,8 @@ impl<N: LogFacts, R: Wait + Copy> MirrorLog<N, R> {
         Ok(self.intake.to())
     }
 
-    /// Hears an event that is alone in its revision, as each of a cluster is: all revisions up to its own are committed,
-    /// and nothing is kept.
+    /// Hears an event that is alone in its revision, as each of a cluster is: all revisions up to its own are
+    /// committed, and nothing is kept.
     pub fn hear_alone(&mut self, kind: Kind, obj: Obj, rev: u64) -> Result<u64, MirrorNo>
         requires { rev ≤ 2 ^ 62 }
         ensures learns { Learns self.old.told self.new.told }

@@ -41,8 +41,8 @@ impl<N: LogFacts, R: Wait + Copy> MirrorLog<N, R> {
         self.commit_all(revisions, base, keys)
     }
 
-    /// The key of the first of these rows, written up to the log's end, that isn't the one that stands there; if there is
-    /// one. It tells more of `RebaseNo::OtherLog`.
+    /// The key of the first of these rows, written up to the log's end, that isn't the one that stands there; if there
+    /// is one. It tells more of `RebaseNo::OtherLog`.
     pub fn different_row(&mut self, rows: &[Row]) -> Result<Option<Key>, RebaseNo>
         ensures learns { Learns self.old.told self.new.told }
         ensures rests { Rests self.old self.new }

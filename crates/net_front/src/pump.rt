@@ -15,9 +15,9 @@ const FEW_CALLS: usize = 16;
 /// For how many milliseconds.
 const GATHER_MS: u64 = 1;
 
-/// Feeds the caches, tells them and the desk the time and rings for the lanes that were told, by turns, until `end` is there and the
-/// bell rung. Where all watches were ended it rings for all connections. Where there is no memory for a pass it does
-/// not run: lists and watches follow the log themselves.
+/// Feeds the caches, tells them and the desk the time and rings for the lanes that were told, by turns, until `end` is
+/// there and the bell rung. Where all watches were ended it rings for all connections. Where there is no memory for a
+/// pass it does not run: lists and watches follow the log themselves.
 pub fn pump<N: LogFacts, T: Clock, R: Wait + Copy>(
     rt: &R,
     alloc: Global,
