@@ -16,7 +16,7 @@ use Rattle.json_obj.specs.Objects.{metadata_of, members_in, name_in, label_in, r
 use Rattle.json_obj.proofs.Shown.{apart, commute, put-twice, get-members_in}
 use Rattle.watch_lines.specs.Reading.{IsPlaced, Keeps}
 use Rattle.watch_lines.specs.ValueLaws.{with_kind}
-use Rattle.watch_lines.specs.Values.{IsShown}
+use Rattle.watch_lines.specs.Values.{ShowsObject}
 use Rattle.watch_lines.proofs.ShownLemmas.{no-float, place-is}
 
 -- all else is found as before
@@ -67,7 +67,7 @@ object-is resource ns d obj plain is =
       back_utf8 = is.back_utf8;
     }
 
-pub one-without : ObjectsAreOne → (resource : Resource) (d : Data) (obj other : Obj) (rev later : ℕ) → IsShown resource d obj rev → IsShown resource (with_kind resource d) other later
+pub one-without : ObjectsAreOne → (resource : Resource) (d : Data) (obj other : Obj) (rev later : ℕ) → ShowsObject resource d obj rev → ShowsObject resource (with_kind resource d) other later
     → (obj ≡ other) × (rev ≡ later)
 one-without law resource d obj other rev later first second =
     let whole = with_kind resource d in

@@ -27,7 +27,7 @@ use Rattle.watch_rules.specs.Bodies.{Line, Told, Bookmark, Closing, Lost}
 use Rattle.watch_lines.specs.Laws.{IsTold, as_read}
 use Rattle.watch_lines.specs.Stored.{IsStored, IsToldAt}
 use Rattle.watch_lines.specs.Texts.{type_of, line_text}
-use Rattle.watch_lines.specs.Values.{Tells, HasRevision, is_closing}
+use Rattle.watch_lines.specs.Values.{TellsByValue, HasRevision, ends_initial_events}
 use Rattle.watch_lines.specs.declared.peer_line.PeerLine.TheVariants as peer
 use Rattle.watch_lines.proofs.LawLemmas.{decimal-utf8, message-utf8}
 use Rattle.watch_lines.proofs.ObjectLemmas.{ShownAs, shown-as, same-value, both-none, given-some}
@@ -57,7 +57,7 @@ object-compact law resource obj rev d is at of =
     is.stored.text plain rev ∙ ap compact_text (sym back.shown) ∙ ap compact_text (same-value (object_json obj rev) back.value d back.text of)
 
 own-told : Laws → (resource : Resource) (kind : Kind) (obj : Obj) (rev : ℕ) → IsStored resource obj → IsToldAt rev
-    → Tells resource (event_text (type_of kind) (object_json obj rev)) (peer.Told kind obj rev)
+    → TellsByValue resource (event_text (type_of kind) (object_json obj rev)) (peer.Told kind obj rev)
 own-told laws resource kind obj rev is at =
     let text = object_json obj rev in
     let shown : ShownAs resource text obj rev = shown-as laws.objects resource text obj rev is at refl in
@@ -137,12 +137,12 @@ mark-revision : RevisionsAreReadBack → (resource : Resource) (at : ℕ) (closi
 mark-revision law resource at false told = told-revision law at told
 mark-revision law resource at true told = told-revision law at told
 
-mark-closes : (resource : Resource) (at : ℕ) (closing : Bool) → is_closing (mark_value resource at closing) ≡ closing
+mark-closes : (resource : Resource) (at : ℕ) (closing : Bool) → ends_initial_events (mark_value resource at closing) ≡ closing
 mark-closes resource at false = refl
 mark-closes resource at true = refl
 
 own-mark : Laws → (resource : Resource) (at : ℕ) (closing : Bool) → IsToldAt at
-    → Tells resource (event_text types.Bookmark (bookmark_text (api_version_of resource) (kind_of resource) at closing)) (peer.Bookmark at closing)
+    → TellsByValue resource (event_text types.Bookmark (bookmark_text (api_version_of resource) (kind_of resource) at closing)) (peer.Bookmark at closing)
 own-mark laws resource at closing told =
     let value = mark_value resource at closing in
     record {
@@ -155,7 +155,7 @@ own-mark laws resource at closing told =
 -- ---- a loss
 
 own-loss : (resource : Resource) (at floor : ℕ) → at ≤ 2 ^ 62 → floor ≤ 2 ^ 62
-    → Tells resource (event_text types.Error (expired_text at floor)) (peer.Error 410)
+    → TellsByValue resource (event_text types.Error (expired_text at floor)) (peer.Error 410)
 own-loss resource at floor small small_floor =
     let reason = codes "Expired" in
     let message = expired_message at floor in
@@ -168,7 +168,7 @@ own-loss resource at floor small small_floor =
       tells = record { event = types.Error; type_is = refl; object = (refl, lit< tt, refl) };
     }
 
-pub own-line : Laws → (resource : Resource) (line : Line) → IsTold resource line → Tells resource (line_text Whole resource line) (as_read line)
+pub own-line : Laws → (resource : Resource) (line : Line) → IsTold resource line → TellsByValue resource (line_text Whole resource line) (as_read line)
 own-line laws resource (Told transition) told = own-told laws resource transition.kind transition.obj transition.rev told.0 told.1
 own-line laws resource (Bookmark at) told = own-mark laws resource at false told
 own-line laws resource (Closing at) told = own-mark laws resource at true told

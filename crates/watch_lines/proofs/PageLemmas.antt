@@ -16,10 +16,10 @@ use Rattle.kube_meta.specs.declared.resources.Resource.{Resource}
 use Rattle.json_obj.specs.Laws.{ObjectsAreOne, ValuesAreOrderly}
 use Rattle.json_obj.specs.Objects.{IsTextOf}
 use Rattle.json_obj.specs.Orderly.{IsOrderly, AreOrderlyItems}
-use Rattle.watch_lines.specs.Pages.{AreShown, IsListValue, IsListed, IsPage, ReadsList, ReadsPage, listed, items_of, token_of}
+use Rattle.watch_lines.specs.Pages.{AreShown, IsListValue, IsPageValue, IsPageText, ReadsList, ReadsPage, listed, items_of, token_of}
 use Rattle.watch_lines.specs.Stored.{IsStored, IsToldAt}
 use Rattle.watch_lines.specs.ValueLaws.{IsSamePage}
-use Rattle.watch_lines.specs.Values.{IsShown, HasRevision}
+use Rattle.watch_lines.specs.Values.{ShowsObject, HasRevision}
 use Rattle.watch_lines.specs.declared.pages.Page.{Page}
 use Rattle.watch_lines.proofs.ObjectLemmas.{same-value}
 use Rattle.watch_lines.proofs.ShownLemmas.{ShowsNone, one-shown, shown-stored, revision-told}
@@ -34,11 +34,11 @@ pub record AreBehind (resource : Resource) (whole rest : Items) (rows : List Row
 pub none-behind : (resource : Resource) (whole : Items) → AreBehind resource whole whole []
 none-behind resource whole = record { done = λ more shown. shown; left = λ all shown. (all, shown) }
 
-first-left : (resource : Resource) (d : Data) (ds : Items) (more : List RowData) → AreShown resource (item d ds) more → (row : RowData) × (rows : List RowData) × IsShown resource d row.obj row.rev × AreShown resource ds rows
+first-left : (resource : Resource) (d : Data) (ds : Items) (more : List RowData) → AreShown resource (item d ds) more → (row : RowData) × (rows : List RowData) × ShowsObject resource d row.obj row.rev × AreShown resource ds rows
 first-left resource d ds [] shown = absurd shown
 first-left resource d ds (row ∷ rows) shown = (row, rows, shown.0, shown.1)
 
-one-behind : (resource : Resource) (whole : Items) (d : Data) (rest : Items) (rows : List RowData) (obj : Obj) (rev : ℕ) → AreBehind resource whole (item d rest) rows → IsShown resource d obj rev
+one-behind : (resource : Resource) (whole : Items) (d : Data) (rest : Items) (rows : List RowData) (obj : Obj) (rev : ℕ) → AreBehind resource whole (item d rest) rows → ShowsObject resource d obj rev
     → AreBehind resource whole rest (rows ++ (record { obj = obj; rev = rev }) ∷ [])
 one-behind resource whole d rest rows obj rev are is =
     let row : RowData = record { obj = obj; rev = rev } in
@@ -55,7 +55,7 @@ from-is : (vs : List Value) (i : ℕ) (v : Value) → i < length vs → v ≡ ge
 from-is vs i v within at = at_drop_more items_view vs i v within ∙ ap (λ x. items_view (x ∷ drop (i + 1) vs)) (sym at)
 
 pub more-behind : (resource : Resource) (vs : List Value) (i : ℕ) (v : Value) (rows : List RowData) (obj : Obj) (rev : ℕ) → i < length vs → v ≡ get_or vs i v
-    → AreBehind resource (items_view vs) (from vs i) rows → IsShown resource (view v) obj rev
+    → AreBehind resource (items_view vs) (from vs i) rows → ShowsObject resource (view v) obj rev
     → AreBehind resource (items_view vs) (from vs (i + 1)) (rows ++ (record { obj = obj; rev = rev }) ∷ [])
 more-behind resource vs i v rows obj rev within at are is =
     one-behind resource (items_view vs) (view v) (from vs (i + 1)) rows obj rev (subst (λ rest. AreBehind resource (items_view vs) rest rows) (from-is vs i v within at) are) is
@@ -82,7 +82,7 @@ one-row law resource (item d ds) (row ∷ rows) (other ∷ others) first second 
     let one = one-shown law resource d row.obj other.obj row.rev other.rev first.0 second.0 in
     ap₂ (λ (r : RowData) (rs : List RowData). r ∷ rs) (ap₂ (λ o r. record { obj = o; rev = r }) one.0 one.1) (one-row law resource ds rows others first.1 second.1)
 
-one-listed : ObjectsAreOne → (resource : Resource) (d : Data) (rows others : List RowData) (at other : ℕ) (token later : List ℕ) → IsListed resource d rows at token → IsListed resource d others other later
+one-listed : ObjectsAreOne → (resource : Resource) (d : Data) (rows others : List RowData) (at other : ℕ) (token later : List ℕ) → IsPageValue resource d rows at token → IsPageValue resource d others other later
     → IsSamePage rows others at other token later
 one-listed law resource d rows others at other token later first second =
     let same : second.items ≡ first.items = same_Some second.items first.items (sym second.items_are ∙ first.items_are) in
@@ -92,11 +92,11 @@ one-listed law resource d rows others at other token later first second =
       token_is = same_Some token later (sym first.token_is ∙ second.token_is);
     }
 
-pub one-page : ObjectsAreOne → (resource : Resource) (text : List ℕ) (rows others : List RowData) (at other : ℕ) (token later : List ℕ) → IsPage resource text rows at token → IsPage resource text others other later
+pub one-page : ObjectsAreOne → (resource : Resource) (text : List ℕ) (rows others : List RowData) (at other : ℕ) (token later : List ℕ) → IsPageText resource text rows at token → IsPageText resource text others other later
     → IsSamePage rows others at other token later
 one-page law resource text rows others at other token later first second =
     one-listed law resource first.value rows others at other token later first.lists
-    (subst (λ d. IsListed resource d others other later) (same-value text second.value first.value second.is first.is) second.lists)
+    (subst (λ d. IsPageValue resource d others other later) (same-value text second.value first.value second.is first.is) second.lists)
 
 -- ---- it may be stored
 
@@ -119,7 +119,7 @@ listed-orderly (Some (string s)) ds orderly e = absurd cc
 listed-orderly (Some (array es)) ds orderly e = subst AreOrderlyItems (same_Some es ds e) (orderly (array es) refl)
 listed-orderly (Some (object ms)) ds orderly e = absurd cc
 
-pub kept-page : ValuesAreOrderly → RevisionsAreReadBack → (resource : Resource) (text : List ℕ) (rows : List RowData) (at : ℕ) (token : List ℕ) → IsPage resource text rows at token
+pub kept-page : ValuesAreOrderly → RevisionsAreReadBack → (resource : Resource) (text : List ℕ) (rows : List RowData) (at : ℕ) (token : List ℕ) → IsPageText resource text rows at token
     → All (IsRowKept resource) rows × IsToldAt at
 kept-page laws law resource text rows at token is =
     let orderly = listed-orderly (get (codes "items") is.value) is.lists.items (λ d e. laws.member (codes "items") is.value d (laws.whole text is.value is.is) e) is.lists.items_are in
@@ -147,7 +147,7 @@ pub no-more : (vs : List Value) (i : ℕ) → length vs ≤ i → from vs i ≡ 
 no-more vs i past = ap items_view (drop_of_length-le vs past)
 
 of-value : (resource : Resource) (text : List ℕ) (d : Data) → IsTextOf text d → (found : Option Page) → ReadsList resource d found → ReadsPage resource text found
-of-value resource text d is None none = λ rows at token page. none rows at token (subst (λ e. IsListed resource e rows at token) (same-value text page.value d page.is is) page.lists)
+of-value resource text d is None none = λ rows at token page. none rows at token (subst (λ e. IsPageValue resource e rows at token) (same-value text page.value d page.is is) page.lists)
 of-value resource text d is (Some page) lists = record { value = d; is = is; lists = lists }
 
 pub all-of-value : (resource : Resource) (text : List ℕ) (d : Data) → IsTextOf text d → (found : Result (Option Page) AllocError)

@@ -16,11 +16,11 @@ use Rattle.json_obj.specs.Objects.{value_refusal, members_refusal, metadata_of}
 use Rattle.json_obj.specs.Orderly.{IsOrderly}
 use Rattle.watch_lines.specs.Reading.{IsPlaced, Keeps}
 use Rattle.watch_lines.specs.Stored.{IsStored, IsToldAt}
-use Rattle.watch_lines.specs.Values.{IsShown, HasRevision}
+use Rattle.watch_lines.specs.Values.{ShowsObject, HasRevision}
 use Rattle.watch_lines.proofs.ObjectLemmas.{from-none, told-at}
 
 abbrev pub ShowsNone : Resource → Data → Type 0
-ShowsNone resource d = (obj : Obj) (rev : ℕ) → ¬ (IsShown resource d obj rev)
+ShowsNone resource d = (obj : Obj) (rev : ℕ) → ¬ (ShowsObject resource d obj rev)
 
 -- ---- what a value shows
 
@@ -31,7 +31,7 @@ pub unplaced : (resource : Resource) (d : Data) → ((ns name : List ℕ) → ¬
 unplaced resource d none obj rev shown = none shown.ns shown.name shown.placed
 
 -- a value has one place
-pub place-is : (resource : Resource) (d : Data) (ns name : List ℕ) (obj : Obj) (rev : ℕ) → IsPlaced d ns name → (shown : IsShown resource d obj rev) → Keeps resource ns name d obj rev
+pub place-is : (resource : Resource) (d : Data) (ns name : List ℕ) (obj : Obj) (rev : ℕ) → IsPlaced d ns name → (shown : ShowsObject resource d obj rev) → Keeps resource ns name d obj rev
 place-is resource d ns name obj rev placed shown =
     let same_ns : shown.ns ≡ ns = same_Some shown.ns ns (sym shown.placed.ns_is ∙ placed.ns_is) in
     let same_name : shown.name ≡ name = same_Some shown.name name (sym shown.placed.name_is ∙ placed.name_is) in
@@ -41,7 +41,7 @@ abbrev pub KeepsIn : Resource → List ℕ → List ℕ → Data → Option (Obj
 KeepsIn resource ns name d found = MatchOption found ((obj : Obj) (rev : ℕ) → ¬ (Keeps resource ns name d obj rev)) (λ kept. Keeps resource ns name d kept.0 kept.1)
 
 abbrev pub ShownIn : Resource → Data → Option (Obj × ℕ) → Type 0
-ShownIn resource d found = MatchOption found (ShowsNone resource d) (λ shown. IsShown resource d shown.0 shown.1)
+ShownIn resource d found = MatchOption found (ShowsNone resource d) (λ shown. ShowsObject resource d shown.0 shown.1)
 
 shown-kept : (resource : Resource) (ns name : List ℕ) (d : Data) → value_refusal d ≡ None → IsPlaced d ns name → (found : Option (Obj × ℕ)) → KeepsIn resource ns name d found → ShownIn resource d found
 shown-kept resource ns name d plain placed None none = λ obj rev shown. none obj rev (place-is resource d ns name obj rev placed shown)
@@ -61,7 +61,7 @@ plain-float false rest e = refl
 pub no-float : (d : Data) → value_refusal d ≡ None → has_float d ≡ false
 no-float d plain = plain-float (has_float d) _ plain
 
-pub one-shown : ObjectsAreOne → (resource : Resource) (d : Data) (obj other : Obj) (rev later : ℕ) → IsShown resource d obj rev → IsShown resource d other later → (obj ≡ other) × (rev ≡ later)
+pub one-shown : ObjectsAreOne → (resource : Resource) (d : Data) (obj other : Obj) (rev later : ℕ) → ShowsObject resource d obj rev → ShowsObject resource d other later → (obj ≡ other) × (rev ≡ later)
 one-shown law resource d obj other rev later first second =
     let also : Keeps resource first.ns first.name d other later = place-is resource d first.ns first.name other later first.placed second in
     let given : Some (Some rev) ≡ Some (Some later) = first.keeps.stores.given ∙ sym also.stores.given in (
@@ -74,7 +74,7 @@ one-shown law resource d obj other rev later first second =
 pub revision-told : RevisionsAreReadBack → (d : Data) (at : ℕ) → HasRevision d at → IsToldAt at
 revision-told law d at has = told-at law (get (codes "resourceVersion") (metadata_of d)) at (sym has)
 
-pub shown-stored : RevisionsAreReadBack → (resource : Resource) (d : Data) (obj : Obj) (rev : ℕ) → IsOrderly d → IsShown resource d obj rev → IsStored resource obj × IsToldAt rev
+pub shown-stored : RevisionsAreReadBack → (resource : Resource) (d : Data) (obj : Obj) (rev : ℕ) → IsOrderly d → ShowsObject resource d obj rev → IsStored resource obj × IsToldAt rev
 shown-stored law resource d obj rev orderly shown = (
   record {
     ns = shown.ns;

@@ -16,7 +16,7 @@ use Rattle.json_obj.specs.declared.pieces.EventType.{EventType}
 use Rattle.json_obj.specs.declared.pieces.EventType.TheVariants as types
 use Rattle.select_all.specs.declared.selection.Kind.{Kind}
 use Rattle.watch_lines.specs.Texts.{type_of}
-use Rattle.watch_lines.specs.Values.{ObjectTells, ReadsByValue, ReadsValue, Tells, ValueTells}
+use Rattle.watch_lines.specs.Values.{ObjectTells, ReadsByValue, ReadsValue, TellsByValue, ValueTells}
 use Rattle.watch_lines.specs.ValueLaws.{IsKept}
 use Rattle.watch_lines.specs.declared.peer_line.PeerLine.{PeerLine}
 use Rattle.watch_lines.specs.declared.peer_line.PeerLine.TheVariants.{Told, Bookmark, Error}
@@ -80,7 +80,7 @@ one-valued law resource d line other first second =
     one-in law resource first.event (get (codes "object") d) line other first.object
     (subst (λ event. IsSomeAnd (get (codes "object") d) (λ o. ObjectTells resource event o other)) same second.object)
 
-pub one-line : ObjectsAreOne → (resource : Resource) (text : List ℕ) (line other : PeerLine) → Tells resource text line → Tells resource text other → line ≡ other
+pub one-line : ObjectsAreOne → (resource : Resource) (text : List ℕ) (line other : PeerLine) → TellsByValue resource text line → TellsByValue resource text other → line ≡ other
 one-line law resource text line other first second =
     one-valued law resource first.value line other first.tells (subst (λ d. ValueTells resource d other) (same-value text second.value first.value second.is first.is) second.tells)
 
@@ -96,7 +96,7 @@ kept-in : RevisionsAreReadBack → (resource : Resource) (event : EventType) (fo
 kept-in law resource event None line orderly tells = absurd tells
 kept-in law resource event (Some o) line orderly tells = kept-told law resource event o line (orderly o refl) tells
 
-pub kept-line : ValuesAreOrderly → RevisionsAreReadBack → (resource : Resource) (text : List ℕ) (line : PeerLine) → Tells resource text line → IsKept resource line
+pub kept-line : ValuesAreOrderly → RevisionsAreReadBack → (resource : Resource) (text : List ℕ) (line : PeerLine) → TellsByValue resource text line → IsKept resource line
 kept-line laws law resource text line is =
     kept-in law resource is.tells.event (get (codes "object") is.value) line
     (λ o e. laws.member (codes "object") is.value o (laws.whole text is.value is.is) e) is.tells.object

@@ -7,7 +7,7 @@ use Rattle.kube_meta.specs.Rows.{RowData}
 use Rattle.kube_meta.specs.declared.resources.Resource.{Resource}
 use Rattle.json_obj.specs.Objects.{IsTextOf, metadata_of}
 use Rattle.watch_lines.specs.Reading.{text_in}
-use Rattle.watch_lines.specs.Values.{IsShown, HasRevision}
+use Rattle.watch_lines.specs.Values.{ShowsObject, HasRevision}
 use Rattle.watch_lines.specs.declared.pages.Page.{Page}
 
 -- the items show these rows, one each, in their order
@@ -15,7 +15,7 @@ abbrev pub AreShown : Resource → Items → List RowData → Type 0
 AreShown resource no_items [] = ⊤
 AreShown resource no_items (row ∷ rows) = ⊥
 AreShown resource (item d ds) [] = ⊥
-AreShown resource (item d ds) (row ∷ rows) = IsShown resource d row.obj row.rev × AreShown resource ds rows
+AreShown resource (item d ds) (row ∷ rows) = ShowsObject resource d row.obj row.rev × AreShown resource ds rows
 
 -- what stands in an array; nothing and null are no items
 abbrev pub listed : Option Data → Option Items
@@ -45,7 +45,7 @@ abbrev pub IsListValue : Resource → Data → Type 0
 IsListValue resource d = (text_in (codes "apiVersion") d ≡ Some (api_version_of resource)) × (text_in (codes "kind") d ≡ Some (list_kind_of resource))
 
 -- the value is a page of a list of the resource: its rows, the revision at which they stand, and its token
-pub record IsListed (resource : Resource) (d : Data) (rows : List RowData) (at : ℕ) (token : List ℕ) : Type 0 where
+pub record IsPageValue (resource : Resource) (d : Data) (rows : List RowData) (at : ℕ) (token : List ℕ) : Type 0 where
   pub kind : IsListValue resource d
   pub revision : HasRevision d at
   pub token_is : token_of d ≡ Some token
@@ -54,19 +54,19 @@ pub record IsListed (resource : Resource) (d : Data) (rows : List RowData) (at :
   pub rows_are : AreShown resource items rows
 
 -- the text is of such a value
-pub record IsPage (resource : Resource) (text : List ℕ) (rows : List RowData) (at : ℕ) (token : List ℕ) : Type 0 where
+pub record IsPageText (resource : Resource) (text : List ℕ) (rows : List RowData) (at : ℕ) (token : List ℕ) : Type 0 where
   pub value : Data
   pub is : IsTextOf text value
-  pub lists : IsListed resource value rows at token
+  pub lists : IsPageValue resource value rows at token
 
 -- the page that a value is, or nothing where it is none
 abbrev pub ReadsList : Resource → Data → Option Page → Type 0
 ReadsList resource d found =
-    MatchOption found ((rows : List RowData) (at : ℕ) (token : List ℕ) → ¬ (IsListed resource d rows at token))
-    (λ page. IsListed resource d page.rows.items page.at (string_bytes page.token))
+    MatchOption found ((rows : List RowData) (at : ℕ) (token : List ℕ) → ¬ (IsPageValue resource d rows at token))
+    (λ page. IsPageValue resource d page.rows.items page.at (string_bytes page.token))
 
 -- and that which a text is
 abbrev pub ReadsPage : Resource → List ℕ → Option Page → Type 0
 ReadsPage resource text found =
-    MatchOption found ((rows : List RowData) (at : ℕ) (token : List ℕ) → ¬ (IsPage resource text rows at token))
-    (λ page. IsPage resource text page.rows.items page.at (string_bytes page.token))
+    MatchOption found ((rows : List RowData) (at : ℕ) (token : List ℕ) → ¬ (IsPageText resource text rows at token))
+    (λ page. IsPageText resource text page.rows.items page.at (string_bytes page.token))

@@ -38,19 +38,19 @@ bad_object resource d = record { trouble = object_trouble resource d; ns = text_
 abbrev pub bad_text : Trouble → BadText
 bad_text trouble = record { trouble = trouble; ns = None; name = None }
 
-abbrev pub is_other : Trouble → Bool
-is_other NotJson = false
-is_other TooDeep = false
-is_other Float = false
-is_other NoPlace = false
-is_other Kind = false
-is_other Revision = false
-is_other Other = true
+abbrev pub is_unnamed : Trouble → Bool
+is_unnamed NotJson = false
+is_unnamed TooDeep = false
+is_unnamed Float = false
+is_unnamed NoPlace = false
+is_unnamed Kind = false
+is_unnamed Revision = false
+is_unnamed Other = true
 
 -- the first item with which something that has a name here is wrong
 abbrev pub bad_item : Resource → Items → BadText
 bad_item resource no_items = bad_text Other
-bad_item resource (item d ds) = if is_other (object_trouble resource d) then bad_item resource ds else bad_object resource d
+bad_item resource (item d ds) = if is_unnamed (object_trouble resource d) then bad_item resource ds else bad_object resource d
 
 -- of a line it is the object; of a page, the items
 abbrev pub bad_value : Resource → Data → BadText

@@ -15,7 +15,7 @@ use Rattle.watch_lines.specs.declared.peer_line.PeerLine.TheVariants.{Told, Book
 
 -- The value shows this object of the resource at this revision: nothing refuses it at the namespace and the name that
 -- it gives, and this is what is stored for it there. Its kind and its version may be absent, as in a list's items.
-pub record IsShown (resource : Resource) (d : Data) (obj : Obj) (rev : ℕ) : Type 0 where
+pub record ShowsObject (resource : Resource) (d : Data) (obj : Obj) (rev : ℕ) : Type 0 where
   pub ns : List ℕ
   pub name : List ℕ
   pub placed : IsPlaced d ns name
@@ -27,13 +27,13 @@ abbrev pub HasRevision : Data → ℕ → Type 0
 HasRevision d at = revision_in (get (codes "resourceVersion") (metadata_of d)) ≡ Some (Some at)
 
 -- whether the metadata is annotated as that of the bookmark that ends the initial events (KEP-3157)
-abbrev pub is_closing : Data → Bool
-is_closing d = is_some (option_and_then (get (codes "k8s.io/initial-events-end")) (get (codes "annotations") (metadata_of d)))
+abbrev pub ends_initial_events : Data → Bool
+ends_initial_events d = is_some (option_and_then (get (codes "k8s.io/initial-events-end")) (get (codes "annotations") (metadata_of d)))
 
 -- what an event of this type tells of its object
 abbrev pub ObjectTells : Resource → EventType → Data → PeerLine → Type 0
-ObjectTells resource event d (Told kind obj rev) = (event ≡ type_of kind) × IsShown resource d obj rev
-ObjectTells resource event d (Bookmark at closing) = (event ≡ types.Bookmark) × HasRevision d at × (is_closing d ≡ closing)
+ObjectTells resource event d (Told kind obj rev) = (event ≡ type_of kind) × ShowsObject resource d obj rev
+ObjectTells resource event d (Bookmark at closing) = (event ≡ types.Bookmark) × HasRevision d at × (ends_initial_events d ≡ closing)
 ObjectTells resource event d (Error code) = (event ≡ types.Error) × (code < 2 ^ 16) × (number_in (codes "code") d ≡ Some code)
 
 -- the value is an event that tells this line
@@ -47,11 +47,11 @@ abbrev pub ReadsValue : Resource → Data → Option PeerLine → Type 0
 ReadsValue resource d found = MatchOption found ((line : PeerLine) → ¬ (ValueTells resource d line)) (ValueTells resource d)
 
 -- the text is of a value that tells this line
-pub record Tells (resource : Resource) (text : List ℕ) (line : PeerLine) : Type 0 where
+pub record TellsByValue (resource : Resource) (text : List ℕ) (line : PeerLine) : Type 0 where
   pub value : Data
   pub is : IsTextOf text value
   pub tells : ValueTells resource value line
 
 -- what a text tells
 abbrev pub ReadsByValue : Resource → List ℕ → Option PeerLine → Type 0
-ReadsByValue resource text found = MatchOption found ((line : PeerLine) → ¬ (Tells resource text line)) (Tells resource text)
+ReadsByValue resource text found = MatchOption found ((line : PeerLine) → ¬ (TellsByValue resource text line)) (TellsByValue resource text)

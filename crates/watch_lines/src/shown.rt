@@ -5,7 +5,7 @@ ghost use Rattle.serde_json.specs.Data.{Data};
 ghost use Rattle.serde_json.specs.View.{view};
 ghost use Rattle.kube_meta.specs.declared.objects.Obj.{Obj as Object};
 ghost use Rattle.json_obj.specs.Objects.{IsTextOf, value_refusal};
-ghost use Rattle.watch_lines.specs.Values.{IsShown};
+ghost use Rattle.watch_lines.specs.Values.{ShowsObject};
 
 use crate::objects::{kept_in, place_in};
 use crate::plain::{MAX_NESTING, holds_float, nests_within};
@@ -32,8 +32,8 @@ pub(crate) fn shown_in(
     value: &Value,
 ) -> Result<Option<(Obj, u64)>, Memory>
     ensures { IfOk result (λ found. MatchOption found
-        ((obj : Object) (rev : ℕ) → ¬ (IsShown resource (view value.now) obj rev))
-        (λ shown. IsShown resource (view value.now) shown.0 shown.1)) }
+        ((obj : Object) (rev : ℕ) → ¬ (ShowsObject resource (view value.now) obj rev))
+        (λ shown. ShowsObject resource (view value.now) shown.0 shown.1)) }
 {
     if !is_plain(value) {
         return Ok(None);

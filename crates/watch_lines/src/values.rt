@@ -7,7 +7,7 @@ ghost use Rattle.json_obj.specs.declared.pieces.EventType.{EventType as Event};
 ghost use Rattle.json_obj.specs.declared.pieces.EventType.TheVariants as types;
 ghost use Rattle.watch_lines.specs.Texts.{type_of};
 ghost use Rattle.watch_lines.specs.Reading.{text_in as text_of};
-ghost use Rattle.watch_lines.specs.Values.{HasRevision, ObjectTells, ReadsByValue, ReadsValue, is_closing as closes};
+ghost use Rattle.watch_lines.specs.Values.{HasRevision, ObjectTells, ReadsByValue, ReadsValue, ends_initial_events as closes};
 ghost use Rattle.watch_lines.specs.declared.peer_line.PeerLine.{PeerLine as Line};
 
 use crate::PeerLine;
@@ -121,7 +121,7 @@ fn bookmark(resource: Resource, object: &Value) -> Option<PeerLine>
     match revision_at(object) {
         Some(at) => Some(PeerLine::Bookmark {
             at,
-            closing: is_closing(object),
+            closing: ends_initial_events(object),
         }),
         None => None,
     }
@@ -145,7 +145,7 @@ pub(crate) fn revision_at(object: &Value) -> Option<u64>
 }
 
 // Whether a value's metadata is annotated as that of the bookmark that ends the initial events.
-fn is_closing(object: &Value) -> bool
+fn ends_initial_events(object: &Value) -> bool
     ensures { result ≡ closes (view object.now) }
 {
     let Some(metadata) = object.get("metadata") else {
