@@ -1,0 +1,10 @@
+pub mod Refusals
+pub mod Counting
+pub mod Pages
+pub mod Lists
+pub mod Mirroring
+pub mod Telling
+pub mod Resuming
+pub mod Relisting
+pub mod Uids
+pub mod Laws
