@@ -39,8 +39,8 @@ impl<'a, R: Wait> Steps for Links<'a, R> {
     }
 }
 
-// A connection that gives the text of words.
-fn source_of(alloc: Global, words: &str) -> Result<MemSource, Memory> {
+/// A connection that gives the text of words.
+pub fn source_of(alloc: Global, words: &str) -> Result<MemSource, Memory> {
     let bytes = text_of(alloc, words)?.as_bytes().to_vec(alloc)?;
     Ok(MemSource::new(bytes, 65536, Vec::new(alloc)))
 }
@@ -106,8 +106,17 @@ fn list<N: LogFacts, R: Wait>(
     told: &mut Wording,
 ) -> Result<(), Memory> {
     let mut door = mirror.door()?;
+    list_store(&mut door, at, told)
+}
+
+/// The pods that stand in a store at a revision.
+pub fn list_store<N: LogFacts, R: Wait>(
+    door: &mut StoreDoor<N, &R>,
+    at: u64,
+    told: &mut Wording,
+) -> Result<(), Memory> {
     let mut pass = door.pass()?;
-    tell_list(&mut door, &mut pass, at, told);
+    tell_list(door, &mut pass, at, told);
     Ok(())
 }
 
@@ -148,8 +157,8 @@ fn connect<N: LogFacts, R: Wait>(
     }
 }
 
-// The lines that were written.
-fn tell_written(bytes: &[u8], told: &mut Wording) {
+/// The lines that were written.
+pub fn tell_written(bytes: &[u8], told: &mut Wording) {
     let text = str::from_utf8(bytes).unwrap_or("(no UTF-8)");
     for line in text.lines() {
         told.show(&format_args!("{line}<CRLF>"));

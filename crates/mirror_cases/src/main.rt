@@ -1,8 +1,9 @@
 //! Cases of mirrors, as data: streams of bytes that are read as lines of a peer's watch, openings, and mirrors over
-//! connections. Each file that the command line names has rows, each a step and the answer that is wanted. How they are
-//! written stands in `data/README.txt`.
+//! connections, of peers and of clusters. Each file that the command line names has rows, each a step and the answer
+//! that is wanted. How they are written stands in `data/README.txt`.
 #![tactic(auto)]
 
+mod clusters;
 mod links;
 mod openings;
 mod streams;
@@ -10,6 +11,7 @@ mod whose;
 mod words;
 
 use case_rows::{Lines, Tally, run_rows};
+use clusters::Clusters;
 use links::Links;
 use openings::Openings;
 use std::alloc::Global;
@@ -43,6 +45,7 @@ fn run_file<R: Runtime + Wait>(
         "streams.txt" => run_rows(rt, alloc, lines, &mut Streams, tally),
         "openings.txt" => run_rows(rt, alloc, lines, &mut Openings, tally),
         "links.txt" | "logs.txt" => run_rows(rt, alloc, lines, &mut Links { rt }, tally),
+        "clusters.txt" => run_rows(rt, alloc, lines, &mut Clusters { rt }, tally),
         _ => {
             tally.count(false);
             Ok(())

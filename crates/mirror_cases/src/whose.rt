@@ -28,8 +28,8 @@ impl<'a> Whose<'a> {
     }
 }
 
-// The namespace that a word names. One that may name none, as `-`, stands for all.
-fn namespace_of(alloc: Global, word: &str) -> Result<Option<Text>, Memory>
+/// The namespace that a word names. One that may name none, as `-`, stands for all.
+pub fn namespace_of(alloc: Global, word: &str) -> Result<Option<Text>, Memory>
     ensures { IfOk result (λ ns. IfSome ns IsNamespace) }
 {
     if is_namespace(word) {
