@@ -13,7 +13,7 @@ use Rattle.watch_rules.specs.Starts.{is_from_state}
 use Rattle.watch_rules.specs.Bodies.{Line, Told, Bookmark, Closing, Lost, BeginsBody}
 use Rattle.watch_lines.specs.Laws.{as_read}
 use Rattle.watch_lines.specs.ValueLaws.{TextsTellOneLine}
-use Rattle.watch_lines.specs.Values.{Tells}
+use Rattle.watch_lines.specs.Values.{TellsByValue}
 use Rattle.watch_lines.specs.declared.peer_line.PeerLine.TheVariants as peer
 use Rattle.mirror_law.specs.Clusters.{IsCluster, AsksChanges, with_mark, with_marks}
 use Rattle.mirror_law.specs.Following.{Follows}
@@ -29,7 +29,7 @@ use Rattle.cluster_link.specs.Telling.{told_fault, TakesWhole, TakesPart}
 pub record Premises (log : Log) (ask : WatchAsk) (log_floor low b from : ℕ) (lines : List Line) (line : Line) (m : MirrorLogData) (text : List ℕ) : Type 0 where
   pub one : TextsTellOneLine
   pub pods : m.selection.resource ≡ Pods
-  pub tells : Tells Pods text (as_read line)
+  pub tells : TellsByValue Pods text (as_read line)
   pub cluster : IsCluster log m.selection.resource
   pub asked : AsksChanges m.selection ask from
   pub follows : Follows log m.selection b from (with_marks lines) m.log m.kept
@@ -75,7 +75,7 @@ module _ (log : Log) (ask : WatchAsk) (log_floor low b from : ℕ) (lines : List
       lawful_lines_are_taken log log_floor low b from m.selection ask (with_marks lines) m.log m.kept line h.cluster.log h.asked.selection h.follows (past line h) (next line h)
 
   -- the line that was heard is that
-  pub heard_line : (line heard : Line) → On line → Tells Pods text (as_read heard) → told_fault m (Some (as_read heard)) ≡ None → heard ≡ line
+  pub heard_line : (line heard : Line) → On line → TellsByValue Pods text (as_read heard) → told_fault m (Some (as_read heard)) ≡ None → heard ≡ line
   heard_line line heard h tells good = same_line m line heard (taken_line line h) good (h.one Pods text (as_read heard) (as_read line) tells h.tells)
 
   told_of : (line : Line) → On line → (told : List TransitionData) (more : List RevisionData) → AreToldBy Pods told (end_of m.log) more → AreToldBy m.selection.resource told (end_of m.log) more

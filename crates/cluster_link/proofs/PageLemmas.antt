@@ -16,7 +16,7 @@ use Rattle.line_stream.specs.ClusterRequests.{page_request}
 use Rattle.line_stream.specs.declared.asking.AskNo.{AskNo}
 use Rattle.line_stream.specs.declared.asking.AskNo.TheVariants as ask
 use Rattle.select_all.specs.declared.selection.Selection.{Selection}
-use Rattle.watch_lines.specs.Pages.{IsPage}
+use Rattle.watch_lines.specs.Pages.{IsPageText}
 use Rattle.cluster_link.specs.Pages.{PageData, GatheredData, AddsPage, ArePages, IsNextPage, IsOfRevision, IsLeftUnsent, IsPageRead, LacksPage, NextPage, TakesPage, no_pages, page_requests}
 use Rattle.cluster_link.specs.Lists.{AnswersList, HoldsPages, IsGathered, LacksNext, ListData}
 use Rattle.cluster_link.specs.declared.refusal.ClusterNo.{ClusterNo}
@@ -108,7 +108,7 @@ unsent_of ask.WriteFault text sent is = is
 unsent_of ask.Memory text sent is = is
 
 -- what becomes of the text of a page
-pub takes_page : (old : GatheredData) (text : List ℕ) (rows : List RowData) (at : ℕ) (token : List ℕ) (result : Result Bool ClusterNo) (new : GatheredData) → IsPage Pods text rows at token
+pub takes_page : (old : GatheredData) (text : List ℕ) (rows : List RowData) (at : ℕ) (token : List ℕ) (result : Result Bool ClusterNo) (new : GatheredData) → IsPageText Pods text rows at token
     → AddsPage old rows at token result new → TakesPage old text result new
 takes_page old text rows at token (Ok more) new page adds = (rows, at, token, page, adds)
 takes_page old text rows at token (Err why) new page (inl memory) = inl memory

@@ -5,7 +5,7 @@ use Rattle.rev_log.specs.Logs.{Log}
 use Rattle.watch_rules.specs.declared.ask.WatchAsk.{WatchAsk}
 use Rattle.watch_rules.specs.Bodies.{Line, Told, Bookmark, Closing, Lost, BeginsBody}
 use Rattle.watch_lines.specs.Laws.{as_read}
-use Rattle.watch_lines.specs.Values.{Tells, ReadsByValue}
+use Rattle.watch_lines.specs.Values.{TellsByValue, ReadsByValue}
 use Rattle.watch_lines.specs.declared.peer_line.PeerLine.{PeerLine}
 use Rattle.mirror_law.specs.Clusters.{IsCluster, AsksChanges}
 use Rattle.cluster_link.specs.Mirroring.{ClusterData, FollowsCluster, IsClusterMirror, mirror_log}
@@ -23,5 +23,5 @@ IsFaultless (Lost at floor) fault = Unit {0}
 abbrev pub ClusterLinesAreHeard : Type 0
 ClusterLinesAreHeard =
     (peer : Log) (ask : WatchAsk) (log_floor low b from : ℕ) (lines : List Line) (line : Line) (m : ClusterData) (text : List ℕ) (found : Option PeerLine) →
-    IsClusterMirror m → Tells Pods text (as_read line) → ReadsByValue Pods text found → IsCluster peer m.selection.resource → AsksChanges m.selection ask from →
+    IsClusterMirror m → TellsByValue Pods text (as_read line) → ReadsByValue Pods text found → IsCluster peer m.selection.resource → AsksChanges m.selection ask from →
     FollowsCluster peer b from lines m → BeginsBody peer log_floor low ask from (lines ++ line ∷ []) → IsFaultless line (told_fault (mirror_log m) found)

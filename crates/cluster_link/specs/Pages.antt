@@ -9,7 +9,7 @@ use Rattle.line_stream.specs.ClusterRequests.{page_request}
 use Rattle.line_stream.specs.declared.asking.AskNo.{AskNo}
 use Rattle.line_stream.specs.declared.asking.AskNo.TheVariants as ask
 use Rattle.line_stream.specs.declared.refusal.LineNo.{LineNo}
-use Rattle.watch_lines.specs.Pages.{IsPage}
+use Rattle.watch_lines.specs.Pages.{IsPageText}
 use Rattle.cluster_link.specs.Refusals.{request_refusal, reply_refusal}
 use Rattle.cluster_link.specs.declared.refusal.ClusterNo.{ClusterNo}
 use Rattle.cluster_link.specs.declared.refusal.ClusterNo.TheVariants as no
@@ -33,7 +33,7 @@ pub record PageData : Type 0 where
 -- it is the body of a reply, and its text tells that
 pub record IsPageRead (page : PageData) : Type 0 where
   pub body : IsBody (page.before ++ page.taken) page.text page.beyond
-  pub tells : IsPage Pods page.text page.rows page.at page.token
+  pub tells : IsPageText Pods page.text page.rows page.at page.token
 
 -- what pages come to: their rows, their revision, which there is none of before the first, and the token of what
 -- follows
@@ -85,12 +85,12 @@ AddsPage old rows at token (Err why) new = (why ≡ no.Memory) ⊎ ((why ≡ no.
 abbrev pub IsNoPage : GatheredData → List ℕ → ClusterNo → Type 0
 IsNoPage gathered text why =
     (why ≡ no.Memory)
-    ⊎ (((why ≡ no.BadLine) × ((rows : List RowData) (at : ℕ) (token : List ℕ) → ¬ (IsPage Pods text rows at token)))
-    ⊎ ((why ≡ no.MixedPages) × ((rows : List RowData) × (at : ℕ) × (token : List ℕ) × IsPage Pods text rows at token × IsOfOtherRevision gathered.at at)))
+    ⊎ (((why ≡ no.BadLine) × ((rows : List RowData) (at : ℕ) (token : List ℕ) → ¬ (IsPageText Pods text rows at token)))
+    ⊎ ((why ≡ no.MixedPages) × ((rows : List RowData) × (at : ℕ) × (token : List ℕ) × IsPageText Pods text rows at token × IsOfOtherRevision gathered.at at)))
 
 -- what becomes of a body's text
 abbrev pub TakesPage : GatheredData → List ℕ → Result Bool ClusterNo → GatheredData → Type 0
-TakesPage old text (Ok more) new = (rows : List RowData) × (at : ℕ) × (token : List ℕ) × IsPage Pods text rows at token × AddsPage old rows at token (Ok more) new
+TakesPage old text (Ok more) new = (rows : List RowData) × (at : ℕ) × (token : List ℕ) × IsPageText Pods text rows at token × AddsPage old rows at token (Ok more) new
 TakesPage old text (Err why) new = IsNoPage old text why
 
 -- no page stands in the bytes that were kept and taken: there is no body, or its text isn't one

@@ -11,7 +11,7 @@ use Rattle.line_stream.specs.Answers.{Faults}
 use Rattle.line_stream.specs.declared.refusal.LineNo.{LineNo}
 use Rattle.line_stream.specs.declared.place.Place.TheVariants as place
 use Rattle.watch_lines.specs.Laws.{as_read}
-use Rattle.watch_lines.specs.Values.{Tells, ReadsByValue}
+use Rattle.watch_lines.specs.Values.{TellsByValue, ReadsByValue}
 use Rattle.watch_lines.specs.declared.peer_line.PeerLine.{PeerLine}
 use Rattle.watch_lines.specs.declared.peer_line.PeerLine.TheVariants as peer
 use Rattle.mirror_law.specs.Clusters.{IsCluster, AsksChanges}
@@ -105,7 +105,7 @@ pub record ReadsTold (old : ClusterData) (taken : List ℕ) (result : Result Hea
   pub text : List ℕ
   pub read : ReadsText old.reading (old.reading.kept ++ taken) text new.reading
   pub follows : (peer : Log) (ask : WatchAsk) (log_floor low b from : ℕ) (lines : List Line) (line : Line) →
-      Tells Pods text (as_read line) → IsCluster peer old.selection.resource → AsksChanges old.selection ask from → FollowsCluster peer b from lines old →
+      TellsByValue Pods text (as_read line) → IsCluster peer old.selection.resource → AsksChanges old.selection ask from → FollowsCluster peer b from lines old →
       BeginsBody peer log_floor low ask from (lines ++ line ∷ []) →
       IsMirrorOf peer old.selection b new.log × IfOk result (λ heard. FollowsCluster peer b from (lines ++ line ∷ []) new)
 
