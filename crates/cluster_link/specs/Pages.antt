@@ -63,11 +63,12 @@ pub record ArePages (pages : List PageData) (gathered : GatheredData) (taken kep
 
 -- ---- one more page
 
--- the page is of the revision of those before it, or the first; or it is of another
+-- the page is of the revision of those before it, or the first
 abbrev pub IsOfRevision : Option ℕ → ℕ → Type 0
 IsOfRevision None at = Unit {0}
 IsOfRevision (Some before) at = before ≡ at
 
+-- it is of another revision than those before it
 abbrev pub IsOfOtherRevision : Option ℕ → ℕ → Type 0
 IsOfOtherRevision None at = ⊥
 IsOfOtherRevision (Some before) at = before ≢ at

@@ -23,6 +23,7 @@ framing_said codings lengths =
     if is_chunks (only codings) then Some Chunked
     else (if are_unsaid codings then option_map Counted (option_and_then length_value (only lengths)) else None)
 
+-- the same of a whole head, by its fields of these names
 abbrev pub framing_in : ResponseHead → Option Framing
 framing_in h =
     framing_said (values_of (codes "transfer-encoding") (map name_and_value h.fields))

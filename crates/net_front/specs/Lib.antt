@@ -4,3 +4,5 @@ pub mod Rests
 pub mod Helpers
 pub mod Verdicts
 pub mod Probes
+pub mod Paces
+pub mod ClusterVerdicts

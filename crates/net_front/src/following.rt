@@ -1,6 +1,7 @@
 //! The following of a mirror's peer, which runs beside the workers until they have ended.
 
-use crate::end::{AtEnd, End};
+use crate::end::AtEnd;
+use crate::pace::Pace;
 use crate::redial::{News, Redial};
 use crate::shared::Front;
 use crate::standing::{Standing, standing_of};
@@ -14,12 +15,6 @@ use mirror_link::{Heard, Mirror};
 use std::alloc::Global;
 use std::sync::Wait;
 use up_api::LogFacts;
-
-/// For how many milliseconds a peer is left alone at first, where its stream is over.
-const FIRST_WAIT_MS: u64 = 20;
-
-/// And at most, after attempts in vain.
-const MOST_WAIT_MS: u64 = 5_000;
 
 /// Why a peer is followed no more. Whoever follows can't end without one of these.
 #[derive(Clone, Copy, Debug)]
@@ -58,10 +53,7 @@ pub fn follow<N: LogFacts, R: Wait + Copy, S: Source, D: Redial>(
     let from = mirror.to();
     front.heard_reply(Resource::Pods, from);
     redial.say(News::Follows { port, from });
-    let mut pace = Pace {
-        ms: FIRST_WAIT_MS,
-        at_once: false,
-    };
+    let mut pace = Pace::new();
     let mut before = Ask::Opening;
     let mut stop = hear_lines(front, mirror, source, &mut pace);
     for _ in front.rt.forever() {
@@ -82,7 +74,9 @@ pub fn follow<N: LogFacts, R: Wait + Copy, S: Source, D: Redial>(
             }
         };
         // A peer that was asked for what comes next, and can't tell it, is there.
-        pace.at_once = before == Ask::Stream && ask == Ask::Opening;
+        if before == Ask::Stream && ask == Ask::Opening {
+            pace.skip();
+        }
         stop = follow_again(front, mirror, redial, port, ask, &mut pace);
         before = ask;
     }
@@ -193,7 +187,7 @@ fn hear_lines<N: LogFacts, R: Wait + Copy, S: Source>(
         }
         match mirror.next(source) {
             Ok(Heard::Line { .. }) => {
-                pace.ms = FIRST_WAIT_MS;
+                pace.forget();
                 front.heard_line(Resource::Pods, mirror.to());
                 front.desk.doorbell.ring();
             }
@@ -202,24 +196,4 @@ fn hear_lines<N: LogFacts, R: Wait + Copy, S: Source>(
         }
     }
     unreachable!()
-}
-
-// How long the peer is left alone before it is asked again.
-#[derive(Drop)]
-struct Pace {
-    ms: u64,
-    // Whether it isn't left alone once.
-    at_once: bool,
-}
-
-impl Pace {
-    // Rests, and for twice as long the next time.
-    fn rest<W: Wait>(&mut self, rt: &W, end: &End) {
-        if self.at_once {
-            self.at_once = false;
-            return;
-        }
-        end.rest(rt, self.ms);
-        self.ms = self.ms.saturating_mul(2).min(MOST_WAIT_MS);
-    }
 }

@@ -3,6 +3,9 @@
 #![tactic(auto)]
 
 mod clock;
+mod cluster;
+mod cluster_following;
+mod cluster_verdicts;
 mod codes;
 mod counting;
 mod counts;
@@ -16,6 +19,7 @@ mod host;
 mod house;
 mod intake;
 mod mirror;
+mod pace;
 mod probes;
 mod pump;
 mod redial;
@@ -29,8 +33,10 @@ mod tally;
 mod verdicts;
 mod visitor;
 
+pub use cluster::{Cluster, serve_cluster};
+pub use cluster_verdicts::ClusterWhy;
 pub use intake::Served;
 pub use mirror::serve_mirror;
-pub use redial::{News, Redial};
+pub use redial::{ClusterNews, News, Redial};
 pub use server::{serve_all, serve_open};
 pub use shared::Host;

@@ -1,5 +1,7 @@
-//! What a mirror's server needs to follow its peer over one connection after the other.
+//! What a mirror's server needs to follow its peer, or its cluster, over one connection after the other.
 
+use crate::cluster_verdicts::ClusterWhy;
+use cluster_link::Finding;
 use edge_io::{Failed, Sink, Source};
 
 /// What has become of following a peer.
@@ -17,6 +19,21 @@ pub enum News {
     Ends { why: &'static str },
 }
 
+/// What has become of following a cluster.
+#[derive(Clone, Copy, Debug, PartialEq, Eq)]
+pub enum ClusterNews {
+    /// The cluster behind this port is followed, from a revision on.
+    Follows { port: u16, from: u64 },
+    /// It isn't heard, for this cause. It is asked again.
+    IsAway { why: ClusterWhy },
+    /// It can't tell what comes next, for this cause. Its pods are listed anew.
+    BeginsAnew { why: ClusterWhy },
+    /// It is followed again, from a revision on.
+    FollowsAgain { from: u64 },
+    /// It is no longer followed, for this cause.
+    Ends { why: ClusterWhy },
+}
+
 /// Connects to a peer again and again, and says what becomes of that. Nothing is counted: a peer that is away for a
 /// while is no fault of the server.
 pub trait Redial {
@@ -30,4 +47,7 @@ pub trait Redial {
 
     /// Tells an operator.
     fn say(&mut self, news: News);
+
+    /// Tells an operator of a cluster, and of what was found in its last text that was refused.
+    fn tell(&mut self, _news: ClusterNews, _finding: Option<&Finding>) {}
 }

@@ -16,7 +16,8 @@ pub fn tell_unknown(case: &str, told: &mut Wording) {
 fn is_known(line: &str) -> bool {
     let (word, _) = split(line);
     match word {
-        "server" | "workers" | "open" | "connections" | "fails" | "dials" | "says" | "end" => true,
+        "server" | "workers" | "open" | "connections" | "fails" | "end" => true,
+        "cluster" | "dials" | "says" => true,
         "connection" | "waits" | "lasts" | "bytes" | "reads" | "writes" | "holds" => true,
         "minute" | "late" | "stop" | "bell" | "wants" => true,
         _ => says_nothing(line),

@@ -7,6 +7,7 @@
 
 mod board;
 mod case;
+mod clusters;
 mod ends;
 mod mirroring;
 mod serving;

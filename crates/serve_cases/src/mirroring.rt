@@ -3,14 +3,16 @@
 ghost use Rattle.std.specs.Prelude.{◌≡◌, true};
 
 use crate::board::Board;
-use crate::case::number_in;
+use crate::case::{number_in, words_of};
+use crate::clusters::{serve_listed, show_news};
 use crate::ends::{CaseListener, CaseSink, CaseSource, StillClock, ends_of};
 use crate::serving::{Host, tell_end};
 use case_rows::Wording;
+use cluster_link::Finding;
 use edge_io::Failed;
 use kube_meta::{Memory, Resource};
 use mirror_link::{LinkNo, Mirror, Opening};
-use net_front::{News, Redial, serve_mirror};
+use net_front::{ClusterNews, News, Redial, serve_mirror};
 use rev_front::{Blank, blank};
 use rev_log::Revision;
 use select_all::Selection;
@@ -24,9 +26,20 @@ use up_api::{LogFacts, Settings};
 /// dialled, dialling fails. What it says is written to wire 0.
 #[derive(Drop)]
 pub struct CaseRedial<'a, R> {
-    alloc: Global,
-    board: &'a Board<R>,
+    pub alloc: Global,
+    pub board: &'a Board<R>,
     at: usize,
+}
+
+impl<'a, R> CaseRedial<'a, R> {
+    /// One that has dialled nothing.
+    pub fn new(alloc: Global, board: &'a Board<R>) -> CaseRedial<'a, R> {
+        CaseRedial {
+            alloc,
+            board,
+            at: 0,
+        }
+    }
 }
 
 impl<'a, R: Wait + Drop + std::time::Clock + Send + Sync> Redial for CaseRedial<'a, R> {
@@ -63,6 +76,14 @@ impl<'a, R: Wait + Drop + std::time::Clock + Send + Sync> Redial for CaseRedial<
             self.board.write(0, text.as_bytes());
         }
     }
+
+    fn tell(&mut self, news: ClusterNews, _finding: Option<&Finding>) {
+        let mut told = Wording::new(self.alloc);
+        show_news(news, &mut told);
+        if let Ok(text) = told.whole() {
+            self.board.write(0, text.as_bytes());
+        }
+    }
 }
 
 /// Serves by a mirror, if there is one, over the connections that it dials, and answers how that ended.
@@ -73,7 +94,10 @@ pub fn serve_mirrored<R: Host>(
 ) -> Result<String, Memory> {
     let mut told = Wording::new(alloc);
     if let Some(server) = mirror {
-        serve_peer(alloc, board, server, &mut told)?;
+        match words_of(server, "cluster") {
+            Some(_) => serve_listed(alloc, board, server, &mut told)?,
+            None => serve_peer(alloc, board, server, &mut told)?,
+        }
     }
     told.whole()
 }
@@ -85,11 +109,7 @@ fn serve_peer<R: Host>(
     server: &str,
     told: &mut Wording,
 ) -> Result<(), Memory> {
-    let mut redial = CaseRedial {
-        alloc,
-        board,
-        at: 0,
-    };
+    let mut redial = CaseRedial::new(alloc, board);
     let Ok((mut source, mut request)) = redial.redial(0) else {
         told.add("no connection\n");
         return Ok(());

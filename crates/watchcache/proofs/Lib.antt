@@ -4,3 +4,4 @@ pub mod PeerLemmas
 pub mod ServerLemmas
 pub mod InputLemmas
 pub mod TellingLemmas
+pub mod ListLemmas

@@ -1,19 +1,22 @@
--- The options of the commands: each takes one number, which lies in a range, and is usual where it isn't given. Which words
--- give which value is clap's own rule for a command of these options.
-use Rattle.std.specs.Prelude.{◌≡◌, ◌≢◌, ◌⊎◌, ℕ, ◌^◌, List, [], ◌&&◌, Option, Some, None, is_some, Result, Ok, Err, nat_le, codes, if◌then◌else◌, ⊤}
+-- The options of the commands: most take one number, which lies in a range, and is usual where it isn't given. Which
+-- words give which value is clap's own rule for a command of these options.
+use Rattle.std.specs.Prelude.{◌≡◌, ◌≢◌, ◌⊎◌, ℕ, ◌^◌, List, [], ◌&&◌, ◌||◌, Bool, true, false, not, Option, Some, None, is_some, Result, Ok, Err, nat_le, codes, if◌then◌else◌, ⊤}
 use Rattle.clap.specs.Words.{App, Row, Rule, Text, fault_of, first_of, matches_of, new_app, new_rule, with_rule}
 use Rattle.clap.specs.declared.error.kind.ErrorKind.{ErrorKind}
 use Rattle.clap.specs.declared.error.kind.ErrorKind.TheVariants.{OutOfMemory}
 use Rattle.watchcache.specs.declared.asked.LoadOptions.{LoadOptions}
+use Rattle.watchcache.specs.declared.asked.ServeAsk.{ServeAsk}
 use Rattle.watchcache.specs.declared.asked.ServeOptions.{ServeOptions}
 use Rattle.watchcache.specs.declared.asked.OptionName.{OptionName}
-use Rattle.watchcache.specs.declared.asked.OptionName.TheVariants.{Window, WindowMax, FreshMs, Lane, Batch, History, BookmarkMs, TimeoutS, Port, Workers, Open, Connections, Peer, FirstRevision, From, Requests}
+use Rattle.watchcache.specs.declared.asked.OptionName.TheVariants.{Window, WindowMax, FreshMs, Lane, Batch, History, BookmarkMs, TimeoutS, Port, Workers, Open, Connections, Peer, Cluster, Resources, Namespace, FirstRevision, From, Requests}
 use Rattle.watchcache.specs.declared.asked.Fault.{Fault}
-use Rattle.watchcache.specs.declared.asked.Fault.TheVariants.{Misused, OutOfRange, FirstWithPeer}
+use Rattle.watchcache.specs.declared.asked.Fault.TheVariants.{Misused, OutOfRange, FirstWithPeer, ClusterWithPeer, WantsCluster, OtherResources, BadNamespace}
 use Rattle.watchcache.specs.declared.asked.WordsNo.{WordsNo}
 use Rattle.watchcache.specs.declared.asked.WordsNo.TheVariants.{Bad, Memory}
+use Rattle.kube_meta.specs.Names.{is_namespace}
 use Rattle.kube_meta.specs.Revisions.{revision_of}
 use Rattle.kube_meta.specs.declared.revisions.RevNo.{RevNo}
+use Rattle.std.specs.Str.{bytes_eq}
 use Rattle.up_api.specs.Settings.{usual}
 use Rattle.up_api.specs.declared.settings.Settings.{Settings}
 
@@ -32,13 +35,24 @@ with_settings command =
 abbrev pub session : App
 session = with_settings (new_app (codes "session"))
 
--- the command `serve` as clap knows it: it is set as a session is, takes connections at a port, and has a
--- peer or a first revision, or neither
+-- a command with the options that say which connections a server takes, and by how many threads
+abbrev pub with_doors : App → App
+with_doors command =
+    with_rule (with_rule (with_rule (with_rule command
+    (option (codes "port"))) (option (codes "workers"))) (option (codes "open"))) (option (codes "connections"))
+
+-- a command with the options that say where a server's log comes from: a peer, a cluster with what is mirrored of it,
+-- or a first revision
+abbrev pub with_origin : App → App
+with_origin command =
+    with_rule (with_rule (with_rule (with_rule (with_rule command
+    (option (codes "peer"))) (option (codes "cluster"))) (option (codes "resources"))) (option (codes "namespace")))
+    (option (codes "first-revision"))
+
+-- the command `serve` as clap knows it: it is set as a session is, takes connections at a port, and has a log from
+-- somewhere
 abbrev pub serve : App
-serve =
-    with_rule (with_rule (with_rule (with_rule (with_rule (with_rule (with_settings (new_app (codes "serve")))
-    (option (codes "port"))) (option (codes "workers"))) (option (codes "open"))) (option (codes "connections")))
-    (option (codes "peer"))) (option (codes "first-revision"))
+serve = with_origin (with_doors (with_settings (new_app (codes "serve"))))
 
 -- the command `load` as clap knows it: from what its requests are drawn, and how many
 abbrev pub load : App
@@ -63,6 +77,9 @@ option_text Workers = codes "workers"
 option_text Open = codes "open"
 option_text Connections = codes "connections"
 option_text Peer = codes "peer"
+option_text Cluster = codes "cluster"
+option_text Resources = codes "resources"
+option_text Namespace = codes "namespace"
 option_text FirstRevision = codes "first-revision"
 option_text From = codes "from"
 option_text Requests = codes "requests"
@@ -129,23 +146,47 @@ settings_of rows =
     (number rows WindowMax window 102400 window))
     (number rows Window 1 102400 usual.window)
 
--- a server's options with the revision of its empty log, 1 where none is given; none may be where there is a peer, whose list
--- says where a mirror's log begins
+-- a server's options with the revision of its empty log, 1 where none is given; none may be where there is a peer or a
+-- cluster, whose list says where a mirror's log begins
 abbrev pub with_first : List Row → ServeOptions → Result ServeOptions Fault
 with_first rows options =
-    if is_some options.peer && is_some (first_of (option_text FirstRevision) rows) then Err FirstWithPeer
+    if (is_some options.peer || is_some options.cluster) && is_some (first_of (option_text FirstRevision) rows) then Err FirstWithPeer
     else and_then (λ first. Ok (record options { first = first })) (number rows FirstRevision 1 (2 ^ 62) 1)
 
--- a server's options with what is given of its peer, and of where its log begins
+-- what is given of the resources that are mirrored, where there is a cluster or isn't: pods alone are
+abbrev pub given_resources : Bool → Text → Result Unit Fault
+given_resources false text = Err (WantsCluster Resources)
+given_resources true text = if bytes_eq text (codes "pods") then Ok tt else Err OtherResources
+
+-- the same, if anything is given
+abbrev pub scope_resources : Bool → Option Text → Result Unit Fault
+scope_resources is_cluster None = Ok tt
+scope_resources is_cluster (Some text) = given_resources is_cluster text
+
+-- a server's options, where what is to be mirrored of its cluster is served, with where its log begins; a mirror
+-- follows a peer or a cluster, and only the latter has namespaces
+abbrev pub with_scope : List Row → ServeOptions → Result ServeOptions Fault
+with_scope rows options =
+    if is_some options.cluster && is_some options.peer then Err ClusterWithPeer
+    else if not (is_some options.cluster) && is_some (first_of (option_text Namespace) rows) then Err (WantsCluster Namespace)
+    else and_then (λ served. with_first rows options)
+    (scope_resources (is_some options.cluster) (first_of (option_text Resources) rows))
+
+-- a server's options with what is given of its cluster, and of where its log begins
+abbrev pub with_cluster : List Row → ServeOptions → Result ServeOptions Fault
+with_cluster rows options =
+    and_then (λ given. with_scope rows (record options { cluster = given })) (optional rows Cluster 1 65535)
+
+-- a server's options with what is given of its peer, of its cluster, and of where its log begins
 abbrev pub with_peer : List Row → ServeOptions → Result ServeOptions Fault
 with_peer rows options =
-    and_then (λ given. with_first rows (record options { peer = given })) (optional rows Peer 1 65535)
+    and_then (λ given. with_cluster rows (record options { peer = given })) (optional rows Peer 1 65535)
 
--- how a server is set: the settings, and what is given of its port, its workers, the connections that it takes, its peer and
--- its log
+-- how a server is set: the settings, and what is given of its port, its workers, the connections that it takes, its
+-- peer and its log
 abbrev pub with_connections : List Row → Settings → Result ServeOptions Fault
 with_connections rows settings =
-    and_then (λ port. and_then (λ workers. and_then (λ open_at_once. and_then (λ connections. with_peer rows (record { port = port; workers = workers; «open» = open_at_once; connections = connections; peer = None; first = 1; settings = settings }))
+    and_then (λ port. and_then (λ workers. and_then (λ open_at_once. and_then (λ connections. with_peer rows (record { port = port; workers = workers; «open» = open_at_once; connections = connections; peer = None; cluster = None; first = 1; settings = settings }))
     (number rows Connections 0 (2 ^ 62) 0))
     (number rows Open 1 65536 16384))
     (number rows Workers 1 64 4))
@@ -154,6 +195,27 @@ with_connections rows settings =
 -- how a server is set by all options of `serve`
 abbrev pub serve_of : List Row → Result ServeOptions Fault
 serve_of rows = and_then (λ settings. with_connections rows settings) (settings_of rows)
+
+-- the namespace that a text names
+abbrev pub namespace_named : Text → Result Text Fault
+namespace_named text = if is_namespace text then Ok text else Err BadNamespace
+
+-- the same, if a text is given
+abbrev pub namespace_given : Option Text → Result (Option Text) Fault
+namespace_given None = Ok None
+namespace_given (Some text) = and_then (λ name. Ok (Some name)) (namespace_named text)
+
+-- a server that is set so, and mirrors the pods of this namespace alone
+abbrev pub ask_named : ServeOptions → Option Text → Result ServeAsk Fault
+ask_named options namespace = Ok (record { options = options; namespace = namespace })
+
+-- a server that is set so, with the namespace that a text names, if one is given
+abbrev pub ask_with : Option Text → ServeOptions → Result ServeAsk Fault
+ask_with given options = and_then (ask_named options) (namespace_given given)
+
+-- what the options of `serve` ask for
+abbrev pub serve_ask_of : List Row → Result ServeAsk Fault
+serve_ask_of rows = and_then (ask_with (first_of (option_text Namespace) rows)) (serve_of rows)
 
 -- the load that the options of `load` ask for
 abbrev pub load_of : List Row → Result LoadOptions Fault
@@ -180,9 +242,9 @@ ReadsOptions command options_of words (Err Memory) = ⊤
 abbrev pub ReadsSettings : List Text → Result Settings WordsNo → Type 0
 ReadsSettings words answer = ReadsOptions session settings_of words answer
 
--- the words of the command `serve` set a server so, or are refused
-abbrev pub ReadsServe : List Text → Result ServeOptions WordsNo → Type 0
-ReadsServe words answer = ReadsOptions serve serve_of words answer
+-- the words of the command `serve` ask for this server, or are refused
+abbrev pub ReadsServe : List Text → Result ServeAsk WordsNo → Type 0
+ReadsServe words answer = ReadsOptions serve serve_ask_of words answer
 
 -- the words of the command `load` ask for this load, or are refused
 abbrev pub ReadsLoad : List Text → Result LoadOptions WordsNo → Type 0
@@ -205,3 +267,16 @@ HasFault command words Memory = ⊤
 abbrev pub refusal : ErrorKind → WordsNo
 refusal OutOfMemory = Memory
 refusal other = Bad Misused
+
+-- ---- what a part of the words gives
+
+-- this is given, or is at fault, or there was no memory
+abbrev pub WordsGive : {A : Type 0} → Result A Fault → Result A WordsNo → Type 0
+WordsGive wanted (Ok given) = wanted ≡ Ok given
+WordsGive wanted (Err (Bad fault)) = wanted ≡ Err fault
+WordsGive wanted (Err Memory) = ⊤
+
+-- the same, as one that may be given
+abbrev pub some : {A : Type 0} → Result A WordsNo → Result (Option A) WordsNo
+some (Ok given) = Ok (Some given)
+some (Err why) = Err why

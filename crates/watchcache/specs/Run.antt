@@ -1,4 +1,5 @@
--- What the program does for the words of its command line: its exit status, the bytes that it took and those that it wrote.
+-- What the program does for the words of its command line: its exit status, the bytes that it took and those that it
+-- wrote.
 use Rattle.std.specs.Prelude.{◌≡◌, ℕ, ◌+◌, ◌<◌, ◌≤◌, ◌⊎◌, List, length, [], Option, Some, None, IfSome, Result, Ok, Err, ⊤}
 use Rattle.body_check.specs.Judging.{IsJudged}
 use Rattle.body_check.specs.declared.judging.Checked.{Checked}
@@ -10,6 +11,7 @@ use Rattle.watchcache.specs.declared.asked.LoadOptions.{LoadOptions}
 use Rattle.watchcache.specs.declared.asked.ServeOptions.{ServeOptions}
 use Rattle.watchcache.specs.declared.asked.WordsNo.{WordsNo}
 use Rattle.watchcache.specs.declared.asked.WordsNo.TheVariants.{Bad, Memory}
+use Rattle.cluster_link.specs.declared.refusal.ClusterNo.{ClusterNo}
 use Rattle.edge_io.specs.Counts.{Rose}
 use Rattle.edge_io.specs.Sent.{Sent, IsSentOn, IsBrokenOff}
 use Rattle.edge_io.specs.Told.{prepended, appended, Noted, IsExhausted}
@@ -36,12 +38,13 @@ use Rattle.up_api.specs.declared.settings.Settings.{Settings}
 use Rattle.watch_record.specs.Records.{record_fault, max_bytes, IsRecordOf}
 use Rattle.watch_record.specs.declared.records.Record.{Record}
 use Rattle.watch_record.specs.declared.refusals.RecordNo.{RecordNo}
-use Rattle.watchcache.specs.Texts.{help, version_text, bad_line, sessions, peer_line, verdict}
+use Rattle.watchcache.specs.Lists.{IsOfReply, SendsList, SendsNoList}
+use Rattle.watchcache.specs.Texts.{help, version_text, bad_line, sessions, peer_line, cluster_line, verdict}
 
 -- ---- what went through the program's ends
 
--- what is left to be read, and the readings of the clock, where they are told; whether the source's count of faults rose;
--- and what went through the sink
+-- what is left to be read, and the readings of the clock, where they are told; whether the source's count of faults
+-- rose; and what went through the sink
 pub record Ends : Type 1 where
   pub left_old : Option (List ℕ)
   pub left_new : Option (List ℕ)
@@ -108,7 +111,8 @@ IsUnserved ends status = IsIdle ends × IsSilent 8 ends.sent status
 
 -- ---- one session
 
--- one session in these settings, of a client that holds a new log alone; nothing is held back where it wasn't broken off
+-- one session in these settings, of a client that holds a new log alone; nothing is held back where it wasn't broken
+-- off
 pub record IsSessionRun (settings : Settings) (ends : Ends) (status : ℕ) : Type 0 where
   pub taken : List ℕ
   pub written : List ℕ
@@ -147,7 +151,8 @@ TellsLoad options sent status = IsLoadTold options sent status ⊎ IsSilent 8 se
 abbrev pub HasFailed : NetUse → Type 0
 HasFailed net = net.faults_old < net.faults_new
 
--- how many sessions were served was told, and the status is 0, or 4 where that was broken off; and 9 where the net failed
+-- how many sessions were served was told, and the status is 0, or 4 where that was broken off; and 9 where the net
+-- failed
 abbrev pub TellsSessions : NetUse → Sent → ℕ → Type 0
 TellsSessions net sent status =
     ((net.faults_new ≡ net.faults_old) × IsTold (sessions net.served_new) 0 sent status)
@@ -168,6 +173,34 @@ IsUnstarted net sent status =
 abbrev pub RunsServer : ServeOptions → NetUse → Sent → ℕ → Type 0
 RunsServer options net sent status = IsServerOver options net sent status ⊎ IsUnstarted net sent status
 
+-- ---- a server that begins with what another one sends
+
+-- what is told where that has no such beginning: a line for the reason, which is one of those that the bytes give
+abbrev pub TellsNone : {W : Type 0} → (W → Type 0) → (W → List ℕ) → W → NetUse → Sent → ℕ → Type 0
+TellsNone IsOf line why net sent status =
+    IsOf why × ((net.faults_new ≡ net.faults_old) × (net.served_new ≡ net.served_old)) × IsTold (line why) 13 sent status
+
+-- a beginning is refused: why is told, or its connection failed, or there was no memory
+abbrev pub Refuses : {W : Type 0} → (W → Type 0) → (W → List ℕ) → W → NetUse → Sent → ℕ → Type 0
+Refuses IsOf line why net sent status = TellsNone IsOf line why net sent status ⊎ IsUnstarted net sent status
+
+-- what the first connection that is dialled sends is such a beginning, and was served
+pub record IsMirrored (Has : List ℕ → Type 0) (options : ServeOptions) (net : NetUse) (sent : Sent) (status : ℕ) : Type 0 where
+  pub opened : IfSome net.peer_old Has
+  pub served : IsServerOver options net sent status
+
+-- it isn't, and why was told
+pub record IsUnopened (W : Type 0) (Lacks : W → List ℕ → Type 0) (IsOf : W → Type 0) (line : W → List ℕ) (net : NetUse) (sent : Sent) (status : ℕ) : Type 0 where
+  pub why : W
+  pub sends : IfSome net.peer_old (Lacks why)
+  pub told : TellsNone IsOf line why net sent status
+
+-- what came of a server that begins so: it ended; or it didn't start, as there is no such beginning, the net failed,
+-- which a connection that breaks off counts as, or there was no memory
+abbrev pub RunsFrom : (List ℕ → Type 0) → (W : Type 0) → (W → List ℕ → Type 0) → (W → Type 0) → (W → List ℕ) → ServeOptions → NetUse → Sent → ℕ → Type 0
+RunsFrom Has W Lacks IsOf line options net sent status =
+    IsMirrored Has options net sent status ⊎ (IsUnopened W Lacks IsOf line net sent status ⊎ IsUnstarted net sent status)
+
 -- ---- a server that mirrors a peer
 
 -- a selection of all pods
@@ -185,7 +218,7 @@ pub record SendsOpening (bytes : List ℕ) : Type 0 where
   pub has : HasOpening taken opening
 
 -- it doesn't, for this reason
-pub record SendsNone (bytes : List ℕ) (why : LinkNo) : Type 0 where
+pub record SendsNone (why : LinkNo) (bytes : List ℕ) : Type 0 where
   pub taken : List ℕ
   pub left : Option (List ℕ)
   pub selection : Selection
@@ -203,38 +236,24 @@ IsOfBytes why = ⊤
 -- what a peer sends is opened, where what was read of it is an opening, or refused
 abbrev pub Opens : Option (List ℕ) → Result OpeningData LinkNo → Type 0
 Opens sends (Ok opening) = IsOpeningOf opening → IfSome sends SendsOpening
-Opens sends (Err why) = IsOfBytes why → IfSome sends (λ bytes. SendsNone bytes why)
+Opens sends (Err why) = IsOfBytes why → IfSome sends (SendsNone why)
 
--- what is told where a peer has no opening
-abbrev pub TellsNone : LinkNo → NetUse → Sent → ℕ → Type 0
-TellsNone why net sent status =
-    IsOfBytes why × ((net.faults_new ≡ net.faults_old) × (net.served_new ≡ net.served_old)) × IsTold (peer_line why) 13 sent status
-
--- an opening is refused: why is told, or its connection failed, or there was no memory
-abbrev pub Refuses : LinkNo → NetUse → Sent → ℕ → Type 0
-Refuses why net sent status = TellsNone why net sent status ⊎ IsUnstarted net sent status
-
--- the peer's opening was served
-pub record IsMirrored (options : ServeOptions) (net : NetUse) (sent : Sent) (status : ℕ) : Type 0 where
-  pub opened : IfSome net.peer_old SendsOpening
-  pub served : IsServerOver options net sent status
-
--- the peer has none, and why was told
-pub record IsUnopened (net : NetUse) (sent : Sent) (status : ℕ) : Type 0 where
-  pub why : LinkNo
-  pub sends : IfSome net.peer_old (λ bytes. SendsNone bytes why)
-  pub told : TellsNone why net sent status
-
--- what came of a server that mirrors a peer: it ended; or it didn't start, as the peer has no opening, the net failed,
--- which an opening that is broken off counts as, or there was no memory
+-- what came of a server that mirrors a peer
 abbrev pub RunsMirror : ServeOptions → NetUse → Sent → ℕ → Type 0
-RunsMirror options net sent status =
-    IsMirrored options net sent status ⊎ (IsUnopened net sent status ⊎ IsUnstarted net sent status)
+RunsMirror options net sent status = RunsFrom SendsOpening LinkNo SendsNone IsOfBytes peer_line options net sent status
 
--- what came of a server, by whether it has a peer
-abbrev pub RunsEither : Option ℕ → ServeOptions → NetUse → Sent → ℕ → Type 0
-RunsEither None options net sent status = RunsServer options net sent status
-RunsEither (Some peer) options net sent status = RunsMirror options net sent status
+-- ---- a server that mirrors a cluster
+
+-- what came of a server that mirrors the pods of a cluster, in a namespace or in all
+abbrev pub RunsCluster : Option (List ℕ) → ServeOptions → NetUse → Sent → ℕ → Type 0
+RunsCluster namespace options net sent status =
+    RunsFrom (SendsList namespace) ClusterNo (SendsNoList namespace) IsOfReply cluster_line options net sent status
+
+-- what came of a server, by whether it has a peer, or a cluster
+abbrev pub RunsAny : Option ℕ → Option ℕ → Option (List ℕ) → ServeOptions → NetUse → Sent → ℕ → Type 0
+RunsAny None None namespace options net sent status = RunsServer options net sent status
+RunsAny None (Some cluster) namespace options net sent status = RunsCluster namespace options net sent status
+RunsAny (Some peer) cluster namespace options net sent status = RunsMirror options net sent status
 
 -- ---- a check
 
@@ -279,7 +298,7 @@ abbrev pub Does : Result Asked WordsNo → Ends → NetUse → ℕ → Type 0
 Does (Ok Help) ends net status = IsUnused net × IsIdle ends × IsTold help 0 ends.sent status
 Does (Ok Version) ends net status = IsUnused net × IsIdle ends × IsTold version_text 0 ends.sent status
 Does (Ok (Session settings)) ends net status = IsUnused net × RunsSession settings ends status
-Does (Ok (Serve options)) ends net status = IsUnread ends × RunsEither options.peer options net ends.sent status
+Does (Ok (Serve ask)) ends net status = IsUnread ends × RunsAny ask.options.peer ask.options.cluster ask.namespace ask.options net ends.sent status
 Does (Ok (Load options)) ends net status = IsUnused net × IsIdle ends × TellsLoad options ends.sent status
 Does (Ok Check) ends net status =
     IsUnused net × (ends.readings_new ≡ ends.readings_old)

@@ -3,6 +3,8 @@ use Rattle.std.specs.Prelude.{ℕ, List, [], ◌∷◌, ◌++◌, Result, Ok, Er
 use Rattle.std.specs.List.{concat}
 use Rattle.body_check.specs.declared.judging.Checked.{Checked}
 use Rattle.body_check.specs.declared.judging.Checked.TheVariants.{Lawful, Unlawful}
+use Rattle.cluster_link.specs.Refusals.{cluster_refusal_name}
+use Rattle.cluster_link.specs.declared.refusal.ClusterNo.{ClusterNo}
 use Rattle.mirror_link.specs.OpeningRefusals.{refusal_name as link_name}
 use Rattle.mirror_link.specs.declared.link_refusal.LinkNo.{LinkNo}
 use Rattle.watch_record.specs.declared.refusals.RecordNo.{RecordNo}
@@ -37,7 +39,10 @@ help =
     ∷ codes "  --open N          connections that are served side by side, by threads that come as they are wanted: 1 to 65536, default 16384\n"
     ∷ codes "  --connections N   connections that are accepted before it ends: 0 to 4611686018427387904, default 0, which is all\n"
     ∷ codes "  --peer N          the port of a server whose pods it mirrors: 1 to 65535, default none\n"
-    ∷ codes "  --first-revision N  the revision of its empty log, unless it mirrors a peer: 1 to 4611686018427387904, default 1\n"
+    ∷ codes "  --cluster N       the port of `kubectl proxy` to a cluster whose pods it mirrors: 1 to 65535, default none\n"
+    ∷ codes "  --resources NAME  which of the cluster's resources it mirrors: pods, which is the default\n"
+    ∷ codes "  --namespace NAME  the one namespace whose pods it mirrors of the cluster, default all\n"
+    ∷ codes "  --first-revision N  the revision of its empty log, unless it is a mirror: 1 to 4611686018427387904, default 1\n"
     ∷ codes "\n"
     ∷ codes "those of load:\n"
     ∷ codes "  --from N          what the requests are drawn from: 0 to 4611686018427387904, default 1\n"
@@ -52,10 +57,10 @@ help =
     ∷ codes "  6   the input went on with what is no request, as its reply says\n"
     ∷ codes "  7   1000000 requests were answered\n"
     ∷ codes "  8   memory ran out\n"
-    ∷ codes "  9   dialling the peer, its opening, listening or accepting failed\n"
+    ∷ codes "  9   dialling the peer or the cluster, its opening or list, listening or accepting failed\n"
     ∷ codes "  11  the body of a record is unlawful\n"
     ∷ codes "  12  what was to be checked is no record\n"
-    ∷ codes "  13  what the peer sent is no streaming list\n"
+    ∷ codes "  13  what the peer sent is no streaming list, or what the cluster sent is no list\n"
     ∷ [])
 
 -- how many sessions a server served
@@ -65,6 +70,10 @@ sessions accepted = codes "sessions " ++ decimal accepted ++ codes "\n"
 -- why a peer has no opening
 abbrev pub peer_line : LinkNo → List ℕ
 peer_line why = codes "peer: " ++ link_name why ++ codes "\n"
+
+-- why a cluster has no list
+abbrev pub cluster_line : ClusterNo → List ℕ
+cluster_line why = codes "cluster: " ++ cluster_refusal_name why ++ codes "\n"
 
 -- what is written for `--version`: the program's name and its version
 abbrev pub version_text : List ℕ

@@ -6,6 +6,8 @@ use Rattle.watchcache.specs.declared.asked.Asked.{Asked}
 use Rattle.watchcache.specs.declared.asked.Asked.TheVariants.{Help, Version, Session, Serve, Load, Check}
 use Rattle.watchcache.specs.declared.asked.Fault.{Fault}
 use Rattle.watchcache.specs.declared.asked.Fault.TheVariants.{NoCommand}
+use Rattle.kube_meta.specs.Names.{IsNamespace}
+use Rattle.watchcache.specs.declared.asked.ServeAsk.{ServeAsk}
 use Rattle.watchcache.specs.declared.asked.ServeOptions.{ServeOptions}
 use Rattle.watchcache.specs.declared.asked.WordsNo.{WordsNo}
 use Rattle.watchcache.specs.declared.asked.WordsNo.TheVariants.{Bad, Memory}
@@ -38,7 +40,8 @@ abbrev pub Chosen : Bool → Type 0 → Type 0 → Type 0
 Chosen true here there = here
 Chosen false here there = there
 
--- what is wrong with words that ask for neither: by the rules of the command that the first word names, or it names none
+-- what is wrong with words that ask for neither: by the rules of the command that the first word names, or it names
+-- none
 abbrev pub IsAtFault : List (List ℕ) → Fault → Type 0
 IsAtFault words fault =
     Chosen (begins_with (codes "session") words) (ReadsSettings words (Err (Bad fault)))
@@ -54,8 +57,8 @@ ReadsWords words (Ok Help) = asks_help words ≡ true
 ReadsWords words (Ok Version) = asks_version words ≡ true
 ReadsWords words (Ok (Session settings)) =
     (asks_other words ≡ true) × (begins_with (codes "session") words ≡ true) × ReadsSettings words (Ok settings)
-ReadsWords words (Ok (Serve options)) =
-    (asks_other words ≡ true) × (begins_with (codes "serve") words ≡ true) × ReadsServe words (Ok options)
+ReadsWords words (Ok (Serve ask)) =
+    (asks_other words ≡ true) × (begins_with (codes "serve") words ≡ true) × ReadsServe words (Ok ask)
 ReadsWords words (Ok (Load options)) =
     (asks_other words ≡ true) × (begins_with (codes "load") words ≡ true) × ReadsLoad words (Ok options)
 ReadsWords words (Ok Check) =
@@ -69,14 +72,19 @@ pub record AreServed (options : ServeOptions) : Type 0 where
   pub open_at_once : (1 ≤ options.open) × (options.open ≤ 65536)
   pub connections : options.connections ≤ 2 ^ 62
   pub peer : IfSome options.peer (λ port. (1 ≤ port) × (port ≤ 65535))
+  pub cluster : IfSome options.cluster (λ port. (1 ≤ port) × (port ≤ 65535))
   pub first : (1 ≤ options.first) × (options.first ≤ 2 ^ 62)
   pub settings : AreInRange options.settings
+
+-- a server is set within its ranges, and its namespace has a name of one
+abbrev pub IsServeAsk : ServeAsk → Type 0
+IsServeAsk ask = AreServed ask.options × IfSome ask.namespace IsNamespace
 
 -- what is asked for is within its ranges
 abbrev pub IsInRange : Asked → Type 0
 IsInRange Help = ⊤
 IsInRange Version = ⊤
 IsInRange (Session settings) = AreInRange settings
-IsInRange (Serve options) = AreServed options
+IsInRange (Serve ask) = IsServeAsk ask
 IsInRange (Load options) = (options.from ≤ 2 ^ 62) × (options.requests ≤ 100000)
 IsInRange Check = ⊤

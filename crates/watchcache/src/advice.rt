@@ -43,7 +43,20 @@ pub fn say_fault<R: Eprint + Copy>(rt: R, alloc: Global, words: &[String], fault
         Fault::NoCommand => say_words(rt, "the first word is session, serve, load or check"),
         Fault::FirstWithPeer => say_words(
             rt,
-            "--first-revision and --peer exclude each other: a mirror's log begins where its peer's list stands",
+            "--first-revision goes with neither --peer nor --cluster: a mirror's log begins where the list stands that it is sent",
+        ),
+        Fault::ClusterWithPeer => say_words(
+            rt,
+            "--peer and --cluster exclude each other: a mirror follows one of them",
+        ),
+        Fault::WantsCluster { name } => say_lack(rt, name.text()),
+        Fault::OtherResources => say_words(
+            rt,
+            "--resources takes pods alone: config maps and deployments of a cluster aren't mirrored",
+        ),
+        Fault::BadNamespace => say_words(
+            rt,
+            "--namespace takes a namespace's name: 1 to 63 of a to z, 0 to 9 and -, a letter or digit first and last",
         ),
     }
 }
@@ -56,6 +69,12 @@ fn say_range<R: Eprint + Copy>(rt: R, name: &str, low: u64, high: u64) {
 
 fn say_words<R: Eprint + Copy>(rt: R, words: &str) {
     let _ = eprintln!(rt; "watchcache: {words}; watchcache --help tells more");
+}
+
+fn say_lack<R: Eprint + Copy>(rt: R, name: &str) {
+    let _ = eprintln!(rt;
+        "watchcache: --{name} says what is mirrored of a cluster, and wants --cluster; watchcache --help tells more"
+    );
 }
 
 // By clap's own text, where there is memory for it.

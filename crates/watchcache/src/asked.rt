@@ -3,11 +3,11 @@
 ghost use Rattle.std.specs.Prelude.{◌≡◌};
 ghost use Rattle.watchcache.specs.Options as spec;
 
-use kube_meta::Memory;
+use kube_meta::{Memory, Text};
 use up_api::Settings;
 
 /// What the words of a command line ask for.
-#[derive(Clone, Copy, Debug, PartialEq, Eq)]
+#[derive(Debug, Drop)]
 pub enum Asked {
     /// The text that says how the program is used.
     Help,
@@ -16,11 +16,20 @@ pub enum Asked {
     /// One session, set so.
     Session(Settings),
     /// A server of many connections.
-    Serve(ServeOptions),
+    Serve(ServeAsk),
     /// A load on a client of its own.
     Load(LoadOptions),
     /// The judgement of a recorded watch body.
     Check,
+}
+
+/// What a server is asked for.
+#[derive(Debug, Drop)]
+pub struct ServeAsk {
+    /// How it is set.
+    pub options: ServeOptions,
+    /// The one namespace whose pods it mirrors of a cluster; all, where none is given.
+    pub namespace: Option<Text>,
 }
 
 /// How a server is set.
@@ -37,8 +46,10 @@ pub struct ServeOptions {
     pub connections: u64,
     /// The port of the server whose pods it mirrors, if it does: 1 to 65,535.
     pub peer: Option<u16>,
-    /// The revision of its log while that is empty: 1 to 2^62. A mirror's log begins where its peer's list stands, and
-    /// this is 1 then.
+    /// The port of the proxy to the cluster whose pods it mirrors, if it does: 1 to 65,535. It has no peer then.
+    pub cluster: Option<u16>,
+    /// The revision of its log while that is empty: 1 to 2^62. A mirror's log begins where the list that it was given
+    /// stands, and this is 1 then.
     pub first: u64,
     /// How each session is set.
     pub settings: Settings,
@@ -53,7 +64,7 @@ pub struct LoadOptions {
     pub requests: u64,
 }
 
-/// The options that take a number.
+/// The options, each of which takes a value.
 #[derive(Clone, Copy, Debug, PartialEq, Eq)]
 pub enum OptionName {
     /// `--window`
@@ -82,6 +93,12 @@ pub enum OptionName {
     Connections,
     /// `--peer`
     Peer,
+    /// `--cluster`
+    Cluster,
+    /// `--resources`
+    Resources,
+    /// `--namespace`
+    Namespace,
     /// `--first-revision`
     FirstRevision,
     /// `--from`
@@ -109,6 +126,9 @@ impl OptionName {
             OptionName::Open => "open",
             OptionName::Connections => "connections",
             OptionName::Peer => "peer",
+            OptionName::Cluster => "cluster",
+            OptionName::Resources => "resources",
+            OptionName::Namespace => "namespace",
             OptionName::FirstRevision => "first-revision",
             OptionName::From => "from",
             OptionName::Requests => "requests",
@@ -129,8 +149,18 @@ pub enum Fault {
         low: u64,
         high: u64,
     },
-    /// A first revision is given beside a peer, whose list says where a mirror's log begins.
+    /// A first revision is given beside a peer or a cluster, whose list says where a mirror's log begins.
     FirstWithPeer,
+    /// A peer and a cluster are given: a mirror follows one of them.
+    ClusterWithPeer,
+    /// This option says what is mirrored of a cluster, and none is given.
+    WantsCluster {
+        name: OptionName,
+    },
+    /// Other resources than pods are to be mirrored.
+    OtherResources,
+    /// What is given for a namespace can't be the name of one.
+    BadNamespace,
 }
 
 /// Why the words of a command line ask for nothing.

@@ -22,7 +22,7 @@ use std::alloc::Global;
 pub fn perform<R: Host, S: Source, K: Sink, T: Clock + Send, N: Net, D: Redial + Send>(
     rt: R,
     alloc: Global,
-    asked: Result<Asked, WordsNo>,
+    asked: &Result<Asked, WordsNo>,
     source: &mut S,
     sink: &mut K,
     clock: &mut T,
@@ -31,9 +31,9 @@ pub fn perform<R: Host, S: Source, K: Sink, T: Clock + Send, N: Net, D: Redial +
 ) -> u8
 where
     <N::L as Listener>::T: Rung,
-    requires range { IfOk asked IsInRange }
+    requires range { IfOk asked.now IsInRange }
     requires few_faults { N.faults net.old < 2 ^ 62 }
-    ensures { Does asked
+    ensures { Does asked.now
         (ends_of S.left S.faults source.old source.new T.readings clock.old clock.new
         (sent_through K.written K.settled K.faults sink.old sink.new))
         (use_of N.faults N.served N.ended N.peer net.old net.new) result }
@@ -41,11 +41,13 @@ where
     match asked {
         Ok(Asked::Help) => write_help(sink),
         Ok(Asked::Version) => write_version(sink),
-        Ok(Asked::Session(settings)) => run_session(alloc, &settings, source, sink, clock),
-        Ok(Asked::Serve(options)) => {
-            serve_any(Setup { rt, alloc, options }, sink, clock, net, redial)
+        Ok(Asked::Session(settings)) => run_session(alloc, settings, source, sink, clock),
+        Ok(Asked::Serve(ask)) => {
+            let options = ask.options;
+            let setup = Setup { rt, alloc, options };
+            serve_any(setup, &ask.namespace, sink, clock, net, redial)
         }
-        Ok(Asked::Load(options)) => load(alloc, options, sink),
+        Ok(Asked::Load(options)) => load(alloc, *options, sink),
         Ok(Asked::Check) => check_record(rt, alloc, source, sink),
         Err(WordsNo::Bad(_)) => write_bad_line(sink),
         Err(WordsNo::Memory) => OUT_OF_MEMORY,

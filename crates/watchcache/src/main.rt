@@ -9,6 +9,8 @@
 mod advice;
 mod asked;
 mod checks;
+mod cluster;
+mod cluster_advice;
 mod commands;
 mod complaints;
 mod inputs;
@@ -17,6 +19,7 @@ mod options;
 mod peer;
 mod reading;
 mod redial;
+mod scope;
 mod server;
 mod session;
 mod settings;
@@ -47,11 +50,11 @@ use words::read_words;
 /// Does all that the program does. `words` are those of the command line behind the program's name. Answers the exit
 /// status.
 ///
-/// `session` with its options is one session over `source` and `sink`, with a client that answers from caches of a
-/// log of its own, whose first revision is 1. `serve` serves each connection to a port by such a session, over one
-/// log, and tells on `sink` how many there were; the status is 9 where `net` failed. Where it has a peer, the log is a
-/// mirror of the peer's pods, which is followed by `redial` too; where what the peer sends first is no opening, that is
-/// told on `sink`: status 13. `load` serves a session of drawn
+/// `session` with its options is one session over `source` and `sink`, with a client that answers from caches of a log
+/// of its own, whose first revision is 1. `serve` serves each connection to a port by such a session, over one log, and
+/// tells on `sink` how many there were; the status is 9 where `net` failed. Where it has a peer, the log is a mirror of
+/// the peer's pods, which is followed by `redial` too; where what the peer sends first is no opening, that is told on
+/// `sink`: status 13. Where it has a cluster, the same holds of a list of its pods. `load` serves a session of drawn
 /// requests in memory, and tells on `sink` what came of it. `check` reads a record from `source`, and tells on `sink`
 /// how the body in it is judged: status 0 where it is lawful, 11 where it isn't, 12 where the bytes are no record.
 /// `--help` and `--version`, at any place, are told on `sink`: status 0. All else is a bad command line: status 2. The
@@ -75,7 +78,7 @@ where
         (use_of N.faults N.served N.ended N.peer net.old net.new) result }
 {
     let asked = read_words(alloc, words);
-    perform(rt, alloc, asked, source, sink, clock, net, redial)
+    perform(rt, alloc, &asked, source, sink, clock, net, redial)
 }
 
 // Runs over standard input and output and TCP. A server shows the time; all else reads a clock that steps.

@@ -1,28 +1,32 @@
-//! A server's beginning: an empty log, or what a peer has.
+//! A server's beginning: an empty log, or what a peer or a cluster has.
 
-ghost use Rattle.std.specs.Prelude.{◌≡◌, ◌<◌, ◌^◌, IfErr, IfOk};
+ghost use Rattle.std.specs.Prelude.{◌≡◌, ◌<◌, ◌^◌, IfErr, IfOk, IfSome, None};
+ghost use Rattle.kube_meta.specs.Names.{IsNamespace};
 ghost use Rattle.watchcache.specs.Words.{AreServed};
 ghost use Rattle.edge_io.specs.Counts.{Rose};
 ghost use Rattle.edge_io.specs.Sent.{sent_through};
 ghost use Rattle.mirror_link.specs.Asking.{CountsReads};
-ghost use Rattle.watchcache.specs.Run.{IsOfAllPods, IsTold, Opens, Refuses, RunsEither, RunsMirror, use_of, use_with};
+ghost use Rattle.watchcache.specs.Run.{IsOfAllPods, IsOfBytes, IsTold, Opens, Refuses, RunsAny, RunsMirror, use_of, use_with};
 ghost use Rattle.watchcache.specs.Texts.{peer_line};
 
 use crate::advice::{say_no_opening, say_no_peer};
+use crate::cluster::serve_listed;
 use crate::server::{Beginning, Peer, Setup, serve_log};
 use crate::statuses::{NET_FAULT, NO_OPENING, OUT_OF_MEMORY};
 use crate::telling::tell;
 use bells::Rung;
 use edge_io::{Clock, Listener, Net, Sink, Source};
-use kube_meta::{Memory, Resource};
+use kube_meta::{Memory, Resource, Text};
 use mirror_link::{LinkNo, Opening};
 use net_front::{Host, Redial};
 use select_all::Selection;
 use std::alloc::Global;
 
-/// Serves the connections to a port, as a mirror where the options name a peer. Answers the status.
+/// Serves the connections to a port, as a mirror where the options name a peer or a cluster, of which it mirrors all
+/// pods or those of a namespace. Answers the status.
 pub fn serve_any<R: Host, K: Sink, T: Clock + Send, N: Net, D: Redial + Send>(
     setup: Setup<R>,
+    namespace: &Option<Text>,
     sink: &mut K,
     clock: &mut T,
     net: &mut N,
@@ -31,17 +35,46 @@ pub fn serve_any<R: Host, K: Sink, T: Clock + Send, N: Net, D: Redial + Send>(
 where
     <N::L as Listener>::T: Rung,
     requires range { AreServed setup.options }
+    requires namespace { IfSome namespace.now IsNamespace }
     requires few_faults { N.faults net.old < 2 ^ 62 }
-    ensures { RunsEither setup.options.peer setup.options (use_of N.faults N.served N.ended N.peer net.old net.new)
+    ensures { RunsAny setup.options.peer setup.options.cluster namespace.now setup.options
+        (use_of N.faults N.served N.ended N.peer net.old net.new)
         (sent_through K.written K.settled K.faults sink.old sink.new) result }
 {
     match setup.options.peer {
+        Some(port) => serve_peer(setup, port, sink, clock, net, redial),
+        None => serve_without_peer(setup, namespace, sink, clock, net, redial),
+    }
+}
+
+// The same, where they name no peer.
+fn serve_without_peer<R: Host, K: Sink, T: Clock + Send, N: Net, D: Redial + Send>(
+    setup: Setup<R>,
+    namespace: &Option<Text>,
+    sink: &mut K,
+    clock: &mut T,
+    net: &mut N,
+    redial: &mut D,
+) -> u8
+where
+    <N::L as Listener>::T: Rung,
+    requires range { AreServed setup.options }
+    requires namespace { IfSome namespace.now IsNamespace }
+    requires few_faults { N.faults net.old < 2 ^ 62 }
+    ensures { RunsAny None setup.options.cluster namespace.now setup.options
+        (use_of N.faults N.served N.ended N.peer net.old net.new)
+        (sent_through K.written K.settled K.faults sink.old sink.new) result }
+{
+    match setup.options.cluster {
+        Some(port) => serve_listed(setup, port, namespace, sink, clock, net, redial),
         None => {
-            let first = setup.options.first;
-            let beginning: Beginning<<N::L as Listener>::S> = Beginning { first, peer: None };
+            let beginning: Beginning<<N::L as Listener>::S> = Beginning {
+                first: setup.options.first,
+                peer: None,
+                cluster: None,
+            };
             serve_log(setup, beginning, sink, clock, net, redial)
         }
-        Some(port) => serve_peer(setup, port, sink, clock, net, redial),
     }
 }
 
@@ -104,6 +137,7 @@ where
             let beginning = Beginning {
                 first,
                 peer: Some(peer),
+                cluster: None,
             };
             serve_log(setup, beginning, sink, clock, net, redial)
         }
@@ -150,7 +184,7 @@ fn refuse<K: Sink, N: Net>(
     requires read { no ≡ LinkNo.ReadFault → 0 < N.L.S.faults source }
     requires written { no ≡ LinkNo.WriteFault → 0 < N.L.K.faults request }
     requires few_faults { N.faults net.old < 2 ^ 62 }
-    ensures { Refuses no (use_of N.faults N.served N.ended N.peer net.old net.new)
+    ensures { Refuses IsOfBytes peer_line no (use_of N.faults N.served N.ended N.peer net.old net.new)
         (sent_through K.written K.settled K.faults sink.old sink.new) result }
 {
     match no {

@@ -1,13 +1,14 @@
 //! The commands with their options.
 
 ghost use Rattle.std.specs.Prelude.{◌≡◌, ◌≤◌, ◌^◌, IfOk, map, string_bytes};
-ghost use Rattle.clap.specs.Words.{app_of, found_of, rows_of};
+ghost use Rattle.clap.specs.Words.{app_of, first_of, found_of, rows_of};
 ghost use Rattle.up_api.specs.Settings.{AreInRange};
 ghost use Rattle.watchcache.specs.Options as spec;
-ghost use Rattle.watchcache.specs.Words.{AreServed};
+ghost use Rattle.watchcache.specs.Words.{AreServed, IsServeAsk};
 
-use crate::asked::{Fault, LoadOptions, OptionName, ServeOptions, WordsNo};
+use crate::asked::{Fault, LoadOptions, OptionName, ServeAsk, ServeOptions, WordsNo};
 use crate::options::{is_given, matched, number, optional, with_option};
+use crate::scope::{namespace, with_cluster};
 use crate::settings::{settings, with_settings};
 use clap::{ArgMatches, Command};
 use kube_meta::{MAX_REVISION, Memory};
@@ -34,16 +35,32 @@ pub(crate) fn session_command<'a>(alloc: Global) -> Result<Command<'a>, Memory>
     with_settings(alloc, Command::new(alloc, "session"))
 }
 
-/// The options that the words of a server give, the first of which is `serve`.
-pub(crate) fn read_serve(alloc: Global, words: &[String]) -> Result<ServeOptions, WordsNo>
+/// What the words of a server ask for, the first of which is `serve`.
+pub(crate) fn read_serve(alloc: Global, words: &[String]) -> Result<ServeAsk, WordsNo>
     ensures value { spec.ReadsServe (map string_bytes words.now) result }
-    ensures range { IfOk result AreServed }
+    ensures range { IfOk result IsServeAsk }
 {
     let command = serve_command(alloc)?;
     let matches = matched(command, words)?;
     match serve_options(&matches) {
-        Ok(options) => Ok(options),
+        Ok(options) => with_namespace(alloc, &matches, options),
         Err(fault) => Err(WordsNo::Bad(fault)),
+    }
+}
+
+// What is asked for by these options, and the namespace that is given.
+fn with_namespace(
+    alloc: Global,
+    matches: &ArgMatches<'_>,
+    options: ServeOptions,
+) -> Result<ServeAsk, WordsNo>
+    requires { AreServed options }
+    ensures value { spec.WordsGive (spec.ask_with (first_of (spec.option_text OptionName.Namespace) (rows_of (found_of matches.now))) options) result }
+    ensures range { IfOk result IsServeAsk }
+{
+    match namespace(alloc, matches) {
+        Ok(namespace) => Ok(ServeAsk { options, namespace }),
+        Err(no) => Err(no),
     }
 }
 
@@ -52,11 +69,28 @@ pub(crate) fn serve_command<'a>(alloc: Global) -> Result<Command<'a>, Memory>
     ensures { IfOk result (λ command. app_of command ≡ spec.serve) }
 {
     let command = with_settings(alloc, Command::new(alloc, "serve"))?;
+    let command = with_doors(alloc, command)?;
+    with_origin(alloc, command)
+}
+
+// The command with the options that say which connections are taken, and by how many threads.
+fn with_doors<'a>(alloc: Global, command: Command<'a>) -> Result<Command<'a>, Memory>
+    ensures { IfOk result (λ more. app_of more ≡ spec.with_doors (app_of command.entry)) }
+{
     let command = with_option(alloc, command, "port")?;
     let command = with_option(alloc, command, "workers")?;
     let command = with_option(alloc, command, "open")?;
-    let command = with_option(alloc, command, "connections")?;
+    with_option(alloc, command, "connections")
+}
+
+// And with those that say where the log comes from.
+fn with_origin<'a>(alloc: Global, command: Command<'a>) -> Result<Command<'a>, Memory>
+    ensures { IfOk result (λ more. app_of more ≡ spec.with_origin (app_of command.entry)) }
+{
     let command = with_option(alloc, command, "peer")?;
+    let command = with_option(alloc, command, "cluster")?;
+    let command = with_option(alloc, command, "resources")?;
+    let command = with_option(alloc, command, "namespace")?;
     with_option(alloc, command, "first-revision")
 }
 
@@ -84,6 +118,7 @@ fn with_connections(matches: &ArgMatches<'_>, settings: Settings) -> Result<Serv
             open,
             connections,
             peer: None,
+            cluster: None,
             first: 1,
             settings,
         },
@@ -100,16 +135,20 @@ fn with_peer(matches: &ArgMatches<'_>, options: ServeOptions) -> Result<ServeOpt
         Some(port) => Some(port as u16),
         None => None,
     };
-    with_first(matches, options)
+    with_cluster(matches, options)
 }
 
-fn with_first(matches: &ArgMatches<'_>, options: ServeOptions) -> Result<ServeOptions, Fault>
+pub(crate) fn with_first(
+    matches: &ArgMatches<'_>,
+    options: ServeOptions,
+) -> Result<ServeOptions, Fault>
     requires { AreServed options }
     ensures value { result ≡ spec.with_first (rows_of (found_of matches.now)) options }
     ensures range { IfOk result AreServed }
 {
     let mut options = options;
-    if options.peer.is_some() && is_given(matches, OptionName::FirstRevision) {
+    let follows = options.peer.is_some() || options.cluster.is_some();
+    if follows && is_given(matches, OptionName::FirstRevision) {
         return Err(Fault::FirstWithPeer);
     }
     options.first = number(matches, OptionName::FirstRevision, 1, MAX_REVISION, 1)?;

@@ -1,7 +1,9 @@
 //! Connections to the peer of a mirror, one after the other.
 
+use crate::cluster_advice::say_news;
+use cluster_link::Finding;
 use edge_io::{Failed, Net, ReadEnd, WriteEnd};
-use net_front::{News, Redial};
+use net_front::{ClusterNews, News, Redial};
 use std::alloc::Global;
 use std::io::Eprint;
 use std::net::{TcpListener, TcpStream};
@@ -55,5 +57,9 @@ where
             ),
             News::Ends { why } => eprintln!(self.rt; "watchcache: no longer following: {why}"),
         };
+    }
+
+    fn tell(&mut self, news: ClusterNews, finding: Option<&Finding>) {
+        say_news(self.rt, news, finding);
     }
 }

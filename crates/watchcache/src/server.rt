@@ -12,11 +12,12 @@ use crate::asked::ServeOptions;
 use crate::statuses::{DONE, NET_FAULT, OUT_OF_MEMORY};
 use crate::telling::tell;
 use bells::Rung;
+use cluster_link::{ClusterList, ClusterMirror};
 use edge_io::{Clock, Listener, Net, Sink, Source};
 use itoa::Buffer;
 use kube_meta::Memory;
 use mirror_link::{Mirror, Opening};
-use net_front::{Host, Redial, Served, serve_mirror, serve_open};
+use net_front::{Cluster, Host, Redial, Served, serve_cluster, serve_mirror, serve_open};
 use rev_front::{Blank, blank};
 use rev_log::Revision;
 use shared_client::Cacher;
@@ -34,11 +35,12 @@ pub struct Setup<R> {
     pub options: ServeOptions,
 }
 
-/// How a log begins: empty at its first revision, or with the pods that a peer had there.
+/// How a log begins: empty at its first revision, or with the pods that a peer or a cluster had there.
 #[derive(Drop)]
 pub struct Beginning<S> {
     pub first: u64,
     pub peer: Option<Peer<S>>,
+    pub cluster: Option<Listed>,
 }
 
 /// A peer whose pods were read: these, what comes from it behind them, and its port.
@@ -49,8 +51,15 @@ pub struct Peer<S> {
     pub port: u16,
 }
 
-/// Serves the connections to a port, over caches of one log that begins so, and tells how many there were. A peer with
-/// whose pods it begins is followed, by `redial` too. Answers the status.
+/// A cluster whose pods were listed.
+#[derive(Drop)]
+pub struct Listed {
+    pub list: ClusterList,
+    pub cluster: Cluster,
+}
+
+/// Serves the connections to a port, over caches of one log that begins so, and tells how many there were. A peer or a
+/// cluster with whose pods it begins is followed, by `redial` too. Answers the status.
 pub fn serve_log<R, S, K, T, N, D>(
     setup: Setup<R>,
     beginning: Beginning<S>,
@@ -69,8 +78,9 @@ where
     <N::L as Listener>::T: Rung,
     requires range { AreServed setup.options }
     requires first { (1 ≤ beginning.first) × (beginning.first ≤ 2 ^ 62) }
-    requires empty { IfNone beginning.peer (beginning.first ≡ setup.options.first) }
+    requires empty { IfNone beginning.peer (IfNone beginning.cluster (beginning.first ≡ setup.options.first)) }
     requires opened { IfSome beginning.peer (λ peer. beginning.first ≡ peer.opening.base) }
+    requires listed { IfSome beginning.cluster (λ listed. beginning.first ≡ listed.list.at) }
     requires few_faults { N.faults net.old < 2 ^ 62 }
     ensures { RunsServer setup.options (use_of N.faults N.served N.ended N.peer net.old net.new)
         (sent_through K.written K.settled K.faults sink.old sink.new) result }
@@ -101,21 +111,58 @@ where
     L::T: Rung,
     requires range { AreServed setup.options }
     requires first { (1 ≤ beginning.first) × (beginning.first ≤ 2 ^ 62) }
-    requires empty { IfNone beginning.peer (beginning.first ≡ setup.options.first) }
+    requires empty { IfNone beginning.peer (IfNone beginning.cluster (beginning.first ≡ setup.options.first)) }
     requires opened { IfSome beginning.peer (λ peer. beginning.first ≡ peer.opening.base) }
+    requires listed { IfSome beginning.cluster (λ listed. beginning.first ≡ listed.list.at) }
     requires fresh { (L.given listener ≡ 0) × (L.faults listener ≡ 0) }
     ensures accepted { IfOk result (λ served. served.accepted ≡ L.given served.listener) }
     ensures faulted { IfOk result (λ served. IsTrue served.faulted ↔ (0 < L.faults served.listener)) }
     ensures ended { IfOk result
         (λ served. MayEnd (L.over served.listener) (L.faults served.listener) served.accepted (most_connections setup.options.connections)) }
 {
-    let Beginning { first, peer } = beginning;
+    let Beginning {
+        first,
+        peer,
+        cluster,
+    } = beginning;
     let made = blank(setup.alloc, first)?;
     match peer {
-        None => serve_empty::<Brand, R, L, T>(setup, made, listener, clock),
         Some(opened) => serve_mirrored::<Brand, R, S, L, T, D>(
             setup, made, opened, listener, clock, redial,
         ),
+        None => serve_unpeered(setup, made, cluster, listener, clock, redial),
+    }
+}
+
+// The same without a peer, over the log whose table was just made.
+fn serve_unpeered<R, L, T, D>(
+    setup: Setup<R>,
+    made: Blank<Revision>,
+    cluster: Option<Listed>,
+    listener: L,
+    clock: &mut T,
+    redial: &mut D,
+) -> Result<Served<L>, Memory>
+where
+    R: Host,
+    L: Listener + Send + Drop,
+    T: Clock + Send,
+    D: Redial + Send,
+    L::T: Rung,
+    requires range { AreServed setup.options }
+    requires empty { IfNone cluster (made.first ≡ setup.options.first) }
+    requires listed { IfSome cluster (λ listed. made.first ≡ listed.list.at) }
+    requires fresh { (L.given listener ≡ 0) × (L.faults listener ≡ 0) }
+    ensures accepted { IfOk result (λ served. served.accepted ≡ L.given served.listener) }
+    ensures faulted { IfOk result (λ served. IsTrue served.faulted ↔ (0 < L.faults served.listener)) }
+    ensures ended { IfOk result
+        (λ served. MayEnd (L.over served.listener) (L.faults served.listener) served.accepted (most_connections setup.options.connections)) }
+{
+    match cluster {
+        Some(listed) => serve_replica::<Brand, R, L, T, D>(
+            setup, made, listed, listener, clock, redial,
+        ),
+        None => serve_empty::<Brand, R, L, T>(setup, made, listener, clock),
     }
 }
 
@@ -234,6 +281,62 @@ where
                 &mut source,
                 redial,
                 port,
+                clock,
+                options.workers,
+                options.open,
+                options.connections,
+                &options.settings,
+            );
+            cacher.close();
+            served
+        }
+        Err(no) => Err(no),
+    }
+}
+
+// Over the log whose table was just made, and which begins with a cluster's pods.
+fn serve_replica<F, R, L, T, D>(
+    setup: Setup<R>,
+    made: Blank<Revision>,
+    listed: Listed,
+    listener: L,
+    clock: &mut T,
+    redial: &mut D,
+) -> Result<Served<L>, Memory>
+where
+    F: LogFacts + Send + Sync,
+    R: Host,
+    L: Listener + Send + Drop,
+    T: Clock + Send,
+    D: Redial + Send,
+    L::T: Rung,
+    requires name { made ≡ F.log }
+    requires first { made.first ≡ listed.list.at }
+    requires base { F.base ≡ listed.list.rows }
+    requires mirror { F.mirror ≡ true }
+    requires window { F.window ≡ setup.options.settings.window }
+    requires range { AreServed setup.options }
+    requires fresh { (L.given listener ≡ 0) × (L.faults listener ≡ 0) }
+    ensures accepted { IfOk result (λ served. served.accepted ≡ L.given served.listener) }
+    ensures faulted { IfOk result (λ served. IsTrue served.faulted ↔ (0 < L.faults served.listener)) }
+    ensures ended { IfOk result
+        (λ served. MayEnd (L.over served.listener) (L.faults served.listener) served.accepted (most_connections setup.options.connections)) }
+{
+    let Setup { rt, alloc, options } = setup;
+    let Listed { list, mut cluster } = listed;
+    let history = options.settings.history;
+    let mut mirror = ClusterMirror::<F, R>::new(rt, alloc, list, made, history)?;
+    let door = mirror.door()?;
+    match Cacher::new(rt, alloc, door, &options.settings) {
+        Ok(cacher) => {
+            let served = serve_cluster(
+                &rt,
+                alloc,
+                listener,
+                &cacher,
+                &mut mirror,
+                redial,
+                &mut cluster,
                 clock,
                 options.workers,
                 options.open,

@@ -36,7 +36,10 @@ and of serve:
   --open N          connections that are served side by side, by threads that come as they are wanted: 1 to 65536, default 16384
   --connections N   connections that are accepted before it ends: 0 to 4611686018427387904, default 0, which is all
   --peer N          the port of a server whose pods it mirrors: 1 to 65535, default none
-  --first-revision N  the revision of its empty log, unless it mirrors a peer: 1 to 4611686018427387904, default 1
+  --cluster N       the port of `kubectl proxy` to a cluster whose pods it mirrors: 1 to 65535, default none
+  --resources NAME  which of the cluster's resources it mirrors: pods, which is the default
+  --namespace NAME  the one namespace whose pods it mirrors of the cluster, default all
+  --first-revision N  the revision of its empty log, unless it is a mirror: 1 to 4611686018427387904, default 1
 
 those of load:
   --from N          what the requests are drawn from: 0 to 4611686018427387904, default 1
@@ -51,10 +54,10 @@ exit status:
   6   the input went on with what is no request, as its reply says
   7   1000000 requests were answered
   8   memory ran out
-  9   dialling the peer, its opening, listening or accepting failed
+  9   dialling the peer or the cluster, its opening or list, listening or accepting failed
   11  the body of a record is unlawful
   12  what was to be checked is no record
-  13  what the peer sent is no streaming list
+  13  what the peer sent is no streaming list, or what the cluster sent is no list
 ";
 
 const VERSION: &[u8] = b"watchcache 0.1.0\n";

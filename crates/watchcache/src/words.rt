@@ -28,7 +28,7 @@ pub fn read_words(alloc: Global, words: &[String]) -> Result<Asked, WordsNo>
     }
     if begins_with(words, "serve") {
         return match read_serve(alloc, words) {
-            Ok(options) => Ok(Asked::Serve(options)),
+            Ok(ask) => Ok(Asked::Serve(ask)),
             Err(fault) => Err(fault),
         };
     }

@@ -1,10 +1,13 @@
 use Rattle.edge_io.specs.Sent.{sent_through}
 use Rattle.watchcache.proofs.PeerLemmas.{opened}
+use Rattle.watchcache.specs.Run.{IsOfBytes, SendsNone, SendsOpening}
+use Rattle.watchcache.specs.Texts.{peer_line}
 use Rattle.watchcache.proofs.peer.open_over.Goals as goal
 
 pub returns-in-Ok : goal.returns-in-Ok
 returns-in-Ok g c =
-    opened c.args.setup.options (sent_through g.K.Sink.written g.K.Sink.settled g.K.Sink.faults c.args.sink.now c.serve_log.new.sink) c.serve_log.result
+    opened SendsOpening _ SendsNone IsOfBytes peer_line c.args.setup.options
+    (sent_through g.K.Sink.written g.K.Sink.settled g.K.Sink.faults c.args.sink.now c.serve_log.new.sink) c.serve_log.result
     (g.N.Net.faults c.args.net.now) (g.N.Net.faults c.serve_log.new.net) (g.N.Net.served c.args.net.now) (g.N.Net.served c.serve_log.new.net)
     (∥ g.N.Net.ended c.serve_log.new.net ∥₁) (g.N.L.S.Source.left c.args.source) (g.N.Net.peer c.args.net.now)
     (c.in-Ok.ensures.opens c.base-first.ensures.lawful) c.serve_log.ensures

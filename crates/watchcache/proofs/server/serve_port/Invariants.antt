@@ -1,14 +1,8 @@
-use Rattle.std.specs.Prelude.{[], false, true}
+use Rattle.std.specs.Prelude.{true}
 use Rattle.watchcache.proofs.server.serve_port.Given as goal
 
--- the log that was just made, whose caches keep as many changes as the settings say: an empty one
-abbrev pub ghosts-serve_empty-F-LogName : goal.ghosts-serve_empty-F-LogName
-ghosts-serve_empty-F-LogName g a = record { log = a.made }
-
-abbrev pub ghosts-serve_empty-F-LogFacts : goal.ghosts-serve_empty-F-LogFacts
-ghosts-serve_empty-F-LogFacts g a = record { base = []; mirror = false; window = a.setup.options.settings.window }
-
--- and a mirror that begins with the opening
+-- the log that was just made, whose caches keep as many changes as the settings say: a mirror that begins with the
+-- opening
 abbrev pub ghosts-serve_mirrored-F-LogName : goal.ghosts-serve_mirrored-F-LogName
 ghosts-serve_mirrored-F-LogName g a = record { log = a.made }
 
