@@ -61,6 +61,12 @@ is_other_uid (Some known) (Some read) = not (bytes_eq known read)
 is_other_uid (Some known) None = false
 is_other_uid None read = false
 
+-- where a cluster doesn't say by which uid it goes: it is asked again, but what is no reply that tells one, as that of a
+-- cluster that has none, says nothing
+abbrev pub silent_turn : ClusterNo → Option Turn
+silent_turn BadReply = None
+silent_turn why = Some Again
+
 -- before a cluster is asked for what comes next, by its uid: another cluster isn't followed
 abbrev pub uid_turn : Option (List ℕ) → Option (List ℕ) → Option Turn
 uid_turn known read = if is_other_uid known read then Some End else None

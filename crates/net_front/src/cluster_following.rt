@@ -163,14 +163,17 @@ fn meet<N: LogFacts, R: Wait + Copy, D: Redial>(
     }
 }
 
-/// The uid of the cluster behind a port, where it may be read.
+/// The uid of the cluster behind a port, where it has one that may be read.
 pub fn uid_of<D: Redial>(alloc: Global, redial: &mut D, port: u16) -> Result<Option<Text>, Halt> {
     let Ok((mut source, mut sink)) = redial.redial(port) else {
         return Err(halt_of_silence());
     };
     match read_uid(alloc, &mut source, &mut sink) {
         Ok(uid) => Ok(uid),
-        Err(no) => Err(halt_without_uid(no)),
+        Err(no) => match halt_without_uid(no) {
+            Some(halt) => Err(halt),
+            None => Ok(None),
+        },
     }
 }
 

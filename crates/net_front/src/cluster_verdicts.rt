@@ -152,11 +152,15 @@ pub fn halt_of_silence() -> Halt
     halt_by(Turn::Again, ClusterWhy::NoConnection)
 }
 
-/// Where the cluster didn't say by which uid it goes. That may pass, whatever it said in place of it.
-pub fn halt_without_uid(no: ClusterNo) -> Halt
-    ensures { verdicts.turn_by result ≡ Some Turn.Again }
+/// Where the cluster didn't say by which uid it goes. `None` means that it may be asked: what is no reply that tells one
+/// may come of a cluster that has none, and else the request that is made next is refused.
+pub fn halt_without_uid(no: ClusterNo) -> Option<Halt>
+    ensures { verdicts.turn_after result ≡ verdicts.silent_turn no }
 {
-    halt_by(Turn::Again, ClusterWhy::No(no))
+    match no {
+        ClusterNo::BadReply => None,
+        _ => Some(halt_by(Turn::Again, ClusterWhy::No(no))),
+    }
 }
 
 /// By the uid that the cluster goes by now, and the one that is known. `None` means that it may be asked.
