@@ -47,31 +47,43 @@ fn say_return<R: Eprint + Copy>(rt: R, from: u64) {
     let _ = eprintln!(rt; "watchcache: following again from revision {from}");
 }
 
-// Says why a cluster isn't heard: the cause's name, its code and the object that it is about, and what to do.
+// Says why a cluster isn't heard: the cause's name, with its code or the object that it is about, and what to do.
 fn say_why<R: Eprint + Copy>(rt: R, what: &str, why: ClusterWhy, finding: Option<&Finding>) {
     let (name, words) = (why.name(), of_cluster(why));
-    let _ = match code_of_cluster(why) {
-        Some(code) => eprintln!(rt; "watchcache: {what}: {name} {code}: {words}"),
-        None => eprintln!(rt; "watchcache: {what}: {name}: {words}"),
-    };
-    if let Some(finding) = finding {
-        say_finding(rt, finding);
+    match finding {
+        Some(finding) if is_of_object(why) => say_object(rt, what, name, words, finding),
+        _ => say_cause(rt, what, name, words, code_of_cluster(why)),
     }
 }
 
-// Says what was found in a text that was refused, or which object isn't the one that stands.
-fn say_finding<R: Eprint + Copy>(rt: R, finding: &Finding) {
+fn say_cause<R: Eprint + Copy>(rt: R, what: &str, name: &str, words: &str, code: Option<u16>) {
+    let _ = match code {
+        Some(code) => eprintln!(rt; "watchcache: {what}: {name} {code}: {words}"),
+        None => eprintln!(rt; "watchcache: {what}: {name}: {words}"),
+    };
+}
+
+// The same of a text that was refused, or of an object that isn't the one that stands.
+fn say_object<R: Eprint + Copy>(rt: R, what: &str, name: &str, words: &str, finding: &Finding) {
     let _ = match finding {
         Finding::Row(key) => {
             let key = key.as_str();
-            eprintln!(rt; "watchcache: it is about {key}")
+            eprintln!(rt; "watchcache: {what}: {name} {key}: {words}")
         }
         Finding::Text(bad) => {
-            let words = of_trouble(bad.trouble);
-            let (ns, name) = (text_of(&bad.ns), text_of(&bad.name));
-            eprintln!(rt; "watchcache: it is about {ns}/{name}: {words}")
+            let trouble = of_trouble(bad.trouble);
+            let (ns, object) = (text_of(&bad.ns), text_of(&bad.name));
+            eprintln!(rt; "watchcache: {what}: {name} {ns}/{object}: {trouble}; {words}")
         }
     };
+}
+
+// Whether an object may be told of a cause.
+fn is_of_object(why: ClusterWhy) -> bool {
+    match why {
+        ClusterWhy::No(ClusterNo::BadLine) | ClusterWhy::No(ClusterNo::OtherValue) => true,
+        _ => false,
+    }
 }
 
 fn text_of(text: &Option<Text>) -> &str {
