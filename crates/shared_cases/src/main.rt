@@ -9,7 +9,6 @@ ghost use Rattle.std.specs.Prelude.{◌≡◌, [], false};
 ghost use Rattle.up_api.specs.Settings.{AreInRange};
 
 mod asks;
-mod caches;
 mod play;
 mod seat;
 mod settings;
@@ -17,7 +16,6 @@ mod steps;
 mod storm;
 mod told;
 
-use caches::{Caches, Followers};
 use case_rows::{Lines, Tally};
 use play::Stage;
 use rev_front::{Blank, blank};
@@ -95,24 +93,22 @@ fn run_rows_on<N: LogFacts + Send + Sync, R: Host>(
     requires settings { AreInRange settings.now }
 {
     let cacher = Cacher::new(rt, alloc, door.again()?, settings)?;
-    let followers = Followers {
-        rt,
-        cacher: &cacher,
-        door,
-    };
-    let played = play_rows(rt, alloc, &followers, rows, tally);
+    let played = play_rows(rt, alloc, &cacher, door, rows, tally);
     cacher.close();
     played
 }
 
 /// Plays the rows of a script by clients of these caches.
-fn play_rows<M: Caches, R: Host>(
+fn play_rows<N: LogFacts + Send + Sync, R: Host>(
     rt: R,
     alloc: Global,
-    caches: &M,
+    cacher: &Cacher<N, R>,
+    door: &StoreDoor<N, R>,
     rows: Lines<'_>,
     tally: &mut Tally,
 ) -> io::Result<()> {
-    let mut stage = Stage::new(rt, alloc, caches);
-    stage.play(alloc, rows, tally)
+    let mut stage = Stage::new(rt, alloc, cacher, door);
+    let played = stage.play(alloc, rows, tally);
+    stage.close();
+    played
 }

@@ -1,7 +1,7 @@
 //! A storm: writers, watchers and operations at once, over the clients of one log, each in a thread of its own.
 
+use crate::Host;
 use crate::asks::{list_ask, selected, write_ask};
-use crate::caches::Caches;
 use crate::seat::Seat;
 use crate::told::Told;
 use case_rows::{Draws, Wording, number, split};
@@ -78,24 +78,27 @@ impl Storm {
 }
 
 /// Plays a storm, and tells what it leaves: `right`, or what isn't.
-pub fn weather<M: Caches>(
+pub fn weather<N: LogFacts + Send + Sync, R: Host>(
+    rt: R,
     alloc: Global,
-    caches: &M,
+    cacher: &Cacher<N, R>,
     storm: &Storm,
     told: &mut Wording,
 ) -> Result<(), Memory> {
-    let first = newest(alloc, caches.client()?)?;
-    caches.rage(alloc, storm)?;
-    let last = newest(alloc, caches.client()?)?;
+    let first = newest(alloc, cacher.client()?)?;
+    rage(&rt, alloc, cacher, storm)?;
+    let last = newest(alloc, cacher.client()?)?;
     storm.tell(first, last, told);
     Ok(())
 }
 
-/// Plays all parts of a storm, side by side, each by a client of its own.
-pub fn play_all<
-    N: LogFacts + Send + Sync,
-    R: Threads + Wait + std::time::Clock + Copy + Send + Sync,
->(rt: &R, alloc: Global, cacher: &Cacher<N, R>, storm: &Storm) -> Result<(), Memory> {
+// Plays all parts of a storm, side by side, each by a client of its own.
+fn rage<N: LogFacts + Send + Sync, R: Threads + Wait + std::time::Clock + Copy + Send + Sync>(
+    rt: &R,
+    alloc: Global,
+    cacher: &Cacher<N, R>,
+    storm: &Storm,
+) -> Result<(), Memory> {
     let part = |number: usize| play::<N, R>(*rt, alloc, cacher, storm, number);
     let _ = thread::map_indices(rt, alloc, WRITERS + 1 + WATCHERS, &part)?;
     Ok(())
