@@ -3,7 +3,7 @@ use Rattle.std.proofs.Common.{◌≡◌, ℕ, List, [], ◌∷◌, ◌++◌, map
 use Rattle.std.specs.Prelude.{MatchResult}
 use Rattle.std.specs.List.{flat_map}
 use Rattle.std.proofs.lemmas.List.{append-nil}
-use Rattle.std.proofs.lemmas.List.Elements.{All-nil, All-push, All-weaker}
+use Rattle.std.proofs.lemmas.List.Elements.{All-head, All-nil, All-push, All-weaker}
 use Rattle.edge_io.specs.Sent.{Sent, IsWrittenOut, IsSentOn}
 use Rattle.edge_io.specs.Told.{prepended}
 use Rattle.edge_io.proofs.ToldLemmas.{prepended-prepended}
@@ -17,7 +17,7 @@ use Rattle.line_stream.specs.declared.asking.AskNo.{AskNo}
 use Rattle.line_stream.specs.declared.asking.AskNo.TheVariants as ask
 use Rattle.select_all.specs.declared.selection.Selection.{Selection}
 use Rattle.watch_lines.specs.Pages.{IsPageText}
-use Rattle.cluster_link.specs.Pages.{PageData, GatheredData, AddsPage, ArePages, IsNextPage, IsOfRevision, IsLeftUnsent, IsPageRead, LacksPage, NextPage, TakesPage, no_pages, page_requests}
+use Rattle.cluster_link.specs.Pages.{PageData, GatheredData, AddsPage, ArePages, IsNextPage, IsOfRevision, IsLeftUnsent, IsPageRead, LacksPage, NextPage, TakesPage, no_pages, page_requests, revision_of_pages}
 use Rattle.cluster_link.specs.Lists.{AnswersList, HoldsPages, IsGathered, LacksNext, ListData}
 use Rattle.cluster_link.specs.declared.refusal.ClusterNo.{ClusterNo}
 use Rattle.cluster_link.specs.declared.refusal.ClusterNo.TheVariants as no
@@ -45,12 +45,18 @@ chain_push f g xs x first last next chain from to =
 pub pages_begin : ArePages [] no_pages [] []
 pages_begin = record {
   read = All-nil IsPageRead;
+  revision = refl;
   one_revision = All-nil (λ page. None ≡ Some page.at);
   rows = refl;
   asked = refl;
   behind = refl;
   taken_are = refl;
 }
+
+-- the first is of the revision of all
+first_of : (at : ℕ) (pages : List PageData) (page : PageData) → All (λ p. Some at ≡ Some p.at) (pages ++ page ∷ []) → Some at ≡ revision_of_pages (pages ++ page ∷ [])
+first_of at [] page all = All-head (λ (p : PageData). Some at ≡ Some p.at) page [] all
+first_of at (q ∷ pages) page all = All-head (λ (p : PageData). Some at ≡ Some p.at) q (pages ++ page ∷ []) all
 
 of_one : (before : Option ℕ) (at : ℕ) (pages : List PageData) → IsOfRevision before at → All (λ page. before ≡ Some page.at) pages → All (λ page. Some at ≡ Some page.at) pages
 of_one None at pages same all = All-weaker (λ (page : PageData). None ≡ Some page.at) (λ (page : PageData). Some at ≡ Some page.at) (λ page never. absurd (cc)) pages all
@@ -66,12 +72,18 @@ module _ (pages : List PageData) (old : GatheredData) (taken kept : List ℕ) (a
       ap (λ (g : GatheredData). g.rows) next.new_is ∙ ap (λ (rows : List RowData). rows ++ page.rows) are.rows
       ∙ sym (flat_push (λ (p : PageData). p.rows) pages page)
 
+  all_one : All (λ p. Some page.at ≡ Some p.at) (pages ++ page ∷ [])
+  all_one = All-push (λ (p : PageData). Some page.at ≡ Some p.at) pages page (of_one old.at page.at pages next.same are.one_revision) refl
+
+  at_is : new.at ≡ Some page.at
+  at_is = ap (λ (it : GatheredData). it.at) next.new_is
+
   -- one more
   pub pages_go_on : ArePages (pages ++ page ∷ []) new (taken ++ more) beyond
   pages_go_on = record {
     read = All-push IsPageRead pages page are.read next.read;
-    one_revision = subst (λ (at : Option ℕ). All (λ (p : PageData). at ≡ Some p.at) (pages ++ page ∷ [])) (sym (ap (λ (g : GatheredData). g.at) next.new_is))
-        (All-push (λ (p : PageData). Some page.at ≡ Some p.at) pages page (of_one old.at page.at pages next.same are.one_revision) refl);
+    revision = at_is ∙ first_of page.at pages page all_one;
+    one_revision = subst (λ (at : Option ℕ). All (λ (p : PageData). at ≡ Some p.at) (pages ++ page ∷ [])) (sym at_is) all_one;
     rows = rows_are;
     asked = chain_push (λ (p : PageData). p.asked) (λ (p : PageData). p.token) pages page [] old.token new.token are.asked next.asked token_is;
     behind = chain_push (λ (p : PageData). p.before) (λ (p : PageData). p.beyond) pages page [] kept beyond are.behind next.before next.after;

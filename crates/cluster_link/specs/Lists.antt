@@ -36,6 +36,7 @@ pub record AreListed (s : Selection) (at : ℕ) (rows : List RowData) : Type 0 w
 -- what holds of each list
 pub record IsClusterList (list : ListData) : Type 0 where
   pub all : IsOfAll list.selection
+  pub some : 1 ≤ list.at
   pub bounded : list.at ≤ 2 ^ 62
   pub rows : AreListed list.selection list.at list.rows
 

@@ -50,11 +50,17 @@ no_pages = record { rows = []; at = None; token = [] }
 abbrev pub page_requests : Option (List ℕ) → List PageData → List ℕ
 page_requests ns pages = flat_map (λ page. page_request Pods ns page.asked) pages
 
+-- the revision of pages: that of the first, if there is one
+abbrev pub revision_of_pages : List PageData → Option ℕ
+revision_of_pages [] = None
+revision_of_pages (page ∷ pages) = Some page.at
+
 -- These pages were read over a new connection. They are of one revision; each was asked for by the token of the one
 -- before, the first by none; each stands behind what was read with the one before; these bytes were taken for them, and
 -- `kept` was read beyond them.
 pub record ArePages (pages : List PageData) (gathered : GatheredData) (taken kept : List ℕ) : Type 0 where
   pub read : All IsPageRead pages
+  pub revision : gathered.at ≡ revision_of_pages pages
   pub one_revision : All (λ page. gathered.at ≡ Some page.at) pages
   pub rows : gathered.rows ≡ flat_map (λ page. page.rows) pages
   pub asked : map (λ page. page.asked) pages ++ gathered.token ∷ [] ≡ [] ∷ map (λ page. page.token) pages

@@ -1,9 +1,10 @@
 //! The pages of a list.
 
-ghost use Rattle.std.specs.Prelude.{◌≡◌, ◌++◌, ◌≤◌, ◌^◌, ℕ, List, IfSome, MatchBool};
+ghost use Rattle.std.specs.Prelude.{◌≡◌, ◌++◌, ℕ, List, IfSome, MatchBool};
 ghost use Rattle.std.specs.String.{string_bytes};
 ghost use Rattle.edge_io.specs.Sent.{sent_through};
 ghost use Rattle.edge_io.specs.Told.{prepended};
+ghost use Rattle.watch_lines.specs.Stored.{IsToldAt};
 ghost use Rattle.cluster_link.specs.Counting.{CountsSource};
 ghost use Rattle.cluster_link.specs.Pages.{AddsPage, IsOfRevision, IsOfOtherRevision, NextPage, TakesPage, no_pages};
 ghost use Rattle.cluster_link.specs.Lists.{AnswersPages};
@@ -35,7 +36,8 @@ pub(crate) struct Gathered {
 }
 
 impl Model for Gathered {
-    ghost use Rattle.std.specs.Prelude.{◌≤◌, ◌^◌, IfSome};
+    ghost use Rattle.std.specs.Prelude.{IfSome};
+    ghost use Rattle.watch_lines.specs.Stored.{IsToldAt};
     ghost use Rattle.std.specs.String.{string_bytes};
     ghost use Rattle.cluster_link.specs.Pages.{GatheredData};
 
@@ -43,7 +45,7 @@ impl Model for Gathered {
 
     ghost view = { λ g. record { rows = g.rows.items; at = g.at; token = string_bytes g.token } };
 
-    ghost invariant = { λ g. IfSome g.at (λ at. at ≤ 2 ^ 62) };
+    ghost invariant = { λ g. IfSome g.at IsToldAt };
 }
 
 impl Gathered {
@@ -61,7 +63,7 @@ impl Gathered {
     /// Its rows and its revision.
     pub(crate) fn into_parts(self) -> (Vec<Row>, Option<u64>)
         ensures parts { (result.0.items ≡ self.rows) × (result.1 ≡ self.at) }
-        ensures bounded { IfSome result.1 (λ at. at ≤ 2 ^ 62) }
+        ensures bounded { IfSome result.1 IsToldAt }
     {
         let Gathered { rows, at, token: _ } = self;
         (rows, at)
@@ -79,7 +81,7 @@ impl Gathered {
 
     // Adds a page, and answers whether more are to come.
     fn add(&mut self, page: Page) -> Result<bool, ClusterNo>
-        requires { page.at ≤ 2 ^ 62 }
+        requires { IsToldAt page.at }
         ensures { AddsPage self.old page.rows.items page.at (string_bytes page.token) result self.new }
     {
         if !self.is_of(page.at) {

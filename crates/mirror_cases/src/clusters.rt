@@ -94,6 +94,7 @@ fn begin<R: Wait>(
     told: &mut Wording,
 ) -> Result<(), Memory> {
     let made = blank(alloc, list.at())?;
+    let others = String::from_str(alloc, others)?;
     follow::<Brand, R>(rt, alloc, list, made, others, told)
 }
 
@@ -103,7 +104,7 @@ fn follow<N: LogFacts, R: Wait>(
     alloc: Global,
     list: ClusterList,
     made: Blank<Revision>,
-    others: &str,
+    others: String,
     told: &mut Wording,
 ) -> Result<(), Memory>
     requires name { made ≡ N.log }
@@ -112,7 +113,7 @@ fn follow<N: LogFacts, R: Wait>(
     requires mirror { N.mirror ≡ true }
 {
     let mut mirror: ClusterMirror<N, &R> = ClusterMirror::new(rt, alloc, list, made, HISTORY)?;
-    for words in others.split(" | ") {
+    for words in others.as_str().split(" | ") {
         if !words.is_empty() {
             told.add("| ");
             go_on(alloc, &mut mirror, words, told)?;

@@ -9,7 +9,7 @@ use Rattle.cluster_link.proofs.pages.take_page.Goals as goal
 pub add-requires : goal.add-requires
 add-requires c =
     let page = c.in-Ok-Some.page in
-    (c.pages_are_kept.ensures Pods c.args.text.now page.rows.items page.at (string_bytes page.token) (subst (ReadsPage Pods c.args.text.now) c.in-Ok-Some.field-0-is c.in-Ok-Some.ensures)).1.1
+    (c.pages_are_kept.ensures Pods c.args.text.now page.rows.items page.at (string_bytes page.token) (subst (ReadsPage Pods c.args.text.now) c.in-Ok-Some.field-0-is c.in-Ok-Some.ensures)).1
 
 pub returns-in-Ok-Some : goal.returns-in-Ok-Some
 returns-in-Ok-Some c =
