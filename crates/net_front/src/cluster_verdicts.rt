@@ -152,8 +152,8 @@ pub fn halt_of_silence() -> Halt
     halt_by(Turn::Again, ClusterWhy::NoConnection)
 }
 
-/// Where the cluster didn't say by which uid it goes. `None` means that it may be asked: what is no reply that tells one
-/// may come of a cluster that has none, and else the request that is made next is refused.
+/// Where the cluster didn't say by which uid it goes. `None` means that it may be asked: what is no reply that tells
+/// one may come of a cluster that has none, and else the request that is made next is refused.
 pub fn halt_without_uid(no: ClusterNo) -> Option<Halt>
     ensures { verdicts.turn_after result ≡ verdicts.silent_turn no }
 {
