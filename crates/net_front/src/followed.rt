@@ -1,5 +1,7 @@
 //! The peers of mirrors, as the threads of their server know them.
 
+ghost use Rattle.std.specs.Prelude.{◌≡◌};
+
 use crate::probes::{of_all, seconds_since};
 use client_api::Resources;
 use kube_meta::{Memory, Resource};
