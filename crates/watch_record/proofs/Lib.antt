@@ -5,5 +5,7 @@ pub mod ObjectLemmas
 pub mod WriteLemmas
 pub mod LogLemmas
 pub mod CaseLemmas
+pub mod PartLemmas
+pub mod LaterLemmas
 pub mod KeyTexts
 pub mod ReadBack

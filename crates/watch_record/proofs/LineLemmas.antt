@@ -25,8 +25,11 @@ split-none (b ∷ bytes) none =
     let parts = or_parts (is_feed b) (list_any is_feed bytes) none in
     rw (slice_split-cons_no is_feed b bytes parts.0, split-none bytes parts.1) refl
 
+pub split-none-at : (bytes : List ℕ) → position_or_len is_feed bytes ≡ length bytes → slice_split is_feed bytes ≡ bytes ∷ []
+split-none-at bytes none = split-none bytes (any-none is_feed bytes none)
+
 pub lines-none : (bytes : List ℕ) → position_or_len is_feed bytes ≡ length bytes → lines_in bytes ≡ []
-lines-none bytes none = ap ended (split-none bytes (any-none is_feed bytes none))
+lines-none bytes none = ap ended (split-none-at bytes none)
 
 pub later-none : (bytes : List ℕ) → position_or_len is_feed bytes ≡ length bytes → later_lines bytes ≡ []
 later-none bytes none = ap (λ n. lines_in (drop (n + 1) bytes)) none ∙ ap lines_in (drop_all (length bytes + 1) bytes (omega arith))

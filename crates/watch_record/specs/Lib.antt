@@ -4,4 +4,5 @@ pub mod Revisions
 pub mod Reading
 pub mod Asking
 pub mod Records
+pub mod Between
 pub mod Laws

@@ -60,7 +60,7 @@ fn back_of(alloc: Global, header: &Header) -> Result<String, Memory>
 }
 
 // A text as a JSON string.
-fn quoted(alloc: Global, text: &Text) -> Result<String, Memory>
+pub(crate) fn quoted(alloc: Global, text: &Text) -> Result<String, Memory>
     ensures { IfOk result (λ s. string_bytes s ≡ quoted_text text.now) }
 {
     Value::String(text.to_string()?).to_string(alloc)
@@ -103,7 +103,7 @@ fn numbers_in(value: &Value) -> Option<(u64, u64, u64)>
 }
 
 // The namespace, the query and the resource.
-fn texts_in(value: &Value) -> Option<(&str, &str, Resource)>
+pub(crate) fn texts_in(value: &Value) -> Option<(&str, &str, Resource)>
     ensures { option_map (λ texts. (texts.0.now, texts.1.now, texts.2)) result ≡ headers.texts_in (view value.now) }
 {
     let namespace = text_in(value, "namespace")?;
