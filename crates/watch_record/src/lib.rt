@@ -1,5 +1,5 @@
-//! Records of watches: the log that an API server accepted, what was asked for, and the lines that came; or, where the log
-//! is unknown, lists in its place.
+//! Records of watches: the log that an API server accepted, what was asked for, and the lines that came; or, where the
+//! log is unknown, lists in its place.
 #![tactic(auto)]
 
 mod asking;
