@@ -8,3 +8,10 @@ pub mod Judging
 pub mod Rounds
 pub mod Steps
 pub mod Places
+pub mod Lists
+pub mod Turns
+pub mod Walks
+pub mod Spans
+pub mod Texts
+pub mod Turning
+pub mod Heard
