@@ -1,6 +1,6 @@
 //! Times `watchcache check` on a record of many revisions and lines, beside a plain reader of JSON that reads the same
-//! bytes and judges nothing, and beside the same record with its last line damaged. The words are the program, a folder
-//! for the records, and `quick` for a short run.
+//! bytes and judges nothing, and beside the same record with its last line damaged; and one of as many lines between two
+//! lists, where the log is unknown. The words are the program, a folder for the records, and `quick` for a short run.
 use std::fmt::Write as _;
 use std::fs::{self, File};
 use std::io;
@@ -21,9 +21,11 @@ fn main() -> io::Result<()> {
     let whole = record(revisions, "watch=true&resourceVersion=1", false);
     let damaged = record(revisions, "watch=true&resourceVersion=1", true);
     let state = record(revisions, "watch=true", true);
+    let lists = between_lists(revisions * CHANGES);
     println!("| Record | MB | lines | check, s | plain reader, s | says |");
     println!("|---|---|---|---|---|---|");
-    for (name, text) in [("lawful", &whole), ("its last line damaged", &damaged), ("the same from any state", &state)] {
+    let records = [("lawful", &whole), ("its last line damaged", &damaged), ("the same from any state", &state), ("between lists", &lists)];
+    for (name, text) in records {
         let path = Path::new(folder).join("record");
         fs::write(&path, text)?;
         let (checked, says) = timed(program, &path)?;
@@ -59,9 +61,7 @@ fn record(revisions: usize, query: &str, is_damaged: bool) -> String {
         for change in 0..CHANGES {
             let key = (number * CHANGES + change) % KEYS;
             let kind = if number * CHANGES + change < KEYS { "ADDED" } else { "MODIFIED" };
-            let front = "{\"apiVersion\":\"v1\",\"kind\":\"Pod\",\"metadata\":{\"labels\":{\"app\":\"web\"},";
-            let metadata = format!("\"name\":\"p-{key:05}\",\"namespace\":\"default\",\"resourceVersion\":\"{revision}\"");
-            let object = format!("{front}{metadata}}},\"spec\":{{\"nodeName\":\"node-{:02}\",\"turn\":{number}}}}}", key % 50);
+            let object = pod(key, revision, number);
             changes.push(format!("{{\"key\":\"default/p-{key:05}\",\"object\":{object},\"resource\":\"pods\"}}"));
             writeln!(body, "{{\"type\":\"{kind}\",\"object\":{object}}}").expect("a text");
         }
@@ -72,6 +72,30 @@ fn record(revisions: usize, query: &str, is_damaged: bool) -> String {
         body.push('\n');
     }
     format!("{{\"first\":1,\"floor\":1,\"namespace\":\"\",\"query\":\"{query}\",\"resource\":\"pods\",\"window\":100}}\n{log}\n{body}")
+}
+
+fn pod(key: usize, revision: usize, turn: usize) -> String {
+    let front = "{\"apiVersion\":\"v1\",\"kind\":\"Pod\",\"metadata\":{\"labels\":{\"app\":\"web\"},";
+    let metadata = format!("\"name\":\"p-{key:05}\",\"namespace\":\"default\",\"resourceVersion\":\"{revision}\"");
+    format!("{front}{metadata}}},\"spec\":{{\"nodeName\":\"node-{:02}\",\"turn\":{turn}}}}}", key % 50)
+}
+
+// A record of an unknown log: a list of no pods, a watch from there, told of one pod a line, and the list at its end.
+fn between_lists(lines: usize) -> String {
+    let list = |at: usize, items: Vec<String>| {
+        format!("{{\"apiVersion\":\"v1\",\"items\":[{}],\"kind\":\"PodList\",\"metadata\":{{\"resourceVersion\":\"{at}\"}}}}\n", items.join(","))
+    };
+    let mut body = String::new();
+    for number in 0..lines {
+        let kind = if number < KEYS { "ADDED" } else { "MODIFIED" };
+        writeln!(body, "{{\"type\":\"{kind}\",\"object\":{}}}", pod(number % KEYS, number + 2, number)).expect("a text");
+    }
+    let last = (lines.saturating_sub(KEYS)..lines).map(|number| (number % KEYS, pod(number % KEYS, number + 2, number)));
+    let mut last: Vec<_> = last.collect();
+    last.sort();
+    let last = list(lines + 1, last.into_iter().map(|(_, pod)| pod).collect());
+    let header = "{\"namespace\":\"\",\"query\":\"watch=true&resourceVersion=1\",\"resource\":\"pods\"}";
+    format!("{header}\n{}\n{body}\n{last}", list(1, Vec::new()))
 }
 
 // A plain reader of JSON: how many values a text has.

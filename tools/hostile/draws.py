@@ -358,6 +358,52 @@ def stored_records(are_long=False):
         yield body_record(step), f"lawful from {numbers[0]} to {numbers[1]}" if way == "lawful" else f"unlawful at line {numbers[0]}"
 
 
+def stored_lists():
+    """The records of unknown logs, of tools/hostile/records/lists.txt, each with what is said of it."""
+    for step, answer in rows_of("lists.txt"):
+        way, *rest = answer.split(" ")
+        count = step.count("|") - 2
+        says = {"Lawful": "lawful from {} to {}, {} of %s lists held" % count, "Unlawful": "unlawful at {} {}"}.get(way, f"record: {answer}")
+        yield lists_record(step), says.format(*rest)
+
+
+def lists_record(step):
+    """The record that a row of tools/hostile/records/lists.txt stands for."""
+    first, query, body, *later = (it.strip() for it in step.split("|"))
+    query = query.replace("@", "watch=true&allowWatchBookmarks=true&resourceVersion=", 1)
+    head = json.dumps({"namespace": "default", "query": query, "resource": "pods"}, separators=(",", ":"))
+    lines = [listed_line(it.strip()) for it in body.split(";") if it.strip()]
+    texts = [list_text(first), "\n".join(lines), *map(list_text, later)]
+    record = head + "\n" + "\n".join(f"{it}\n" if it else "" for it in texts)
+    return (record[:-1] if later else record).encode()  # the last line of a last list isn't ended
+
+
+def listed_pod(name, label, at, **kind):
+    metadata = {"name": name, "namespace": "default", "uid": f"u-{name}", "resourceVersion": str(at), "labels": {"app": label}}
+    return {**kind, "metadata": metadata, "spec": {"nodeName": "n<1>"}}
+
+
+def list_text(text):
+    """A list over many lines, as `185: web a@183` says; anything else is itself."""
+    at, ended, rows = text.partition(":")
+    if not at.isdigit():
+        return text
+    rows = [re.fullmatch(r"(\S+) (\S+)@(\d+)", it.strip()).groups() for it in rows.split(",") if it.strip()]
+    return json.dumps({"kind": "PodList", "apiVersion": "v1", "metadata": {"resourceVersion": at}, "items": [
+        listed_pod(*it) for it in rows]}, indent=2)
+
+
+def listed_line(word):
+    kind, *rest = word.split(" ")
+    if kind in ("A", "M", "D") and len(rest) == 3:
+        way = {"A": "ADDED", "M": "MODIFIED", "D": "DELETED"}[kind]
+        return json.dumps({"type": way, "object": listed_pod(*rest, kind="Pod", apiVersion="v1")})
+    if kind == "E" and len(rest) == 1:
+        return json.dumps({"type": "ERROR", "object": {"kind": "Status", "apiVersion": "v1", "metadata": {}, "status": "Failure",
+                                                       "message": "gone", "reason": "Expired", "code": int(rest[0])}})
+    return body_line(word, {})
+
+
 def shown(resource, key, label, at):
     space, name = key.split("/")
     kind = "Pod" if resource == "pods" else "ConfigMap"

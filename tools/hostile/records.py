@@ -5,8 +5,9 @@ import re
 from replies import Amiss, same
 from requests import place_of
 
-LINES = {0: r"lawful from (\d+) to (\d+)", 11: r"unlawful at line (\d+)",
-         12: r"record: (?:TooLong|BadHeader|NoBody|BadLog|BadFloor|BadAsk)"}
+LINES = {0: r"lawful from (\d+) to (\d+)(?:, \d+ of \d+ lists held)?", 11: r"unlawful at (?:line|list) (\d+)",
+         12: r"record: (?:TooLong|BadHeader|NoBody|BadLog|BadFloor|BadAsk|BadList \d+)"}
+UNKNOWN = re.compile(r'\{"namespace":"[^"\\]*","query":"[^"\\]*","resource":"(pods|configmaps|deployments)"\}')
 HEADER = re.compile(r'\{"first":(0|[1-9]\d{0,18}),"floor":(0|[1-9]\d{0,19}),"namespace":"([^"\\\x00-\x1f]*)","query":'
                     r'"([^"\\\x00-\x1f]*)","resource":"(pods|configmaps|deployments)","window":([1-9]\d{0,19})\}')
 
@@ -31,7 +32,7 @@ def verdict_of(ran):
     """The line that `check` wrote, which is one of those of its status."""
     text = ran.out.decode()
     found = re.fullmatch(LINES.get(ran.status, "no line"), text[:-1])
-    if not found or text[-1] != "\n" or bool(ran.err) != (ran.status == 12):
+    if not found or text[-1] != "\n" or bool(ran.err) != (ran.status == 12) and ran.status != 11:
         raise Amiss(f"status {ran.status} of a check, with {text!r} and {ran.err!r}")
     if ran.status == 0 and int(found[1]) > int(found[2]):
         raise Amiss(text)
@@ -56,6 +57,8 @@ def fault_of(data):
         return "BadHeader"
     head, ended, rest = text.partition("\n")
     if "\\" in head:
+        return None
+    if UNKNOWN.fullmatch(head):
         return None
     found = HEADER.fullmatch(head)
     if not found or not 1 <= int(found[1]) <= 2 ** 62 or max(int(found[2]), int(found[6])) >= 2 ** 64:

@@ -4,4 +4,5 @@ pub mod PeerLemmas
 pub mod ServerLemmas
 pub mod InputLemmas
 pub mod TellingLemmas
+pub mod UnknownLemmas
 pub mod ListLemmas

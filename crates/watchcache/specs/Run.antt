@@ -1,7 +1,10 @@
 -- What the program does for the words of its command line: its exit status, the bytes that it took and those that it
 -- wrote.
-use Rattle.std.specs.Prelude.{◌≡◌, ℕ, ◌+◌, ◌<◌, ◌≤◌, ◌⊎◌, List, length, [], Option, Some, None, IfSome, Result, Ok, Err, ⊤}
+use Rattle.std.specs.Prelude.{◌≡◌, ℕ, ◌+◌, ◌<◌, ◌≤◌, ◌⊎◌, List, length, [], Option, Some, None, IfSome, MatchOption, Result, Ok, Err, ⊤}
 use Rattle.body_check.specs.Judging.{IsJudged}
+use Rattle.body_check.specs.Lists.{IsJudged as IsListsJudged}
+use Rattle.body_check.specs.declared.verdict.Verdict.{Verdict}
+use Rattle.body_check.specs.declared.verdict.Verdict.TheVariants as some
 use Rattle.body_check.specs.declared.judging.Checked.{Checked}
 use Rattle.body_check.specs.declared.judging.Checked.TheVariants.{Lawful, Unlawful}
 use Rattle.watchcache.specs.Words.{ReadsWords}
@@ -10,6 +13,7 @@ use Rattle.watchcache.specs.declared.asked.Asked.TheVariants.{Help, Version, Ses
 use Rattle.watchcache.specs.declared.asked.LoadOptions.{LoadOptions}
 use Rattle.watchcache.specs.declared.asked.ServeOptions.{ServeOptions}
 use Rattle.watchcache.specs.declared.asked.WordsNo.{WordsNo}
+use Rattle.watchcache.specs.declared.unknown.Judged.{Judged}
 use Rattle.watchcache.specs.declared.asked.WordsNo.TheVariants.{Bad, Memory}
 use Rattle.cluster_link.specs.declared.refusal.ClusterNo.{ClusterNo}
 use Rattle.edge_io.specs.Counts.{Rose}
@@ -35,11 +39,14 @@ use Rattle.sess_serve.specs.Session.{IsSession}
 use Rattle.sess_serve.specs.Status.{status_of}
 use Rattle.sess_serve.specs.declared.ends.SessionEnd.{SessionEnd}
 use Rattle.up_api.specs.declared.settings.Settings.{Settings}
-use Rattle.watch_record.specs.Records.{record_fault, max_bytes, IsRecordOf}
+use Rattle.watch_record.specs.Between.{BetweenData, IsBetweenOf, IsNoBetween, most_bytes, watched_of}
+use Rattle.watch_record.specs.Lines.{first_line}
+use Rattle.watch_record.specs.Records.{record_fault, IsRecordOf}
+use Rattle.watch_record.specs.declared.between_refusal.BetweenNo.{BetweenNo}
 use Rattle.watch_record.specs.declared.records.Record.{Record}
 use Rattle.watch_record.specs.declared.refusals.RecordNo.{RecordNo}
 use Rattle.watchcache.specs.Lists.{IsOfReply, SendsList, SendsNoList}
-use Rattle.watchcache.specs.Texts.{help, version_text, bad_line, sessions, peer_line, cluster_line, verdict}
+use Rattle.watchcache.specs.Texts.{help, version_text, bad_line, sessions, peer_line, cluster_line, verdict, between_verdict}
 
 -- ---- what went through the program's ends
 
@@ -268,18 +275,43 @@ status_of_verdict (Ok (Lawful at to)) = 0
 status_of_verdict (Ok (Unlawful line)) = 11
 status_of_verdict (Err fault) = 12
 
+-- the bytes are a record of what is known of an unknown log, which is judged so, or they are none for this reason
+abbrev pub IsSaidBetween : List ℕ → Result Judged BetweenNo → Type 0
+IsSaidBetween bytes (Ok judged) =
+    (case : BetweenData) × IsBetweenOf bytes case × (judged.lists ≡ length case.later) × IsListsJudged case judged.verdict
+IsSaidBetween bytes (Err fault) = IsNoBetween bytes fault
+
+abbrev pub status_of_lists : Verdict → ℕ
+status_of_lists (some.Lawful from to held) = 0
+status_of_lists (some.BadLine line) = 11
+status_of_lists (some.BadList list) = 11
+
+abbrev pub status_of_between : Result Judged BetweenNo → ℕ
+status_of_between (Ok judged) = status_of_lists judged.verdict
+status_of_between (Err fault) = 12
+
+-- the first line is the header of a record of an unknown log: then what is true of that was told
+abbrev pub ChecksUnknown : List ℕ → Sent → ℕ → Type 0
+ChecksUnknown bytes sent status =
+    (judged : Result Judged BetweenNo) × IsSaidBetween bytes judged × IsTold (between_verdict judged) (status_of_between judged) sent status
+
+-- else what is true of the bytes as a record of a log
+abbrev pub ChecksLogged : List ℕ → Sent → ℕ → Type 0
+ChecksLogged bytes sent status =
+    (judged : Result Checked RecordNo) × IsSaid bytes judged × IsTold (verdict judged) (status_of_verdict judged) sent status
+
 -- what is true of the bytes was told, or there was no memory
 abbrev pub ChecksBytes : List ℕ → Sent → ℕ → Type 0
 ChecksBytes bytes sent status =
-    ((judged : Result Checked RecordNo) × IsSaid bytes judged × IsTold (verdict judged) (status_of_verdict judged) sent status)
+    MatchOption (watched_of (first_line bytes)) (ChecksLogged bytes sent status) (λ header. ChecksUnknown bytes sent status)
     ⊎ IsSilent 8 sent status
 
 -- all bytes of the source were read, or one more than a record has, and checked
 pub record IsChecked (left left_new : Option (List ℕ)) (sent : Sent) (status : ℕ) : Type 0 where
   pub taken : List ℕ
   pub source : left ≡ prepended taken left_new
-  pub whole : IsExhausted left_new ⊎ (max_bytes < length taken)
-  pub few : length taken ≤ max_bytes + 1
+  pub whole : IsExhausted left_new ⊎ (most_bytes < length taken)
+  pub few : length taken ≤ most_bytes + 1
   pub checked : ChecksBytes taken sent status
 
 -- the source was checked, or it failed, or there was no memory for its bytes

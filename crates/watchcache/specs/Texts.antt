@@ -7,6 +7,11 @@ use Rattle.cluster_link.specs.Refusals.{cluster_refusal_name}
 use Rattle.cluster_link.specs.declared.refusal.ClusterNo.{ClusterNo}
 use Rattle.mirror_link.specs.OpeningRefusals.{refusal_name as link_name}
 use Rattle.mirror_link.specs.declared.link_refusal.LinkNo.{LinkNo}
+use Rattle.body_check.specs.declared.verdict.Verdict.{Verdict}
+use Rattle.body_check.specs.declared.verdict.Verdict.TheVariants as some
+use Rattle.watch_record.specs.declared.between_refusal.BetweenNo.{BetweenNo}
+use Rattle.watch_record.specs.declared.between_refusal.BetweenNo.TheVariants as between
+use Rattle.watchcache.specs.declared.unknown.Judged.{Judged}
 use Rattle.watch_record.specs.declared.refusals.RecordNo.{RecordNo}
 use Rattle.watch_record.specs.declared.refusals.RecordNo.TheVariants.{TooLong, BadHeader, NoBody, BadLog, BadFloor, BadAsk, Memory}
 
@@ -100,3 +105,35 @@ abbrev pub verdict : Result Checked RecordNo → List ℕ
 verdict (Ok (Lawful at to)) = codes "lawful from " ++ (decimal at ++ (codes " to " ++ (decimal to ++ codes "\n")))
 verdict (Ok (Unlawful line)) = codes "unlawful at line " ++ decimal line ++ codes "\n"
 verdict (Err fault) = codes "record: " ++ record_fault_name fault ++ codes "\n"
+
+-- ---- of a check of what is known of an unknown log
+
+-- the name of a refusal, without a list's place
+abbrev pub between_name : BetweenNo → List ℕ
+between_name between.BadHeader = codes "BadHeader"
+between_name between.TooLong = codes "TooLong"
+between_name between.NoBody = codes "NoBody"
+between_name between.BadAsk = codes "BadAsk"
+between_name (between.BadList list) = codes "BadList"
+between_name between.Memory = codes "Memory"
+
+-- the place of the list that is none
+abbrev pub between_place : BetweenNo → List ℕ
+between_place between.BadHeader = []
+between_place between.TooLong = []
+between_place between.NoBody = []
+between_place between.BadAsk = []
+between_place (between.BadList list) = codes " " ++ decimal list
+between_place between.Memory = []
+
+-- what is written of a judgement, with how many of so many later lists the body has come to
+abbrev pub unknown_verdict : Verdict → ℕ → List ℕ
+unknown_verdict (some.Lawful from to held) lists =
+    concat (codes "lawful from " ∷ decimal from ∷ codes " to " ∷ decimal to ∷ codes ", " ∷ decimal held ∷ codes " of " ∷ decimal lists ∷ codes " lists held\n" ∷ [])
+unknown_verdict (some.BadLine line) lists = codes "unlawful at line " ++ decimal line ++ codes "\n"
+unknown_verdict (some.BadList list) lists = codes "unlawful at list " ++ decimal list ++ codes "\n"
+
+-- or of a refusal
+abbrev pub between_verdict : Result Judged BetweenNo → List ℕ
+between_verdict (Ok judged) = unknown_verdict judged.verdict judged.lists
+between_verdict (Err fault) = codes "record: " ++ (between_name fault ++ (between_place fault ++ codes "\n"))

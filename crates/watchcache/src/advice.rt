@@ -128,7 +128,7 @@ fn of_record(why: RecordNo) -> &'static str {
     match why {
         RecordNo::TooLong => "it has more than 64 MiB, or more than 10000 revisions",
         RecordNo::BadHeader => {
-            "it has to be compact JSON with first, floor, namespace, query, resource and window, in this order (jq -cS)"
+            "it has to be compact JSON with first, floor, namespace, query, resource and window, in this order (jq -cS), or with namespace, query and resource alone where the log is unknown"
         }
         RecordNo::NoBody => "an empty line has to end the log, and a line feed the last line",
         RecordNo::BadLog { .. } => {

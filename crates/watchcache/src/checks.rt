@@ -1,9 +1,9 @@
 //! The judgement of a recorded watch body.
 
-ghost use Rattle.std.specs.Prelude.{◌≡◌, ◌≢◌, Err, Ok};
+ghost use Rattle.std.specs.Prelude.{◌≡◌, ◌≢◌, ◌⊎◌, Err, Ok};
 ghost use Rattle.edge_io.specs.Counts.{Rose};
 ghost use Rattle.edge_io.specs.Sent.{sent_through};
-ghost use Rattle.watchcache.specs.Run.{ChecksBytes, ChecksSource, IsSaid, IsTold, status_of_verdict};
+ghost use Rattle.watchcache.specs.Run.{ChecksBytes, ChecksLogged, ChecksSource, IsSaid, IsSilent, IsTold, status_of_verdict};
 ghost use Rattle.watchcache.specs.Texts as texts;
 ghost use Rattle.watchcache.specs.Texts.{verdict};
 
@@ -11,15 +11,17 @@ use crate::advice::say_no_record;
 use crate::inputs::{InputNo, read_all};
 use crate::statuses::{DONE, NO_RECORD, OUT_OF_MEMORY, READ_FAULT, UNLAWFUL};
 use crate::telling::tell;
+use crate::unknown::{judge_unknown, write_judged};
+use crate::unknown_advice::say_unknown;
 use body_check::{Checked, check};
 use edge_io::{Sink, Source};
 use itoa::Buffer;
 use std::alloc::Global;
 use std::io::Eprint;
-use watch_record::{RecordNo, read_record};
+use watch_record::{BetweenNo, RecordNo, read_record};
 
-/// The bytes of a record are at most so many.
-const MOST: usize = 67_108_864;
+/// The bytes of a record are at most so many: one of an unknown log may have more of them.
+const MOST: usize = 268_435_456;
 
 /// Reads a record from `source`, judges its body and tells the judgement. Standard error
 /// has why there is none. Answers the status.
@@ -42,6 +44,21 @@ pub fn check_record<R: Eprint + Copy, S: Source, K: Sink>(
 // Judges these bytes and tells the judgement.
 fn check_bytes<R: Eprint + Copy, K: Sink>(rt: R, alloc: Global, bytes: &[u8], sink: &mut K) -> u8
     ensures { ChecksBytes bytes.now (sent_through K.written K.settled K.faults sink.old sink.new) result }
+{
+    match judge_unknown(alloc, bytes) {
+        Err(BetweenNo::BadHeader) => check_logged(rt, alloc, bytes, sink),
+        Err(BetweenNo::Memory) => OUT_OF_MEMORY,
+        judged => {
+            say_unknown(rt, alloc, bytes, judged);
+            write_judged(judged, sink)
+        }
+    }
+}
+
+// Judges the record of a log that these bytes are, and tells the judgement.
+fn check_logged<R: Eprint + Copy, K: Sink>(rt: R, alloc: Global, bytes: &[u8], sink: &mut K) -> u8
+    ensures { let sent = sent_through K.written K.settled K.faults sink.old sink.new in
+        ChecksLogged bytes.now sent result ⊎ IsSilent 8 sent result }
 {
     match judge(alloc, bytes) {
         Err(RecordNo::Memory) => OUT_OF_MEMORY,

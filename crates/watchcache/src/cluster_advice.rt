@@ -86,7 +86,8 @@ fn is_of_object(why: ClusterWhy) -> bool {
     }
 }
 
-fn text_of(text: &Option<Text>) -> &str {
+/// A text that was read, or a mark where there is none.
+pub fn text_of(text: &Option<Text>) -> &str {
     match text {
         Some(text) => text.as_str(),
         None => "?",
@@ -154,8 +155,8 @@ fn of_refusal(why: ClusterNo) -> &'static str {
     }
 }
 
-// What is wrong with a text.
-fn of_trouble(trouble: Trouble) -> &'static str {
+/// What is wrong with a text.
+pub fn of_trouble(trouble: Trouble) -> &'static str {
     match trouble {
         Trouble::NotJson => "it isn't JSON",
         Trouble::TooDeep => "it nests more than 64 deep",

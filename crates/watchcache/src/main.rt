@@ -26,6 +26,8 @@ mod settings;
 mod statuses;
 mod telling;
 mod texts;
+mod unknown;
+mod unknown_advice;
 mod words;
 
 ghost use Rattle.edge_io.specs.Sent.{sent_through};
