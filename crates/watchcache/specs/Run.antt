@@ -281,11 +281,13 @@ IsSaidBetween bytes (Ok judged) =
     (case : BetweenData) × IsBetweenOf bytes case × (judged.lists ≡ length case.later) × IsListsJudged case judged.verdict
 IsSaidBetween bytes (Err fault) = IsNoBetween bytes fault
 
+-- the exit status behind a judgement of lists
 abbrev pub status_of_lists : Verdict → ℕ
 status_of_lists (some.Lawful from to held) = 0
 status_of_lists (some.BadLine line) = 11
 status_of_lists (some.BadList list) = 11
 
+-- that, or the one of bytes that are no record
 abbrev pub status_of_between : Result Judged BetweenNo → ℕ
 status_of_between (Ok judged) = status_of_lists judged.verdict
 status_of_between (Err fault) = 12
