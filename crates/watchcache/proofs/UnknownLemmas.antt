@@ -5,7 +5,7 @@ use Rattle.body_check.specs.declared.verdict.Verdict.TheVariants.{Lawful}
 use Rattle.watch_record.specs.Between.{IsNoBetween, IsRefusedBy, watched_of}
 use Rattle.watch_record.specs.Lines.{first_line}
 use Rattle.watch_record.specs.declared.between_refusal.BetweenNo.{BetweenNo}
-use Rattle.watch_record.specs.declared.between_refusal.BetweenNo.TheVariants.{BadHeader}
+use Rattle.watch_record.specs.declared.between_refusal.BetweenNo.TheVariants.{BadHeader, Memory}
 use Rattle.watch_record.specs.declared.header.Header.{Header}
 use Rattle.watchcache.specs.Run.{IsSaidBetween}
 use Rattle.watchcache.specs.Texts.{unknown_verdict}
@@ -32,3 +32,6 @@ has_header bytes (Err why) X Y said other here = by_header (watched_of (first_li
     by_header : (found : Option Header) → IsRefusedBy bytes found why → MatchOption found X (λ header. Y)
     by_header None is = absurd (other (ap Err is))
     by_header (Some header) is = here
+
+pub not_memory : (judged : Result Judged BetweenNo) → judged ≡ Err BadHeader → judged ≢ Err Memory
+not_memory judged is other = cc

@@ -3,7 +3,7 @@
 ghost use Rattle.std.specs.Prelude.{◌≡◌, ◌≢◌, ◌⊎◌, Err, Ok};
 ghost use Rattle.edge_io.specs.Counts.{Rose};
 ghost use Rattle.edge_io.specs.Sent.{sent_through};
-ghost use Rattle.watchcache.specs.Run.{ChecksBytes, ChecksLogged, ChecksSource, IsSaid, IsSilent, IsTold, status_of_verdict};
+ghost use Rattle.watchcache.specs.Run.{ChecksBytes, ChecksLogged, ChecksSource, IsSaid, IsSaidBetween, IsSilent, IsTold, status_of_verdict};
 ghost use Rattle.watchcache.specs.Texts as texts;
 ghost use Rattle.watchcache.specs.Texts.{verdict};
 
@@ -11,7 +11,7 @@ use crate::advice::say_no_record;
 use crate::inputs::{InputNo, read_all};
 use crate::statuses::{DONE, NO_RECORD, OUT_OF_MEMORY, READ_FAULT, UNLAWFUL};
 use crate::telling::tell;
-use crate::unknown::{judge_unknown, write_judged};
+use crate::unknown::{Judged, judge_unknown, write_judged};
 use crate::unknown_advice::say_unknown;
 use body_check::{Checked, check};
 use edge_io::{Sink, Source};
@@ -48,11 +48,24 @@ fn check_bytes<R: Eprint + Copy, K: Sink>(rt: R, alloc: Global, bytes: &[u8], si
     match judge_unknown(alloc, bytes) {
         Err(BetweenNo::BadHeader) => check_logged(rt, alloc, bytes, sink),
         Err(BetweenNo::Memory) => OUT_OF_MEMORY,
-        judged => {
-            say_unknown(rt, alloc, bytes, judged);
-            write_judged(judged, sink)
-        }
+        judged => tell_unknown(rt, alloc, bytes, judged, sink),
     }
+}
+
+// Tells how the record of an unknown log that these bytes are is judged, or why they are none.
+fn tell_unknown<R: Eprint + Copy, K: Sink>(
+    rt: R,
+    alloc: Global,
+    bytes: &[u8],
+    judged: Result<Judged, BetweenNo>,
+    sink: &mut K,
+) -> u8
+    requires said { IsSaidBetween bytes.now judged }
+    requires other { judged ≢ Err BetweenNo.BadHeader }
+    ensures { ChecksBytes bytes.now (sent_through K.written K.settled K.faults sink.old sink.new) result }
+{
+    say_unknown(rt, alloc, bytes, judged);
+    write_judged(judged, sink)
 }
 
 // Judges the record of a log that these bytes are, and tells the judgement.
