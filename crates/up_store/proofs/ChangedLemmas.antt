@@ -18,7 +18,7 @@ use Rattle.up_store.specs.Kept.{are_any, has_changes, with_changes}
 
 -- ---- a revision without changes
 
-none_are : (changes : List ChangeData) → are_any changes ≡ false → changes ≡ []
+pub none_are : (changes : List ChangeData) → are_any changes ≡ false → changes ≡ []
 none_are [] none = refl
 none_are (change ∷ more) none = cc
 

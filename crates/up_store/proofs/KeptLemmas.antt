@@ -1,13 +1,13 @@
 -- What a store keeps, as its tables follow the log.
-use Rattle.std.proofs.Common.{◌≡◌, ℕ, suc, ◌+◌, ◌-◌, ◌^◌, ◌<◌, ◌≤◌, inl, inr, List, [], ◌∷◌, ◌++◌, length, get_or, take, drop, map, fold, max, All, refl, sym, ap, ◌∙◌, subst, arith, length-take, length-append}
+use Rattle.std.proofs.Common.{◌≡◌, ℕ, suc, ◌+◌, ◌-◌, ◌*◌, ◌^◌, ◌<◌, ◌≤◌, inl, inr, List, [], ◌∷◌, ◌++◌, length, get_or, take, drop, map, fold, max, All, refl, sym, ap, ◌∙◌, subst, arith, length-take, length-append}
 use Rattle.std.proofs.Math.Seq.{take-nil, drop-nil}
 use Rattle.std.proofs.lemmas.Bool.{cases_lt, le-leb, lt-leb}
 use Rattle.std.proofs.lemmas.List.{append_assoc, take_all, take_at, drop_all, drop_at, drop-drop, drop-take, drop_more, take-append-le, length-drop, map-append, take_more, get_or-take}
 use Rattle.std.proofs.lemmas.List.Elements.{All-drop, All-filter, All-map, All-take, filter-append}
 use Rattle.std.proofs.lemmas.List.Kept.{IsNonDecreasingBy-filter}
 use Rattle.std.proofs.lemmas.List.Sorted.{IsNonDecreasingBy-take, IsNonDecreasingBy-drop}
-use Rattle.std.proofs.lemmas.List.Sums.{fold-append}
-use Rattle.std.specs.List.{filter_map}
+use Rattle.std.proofs.lemmas.List.Sums.{fold-append, sum_by-append, sum_by-cons}
+use Rattle.std.specs.List.{filter_map, sum_by}
 use Rattle.std.specs.List.Sorted.{IsNonDecreasingBy, IsPartitionPoint}
 use Rattle.std.specs.Prelude.{nat_le, true, false}
 use Rattle.kube_meta.specs.Rows.{RowData, AreRising, row_with}
@@ -18,12 +18,13 @@ use Rattle.rev_log.specs.Logs.{Log, end_of, upto, between, grown, AreNumbered}
 use Rattle.rev_log.specs.States.{row_next, row_at, row_in_base, IsStateAt}
 use Rattle.rev_log.proofs.GrowthLemmas.{upto-end, upto-grown, row_at-grown, row_at-between, between-joined}
 use Rattle.up_api.specs.Feeds.{IsHistory, part_of}
-use Rattle.up_store.specs.Kept.{rows_of, AreStepped, HoldEach, HaveMade, HaveBegun, Replay, Keeps, IsPlace, changed, with_changes, has_changes, floor_behind}
+use Rattle.up_store.specs.Kept.{rows_of, AreStepped, HoldEach, HaveMade, HaveBegun, Replay, Keeps, IsPlace, changed, with_changes, has_changes, carried, fitting, floor_behind, floor_within}
 use Rattle.up_store.specs.Past.{IsOldState, IsOldHistory}
 use Rattle.up_store.specs.declared.kept.Kept.{Kept}
 use Rattle.up_store.specs.declared.past.OldHistory.{OldHistory}
 use Rattle.up_store.specs.declared.past.OldState.{OldState}
 use Rattle.up_store.specs.declared.tables.Tables.{Tables}
+use Rattle.up_store.proofs.ByteLemmas.{light, fits-all, fits-more, fits-past}
 use Rattle.up_store.proofs.ChangedLemmas.{found-at, fold-changed, parts-changed, parted, numbers_rise, low_numbers, high_numbers, AreNumbered-append, AreNumbered-drop}
 use Rattle.up_store.proofs.ReplayLemmas.{Replay-made, Replay-begun, Replay-on}
 
@@ -127,9 +128,9 @@ module _ (log : Log) (floor : ℕ) (kept : Kept) (keeps : Keeps log floor kept) 
 
 -- the tables follow the log
 pub follow : (log : Log) (floor : ℕ) (kept new : Kept) → kept.from ≤ new.from → new.from ≤ floor → new.from ≤ new.last_at → new.last_at ≤ end_of log → new.end ≡ kept.end →
-    new.revisions.items ≡ changed log new.from (end_of log) → Replay log new.from floor new.floor_rows → Replay log new.last_at (end_of log) new.last_rows →
+    new.revisions.items ≡ changed log new.from (end_of log) → new.bytes ≡ sum_by carried new.revisions.items → Replay log new.from floor new.floor_rows → Replay log new.last_at (end_of log) new.last_rows →
     Keeps log floor kept → Keeps log floor new
-follow log floor kept new later within followed behind end revisions floor_rows last_rows keeps = record {
+follow log floor kept new later within followed behind end revisions bytes floor_rows last_rows keeps = record {
   numbered = keeps.numbered;
   ends = keeps.ends;
   begun = omega (arith, later, keeps.begun);
@@ -137,6 +138,7 @@ follow log floor kept new later within followed behind end revisions floor_rows 
   reached = keeps.reached;
   end_is = end ∙ keeps.end_is;
   revisions = revisions;
+  bytes = bytes;
   floor_rows = floor_rows;
   followed = followed;
   behind = behind;
@@ -153,7 +155,7 @@ caught log floor r kept new above within next rest made keeps =
     let parts : (at : ℕ) → end_of log ≤ at → at ≤ end_of log → changed log kept.last_at at ≡ r ∷ changed log r.rev at =
     λ at later low. subst (λ n. changed log kept.last_at n ≡ r ∷ changed log r.rev n) {x = end_of log} {y = at} (omega (arith, later, low)) next in
     follow log floor kept new (omega (arith, from)) (omega (arith, from, keeps.within)) (omega (arith, from, last, above)) (omega (arith, last, within)) (ap (λ k. k.end) rest)
-    (ap (λ k. k.revisions.items) rest ∙ keeps.revisions ∙ ap (λ n. changed log n (end_of log)) (sym from))
+    (ap (λ k. k.revisions.items) rest ∙ keeps.revisions ∙ ap (λ n. changed log n (end_of log)) (sym from)) (subst (λ (k : Kept). k.bytes ≡ sum_by carried k.revisions.items) (sym rest) keeps.bytes)
     (subst (λ (k : Kept). Replay log k.from floor k.floor_rows) (sym rest) keeps.floor_rows)
     (subst (λ n. Replay log n (end_of log) new.last_rows) (sym last) (Replay-made log kept.last_at r.rev (end_of log) r kept.last_rows new.last_rows parts made keeps.last_rows)) keeps
 
@@ -165,7 +167,7 @@ catching log floor r kept new next rest begun keeps =
     let parts : (at : ℕ) → end_of log ≤ at → at ≤ end_of log → changed log kept.last_at at ≡ r ∷ changed log r.rev at =
     λ at later low. subst (λ n. changed log kept.last_at n ≡ r ∷ changed log r.rev n) {x = end_of log} {y = at} (omega (arith, later, low)) next in
     follow log floor kept new (omega (arith, from)) (omega (arith, from, keeps.within)) (omega (arith, from, last, keeps.followed)) (omega (arith, last, keeps.behind)) (ap (λ k. k.end) rest)
-    (ap (λ k. k.revisions.items) rest ∙ keeps.revisions ∙ ap (λ n. changed log n (end_of log)) (sym from))
+    (ap (λ k. k.revisions.items) rest ∙ keeps.revisions ∙ ap (λ n. changed log n (end_of log)) (sym from)) (subst (λ (k : Kept). k.bytes ≡ sum_by carried k.revisions.items) (sym rest) keeps.bytes)
     (subst (λ (k : Kept). Replay log k.from floor k.floor_rows) (sym rest) keeps.floor_rows)
     (subst (λ n. Replay log n (end_of log) new.last_rows) (sym last) (Replay-begun log kept.last_at r.rev (end_of log) r kept.last_rows new.last_rows parts begun keeps.last_rows)) keeps
 
@@ -176,7 +178,7 @@ caught-up log floor kept new none rest keeps =
     let parts : (at : ℕ) → end_of log ≤ at → at ≤ end_of log → changed log kept.last_at at ≡ changed log (end_of log) at =
     λ at later low. subst (λ n. changed log kept.last_at n ≡ changed log (end_of log) n) {x = end_of log} {y = at} (omega (arith, later, low)) (none ∙ sym (changed-none log (end_of log))) in
     follow log floor kept new (omega (arith, from)) (omega (arith, from, keeps.within)) (omega (arith, from, last, keeps.within, keeps.reached)) (omega (arith, last)) (ap (λ k. k.end) rest)
-    (ap (λ k. k.revisions.items) rest ∙ keeps.revisions ∙ ap (λ n. changed log n (end_of log)) (sym from))
+    (ap (λ k. k.revisions.items) rest ∙ keeps.revisions ∙ ap (λ n. changed log n (end_of log)) (sym from)) (subst (λ (k : Kept). k.bytes ≡ sum_by carried k.revisions.items) (sym rest) keeps.bytes)
     (subst (λ (k : Kept). Replay log k.from floor k.floor_rows) (sym rest) keeps.floor_rows)
     (subst (λ (k : Kept). Replay log k.last_at (end_of log) k.last_rows) (sym rest)
     (subst (λ n. Replay log n (end_of log) kept.last_rows) (sym keeps.end_is) (Replay-on log kept.last_at (end_of log) (end_of log) kept.last_rows parts keeps.last_rows))) keeps
@@ -205,11 +207,12 @@ module _ (log : Log) (floor n : ℕ) (r : RevisionData) (kept : Kept) (some : 1 
   dropping new rest begun =
       let from : new.from ≡ kept.from = ap (λ k. k.from) rest in
       follow log floor kept new (omega (arith, from)) (omega (arith, from, keeps.within)) (omega (arith, from, ap (λ k. k.last_at) rest, keeps.followed)) (omega (arith, ap (λ k. k.last_at) rest, keeps.behind)) (ap (λ k. k.end) rest)
-      (ap (λ k. k.revisions.items) rest ∙ keeps.revisions ∙ ap (λ n. changed log n (end_of log)) (sym from))
+      (ap (λ k. k.revisions.items) rest ∙ keeps.revisions ∙ ap (λ n. changed log n (end_of log)) (sym from)) (subst (λ (k : Kept). k.bytes ≡ sum_by carried k.revisions.items) (sym rest) keeps.bytes)
       (subst (λ n. Replay log n floor new.floor_rows) (sym from) (Replay-begun log kept.from r.rev floor r kept.floor_rows new.floor_rows first-next begun keeps.floor_rows))
       (subst (λ (k : Kept). Replay log k.last_at (end_of log) k.last_rows) (sym rest) keeps.last_rows) keeps
 
-  module _ (new : Kept) (last : kept.last_at ≡ end_of log) (rest : new ≡ record kept { floor_rows = new.floor_rows; from = r.rev; revisions = new.revisions }) (first : kept.revisions.items ≡ r ∷ new.revisions.items)
+  module _ (new : Kept) (last : kept.last_at ≡ end_of log) (rest : new ≡ record kept { floor_rows = new.floor_rows; from = r.rev; revisions = new.revisions; bytes = new.bytes }) (first : kept.revisions.items ≡ r ∷ new.revisions.items)
+      (less : new.bytes ≡ kept.bytes - carried r)
       (made : HaveMade r kept.floor_rows new.floor_rows) where
     from : new.from ≡ r.rev
     from = ap (λ k. k.from) rest
@@ -221,6 +224,7 @@ module _ (log : Log) (floor n : ℕ) (r : RevisionData) (kept : Kept) (some : 1 
     dropped =
         follow log floor kept new (omega (arith, from, first-at.0)) (omega (arith, from, first-low)) (omega (arith, from, first-at.1, last, ap (λ k. k.last_at) rest)) (omega (arith, ap (λ k. k.last_at) rest, keeps.behind)) (ap (λ k. k.end) rest)
         (left ∙ ap (λ n. changed log n (end_of log)) (sym from))
+        (omega (arith, less, keeps.bytes, ap (sum_by carried) first, sum_by-cons carried r new.revisions.items))
         (subst (λ n. Replay log n floor new.floor_rows) (sym from) (Replay-made log kept.from r.rev floor r kept.floor_rows new.floor_rows first-next made keeps.floor_rows))
         (subst (λ (k : Kept). Replay log k.last_at (end_of log) k.last_rows) (sym rest) keeps.last_rows) keeps
 
@@ -242,7 +246,7 @@ settled log floor kept new whole place rest keeps =
     let parts : (at : ℕ) → floor ≤ at → at ≤ end_of log → changed log kept.from at ≡ changed log floor at =
     λ at later within. changed-joined log kept.from floor at keeps.within later ∙ ap (λ l. l ++ changed log floor at) (sym place.below) in
     follow log floor kept new (omega (arith, from, keeps.within)) (omega (arith, from)) (omega (arith, from, last, whole, keeps.end_is, keeps.reached)) (omega (arith, last, keeps.behind)) (ap (λ k. k.end) rest)
-    (ap (λ k. k.revisions.items) rest ∙ place.above ∙ ap (λ n. changed log n (end_of log)) (sym from))
+    (ap (λ k. k.revisions.items) rest ∙ place.above ∙ ap (λ n. changed log n (end_of log)) (sym from)) (subst (λ (k : Kept). k.bytes ≡ sum_by carried k.revisions.items) (sym rest) keeps.bytes)
     (subst (λ (k : Kept). Replay log k.from floor k.floor_rows) (sym rest) (Replay-on log kept.from floor floor kept.floor_rows parts keeps.floor_rows))
     (subst (λ (k : Kept). Replay log k.last_at (end_of log) k.last_rows) (sym rest) keeps.last_rows) keeps
 
@@ -260,7 +264,7 @@ module _ (log : Log) (floor : ℕ) (kept : Kept) (history : ℕ) (keeps : Keeps 
   abbrev front : List RevisionData
   front = changed log log.first kept.from
 
-  those : with_changes log.revisions ≡ front ++ kept.revisions.items
+  pub those : with_changes log.revisions ≡ front ++ kept.revisions.items
   those =
       let all : between log log.first (end_of log) ≡ log.revisions =
       ap (λ n. drop n (upto log (end_of log))) {x = log.first - log.first} {y = 0} (omega arith) ∙ upto-end log (end_of log) (omega arith) in
@@ -295,6 +299,31 @@ module _ (log : Log) (floor : ℕ) (kept : Kept) (history : ℕ) (keeps : Keeps 
       take-past : (xs ys : List RevisionData) (n : ℕ) → take (length xs + n) (xs ++ ys) ≡ xs ++ take n ys
       take-past [] ys n = ap (λ m. take m ys) {x = 0 + n} {y = n} (omega arith)
       take-past (x ∷ xs) ys n = ap (λ m. take m (x ∷ (xs ++ ys))) {x = length (x ∷ xs) + n} {y = suc (length xs + n)} (omega arith) ∙ ap (λ l. x ∷ l) (take-past xs ys n)
+
+-- where so many of what is kept fit, no fewer of all do; and where not all of them do, no others
+pub floor-within : (log : Log) (floor : ℕ) (kept : Kept) (bytes n result : ℕ) → n ≡ fitting bytes kept.revisions.items → max floor result ≡ max floor (floor_behind n log.revisions) → Keeps log floor kept →
+    max floor result ≡ max floor (floor_within bytes log.revisions)
+floor-within log floor kept bytes n result many is keeps =
+    let all = ap (fitting bytes) (those log floor kept 0 keeps) in
+    let before : List RevisionData = changed log log.first kept.from in
+    elim (cases_lt bytes (sum_by carried kept.revisions.items)) [
+      | inl high ↦ is ∙ ap (λ m. max floor (floor_behind m log.revisions)) (many ∙ sym (fits-past bytes before kept.revisions.items high) ∙ sym all)
+      | inr low ↦
+          is ∙ sym (floor-low log floor kept n keeps (omega (arith, many, fits-all bytes kept.revisions.items low)))
+          ∙ floor-low log floor kept (fitting bytes (with_changes log.revisions)) keeps (omega (arith, all, fits-more bytes before kept.revisions.items low))
+    ]
+
+-- they carry little enough to be summed
+pub carries-little : (log : Log) (floor : ℕ) (kept : Kept) → Keeps log floor kept → kept.bytes ≤ 2 ^ 62 * 18446744073709551615
+carries-little log floor kept keeps =
+    omega (
+      arith,
+      keeps.bytes,
+      ap (sum_by carried) keeps.revisions,
+      light (between log kept.from (end_of log)),
+      between-length log kept.from keeps.begun (omega (arith, keeps.within, keeps.reached)),
+      keeps.ends,
+    )
 
 -- ---- what is read
 
@@ -413,9 +442,10 @@ grown-replay log more from least next tables begun within low later was = record
 
 -- more revisions
 pub keeps-grown : (log : Log) (floor : ℕ) (more : List RevisionData) (kept new : Kept) → end_of log + length more ≤ 2 ^ 62 → AreNumbered (end_of log) more →
-    new ≡ record kept { revisions = new.revisions; end = new.end } → new.end ≡ end_of log + length more → new.revisions.items ≡ kept.revisions.items ++ with_changes more →
+    new ≡ record kept { revisions = new.revisions; bytes = new.bytes; end = new.end } → new.end ≡ end_of log + length more → new.revisions.items ≡ kept.revisions.items ++ with_changes more →
+    new.bytes ≡ kept.bytes + sum_by carried (with_changes more) →
     Keeps log floor kept → Keeps (grown log more) floor new
-keeps-grown log floor more kept new room numbered rest end_is items keeps =
+keeps-grown log floor more kept new room numbered rest end_is items bytes keeps =
     let from : new.from ≡ kept.from = ap (λ k. k.from) rest in
     let last_at : new.last_at ≡ kept.last_at = ap (λ k. k.last_at) rest in
     let end : end_of (grown log more) ≡ end_of log + length more = grown-end log more in
@@ -437,6 +467,7 @@ keeps-grown log floor more kept new room numbered rest end_is items keeps =
       reached = omega (arith, end, keeps.reached);
       end_is = end_is ∙ sym end;
       revisions = items ∙ ap (λ xs. xs ++ with_changes more) keeps.revisions ∙ sym parts ∙ ap (λ n. changed (grown log more) n (end_of (grown log more))) (sym from);
+      bytes = bytes ∙ ap (λ n. n + sum_by carried (with_changes more)) keeps.bytes ∙ sym (sum_by-append carried kept.revisions.items (with_changes more)) ∙ ap (sum_by carried) (sym items);
       floor_rows = subst (λ (k : Kept). Replay (grown log more) k.from floor k.floor_rows) (sym rest) floor_rows;
       followed = omega (arith, from, last_at, keeps.followed);
       behind = omega (arith, last_at, end, keeps.behind);
@@ -451,6 +482,7 @@ keeps-raised log floor next kept higher within keeps = record {
   begun = keeps.begun;
   end_is = keeps.end_is;
   revisions = keeps.revisions;
+  bytes = keeps.bytes;
   followed = keeps.followed;
   behind = keeps.behind;
   last_rows = keeps.last_rows;
@@ -481,9 +513,9 @@ opening-replay base first from least tables holds = record {
 }
 
 -- what is kept of it
-pub keeps-begun : (base : List RowData) (first : ℕ) (kept : Kept) → first ≤ 2 ^ 62 → kept.from ≡ first → kept.end ≡ first → kept.last_at ≡ first → kept.revisions.items ≡ [] →
+pub keeps-begun : (base : List RowData) (first : ℕ) (kept : Kept) → first ≤ 2 ^ 62 → kept.from ≡ first → kept.end ≡ first → kept.last_at ≡ first → kept.revisions.items ≡ [] → kept.bytes ≡ 0 →
     HoldEach kept.floor_rows (row_in_base base) → HoldEach kept.last_rows (row_in_base base) → Keeps (opening base first) first kept
-keeps-begun base first kept fits from end last_at items floor_rows last_rows = record {
+keeps-begun base first kept fits from end last_at items bytes floor_rows last_rows = record {
   numbered = tt;
   ends = omega arith;
   begun = omega (arith, from);
@@ -491,6 +523,7 @@ keeps-begun base first kept fits from end last_at items floor_rows last_rows = r
   reached = omega arith;
   end_is = omega (arith, end);
   revisions = items ∙ sym (ap with_changes (opening-between base first kept.from (end_of (opening base first))));
+  bytes = bytes ∙ ap (sum_by carried) (sym items);
   floor_rows = opening-replay base first kept.from first kept.floor_rows floor_rows;
   followed = omega (arith, from, last_at);
   behind = omega (arith, last_at);

@@ -1,4 +1,5 @@
 pub mod ApplyLemmas
+pub mod ByteLemmas
 pub mod ChangedLemmas
 pub mod HearLemmas
 pub mod KeptLemmas

@@ -1,5 +1,5 @@
 -- A store's log as it grows, and what a pass knows once the store met it.
-use Rattle.std.proofs.Common.{◌≡◌, ℕ, ◌+◌, ◌-◌, ◌^◌, ◌<◌, ◌≤◌, List, [], ◌∷◌, ◌++◌, append-nil, length, Bool, Err, sym, ap, ◌∙◌, subst, arith}
+use Rattle.std.proofs.Common.{◌≡◌, ℕ, ◌+◌, ◌-◌, ◌^◌, ◌<◌, ◌≤◌, min, sum_by, List, [], ◌∷◌, ◌++◌, append-nil, length, Bool, Err, sym, ap, ◌∙◌, subst, arith}
 use Rattle.kube_meta.specs.Rows.{RowData}
 use Rattle.rev_front.specs.Passes.{Pass, Whole, quiets, revision, empty_log}
 use Rattle.rev_front.proofs.Passing.{extends_trans}
@@ -11,27 +11,30 @@ use Rattle.up_api.specs.Sections.{log_of, Learns, Sections, StaysOrKnows}
 use Rattle.up_api.specs.declared.refusals.UpNo.{UpNo}
 use Rattle.up_api.specs.declared.refusals.UpNo.TheVariants as up_no
 use Rattle.up_store.specs.declared.kept.Kept.{Kept}
-use Rattle.up_store.specs.Kept.{HoldEach, Keeps, with_changes}
+use Rattle.up_store.specs.Kept.{HoldEach, Keeps, carried, with_changes}
 use Rattle.up_store.specs.Past.{IsOldHistory}
 use Rattle.up_store.specs.declared.past.OldHistory.{OldHistory}
 use Rattle.up_store.specs.Stores.{IsStore, HasMet, log_in}
+use Rattle.up_store.proofs.ByteLemmas.{alone, light}
 use Rattle.up_store.proofs.ChangedLemmas.{quiets-length, quiets-none, quiets-numbered}
-use Rattle.up_store.proofs.KeptLemmas.{keeps-grown, keeps-raised, keeps-begun}
+use Rattle.up_store.proofs.KeptLemmas.{keeps-grown, keeps-raised, keeps-begun, carries-little}
 
 -- more revisions
 grown-on : (base : List RowData) (w after : Whole RevisionData) (more : List RevisionData) (kept new : Kept) → after ≡ record w { log = w.log ++ more } → revision w + length more ≤ 2 ^ 62 →
-    AreNumbered (revision w) more → new ≡ record kept { revisions = new.revisions; end = new.end } → new.end ≡ revision w + length more →
-    new.revisions.items ≡ kept.revisions.items ++ with_changes more → Keeps (log_in base w) w.floor kept → Keeps (log_in base after) after.floor new
-grown-on base w after more kept new is room numbered rest end items keeps =
-    subst (λ (v : Whole RevisionData). Keeps (log_in base v) v.floor new) (sym is) (keeps-grown (log_in base w) w.floor more kept new room numbered rest end items keeps)
+    AreNumbered (revision w) more → new ≡ record kept { revisions = new.revisions; bytes = new.bytes; end = new.end } → new.end ≡ revision w + length more →
+    new.revisions.items ≡ kept.revisions.items ++ with_changes more → new.bytes ≡ kept.bytes + sum_by carried (with_changes more) → Keeps (log_in base w) w.floor kept → Keeps (log_in base after) after.floor new
+grown-on base w after more kept new is room numbered rest end items bytes keeps =
+    subst (λ (v : Whole RevisionData). Keeps (log_in base v) v.floor new) (sym is) (keeps-grown (log_in base w) w.floor more kept new room numbered rest end items bytes keeps)
 
 -- one more revision
 pub committed : (base : List RowData) (w after : Whole RevisionData) (r : RevisionData) (kept new : Kept) → after ≡ record w { log = w.log ++ r ∷ [] } → revision w < 2 ^ 62 → r.rev ≡ revision w + 1 →
-    new ≡ record kept { revisions = new.revisions; end = r.rev } → new.revisions.items ≡ kept.revisions.items ++ with_changes (r ∷ []) → Keeps (log_in base w) w.floor kept → Keeps (log_in base after) after.floor new
-committed base w after r kept new is room number rest items keeps =
+    new ≡ record kept { revisions = new.revisions; bytes = new.bytes; end = r.rev } → new.revisions.items ≡ kept.revisions.items ++ with_changes (r ∷ []) →
+    new.bytes ≡ min (kept.bytes + carried r) (2 ^ 128 - 1) → Keeps (log_in base w) w.floor kept → Keeps (log_in base after) after.floor new
+committed base w after r kept new is room number rest items bytes keeps =
     let end : new.end ≡ r.rev = ap (λ k. k.end) rest in
-    let same : new ≡ record kept { revisions = new.revisions; end = new.end } = rest ∙ ap (λ n. record kept { revisions = new.revisions; end = n }) (sym end) in
-    grown-on base w after (r ∷ []) kept new is (omega (arith, room)) (number, tt) same (end ∙ number) items keeps
+    let same : new ≡ record kept { revisions = new.revisions; bytes = new.bytes; end = new.end } = rest ∙ ap (λ n. record kept { revisions = new.revisions; bytes = new.bytes; end = n }) (sym end) in
+    let sum : new.bytes ≡ kept.bytes + sum_by carried (with_changes (r ∷ [])) = omega (arith, bytes, carries-little (log_in base w) w.floor kept keeps, light (r ∷ []), alone r) in
+    grown-on base w after (r ∷ []) kept new is (omega (arith, room)) (number, tt) same (end ∙ number) items sum keeps
 
 -- quiet ones are passed over
 pub passed : (base : List RowData) (w after : Whole RevisionData) (upto : ℕ) (kept new : Kept) → after ≡ record w { log = w.log ++ quiets quiet_at (revision w) (upto - revision w) } →
@@ -41,10 +44,11 @@ passed base w after upto kept new is onward last rest keeps =
     let long : length (quiets quiet_at (revision w) n) ≡ upto - revision w = quiets-length (revision w) n in
     let end : new.end ≡ upto = ap (λ k. k.end) rest in
     let items : new.revisions.items ≡ kept.revisions.items = ap (λ k. k.revisions.items) rest in
-    let same : new ≡ record kept { revisions = new.revisions; end = new.end } =
-    rest ∙ ap (λ (k : Kept). record kept { revisions = k.revisions; end = k.end }) (sym rest) in
+    let same : new ≡ record kept { revisions = new.revisions; bytes = new.bytes; end = new.end } =
+    rest ∙ ap (λ (k : Kept). record kept { revisions = k.revisions; bytes = k.bytes; end = k.end }) (sym rest) in
     grown-on base w after (quiets quiet_at (revision w) n) kept new is (omega (arith, long, onward, last)) (quiets-numbered (revision w) n) same (omega (arith, long, onward, end))
-    (items ∙ sym (append-nil kept.revisions.items) ∙ ap (λ l. kept.revisions.items ++ l) (sym (quiets-none (revision w) n))) keeps
+    (items ∙ sym (append-nil kept.revisions.items) ∙ ap (λ l. kept.revisions.items ++ l) (sym (quiets-none (revision w) n)))
+    (omega (arith, ap (λ k. k.bytes) rest, ap (sum_by carried) (quiets-none (revision w) n))) keeps
 
 -- a higher floor
 pub raised : (base : List RowData) (w after : Whole RevisionData) (floor : ℕ) (kept new : Kept) → after ≡ record w { floor = floor } → w.floor ≤ floor → floor ≤ revision w →
@@ -55,9 +59,9 @@ raised base w after floor kept new is above reached settles keeps =
 
 -- a store of a new log
 pub opened : (base : List RowData) (is_mirror mirror : Bool) (w : Whole RevisionData) (kept : Kept) (history first : ℕ) → w ≡ empty_log first → first ≤ 2 ^ 62 → kept.from ≡ first → kept.end ≡ first → kept.last_at ≡ first →
-    kept.revisions.items ≡ [] → HoldEach kept.floor_rows (row_in_base base) → HoldEach kept.last_rows (row_in_base base) → mirror ≡ is_mirror → 1 ≤ history → IsStore base is_mirror w kept mirror history 0
-opened base is_mirror mirror w kept history first is fits from end last_at items floor_rows last_rows same some = record {
-  keeps = subst (λ (v : Whole RevisionData). Keeps (log_in base v) v.floor kept) (sym is) (keeps-begun base first kept fits from end last_at items floor_rows last_rows);
+    kept.revisions.items ≡ [] → kept.bytes ≡ 0 → HoldEach kept.floor_rows (row_in_base base) → HoldEach kept.last_rows (row_in_base base) → mirror ≡ is_mirror → 1 ≤ history → IsStore base is_mirror w kept mirror history 0
+opened base is_mirror mirror w kept history first is fits from end last_at items bytes floor_rows last_rows same some = record {
+  keeps = subst (λ (v : Whole RevisionData). Keeps (log_in base v) v.floor kept) (sym is) (keeps-begun base first kept fits from end last_at items bytes floor_rows last_rows);
   gen_fits = omega (arith, ap (λ v. v.gen) is);
   mirror_is = same;
   some_history = some;

@@ -1,8 +1,10 @@
 -- What a store keeps of its log: the rows of each resource at its compaction floor and at its end, and the revisions
 -- with changes after the floor.
-use Rattle.std.specs.Prelude.{◌≡◌, ℕ, ◌+◌, ◌-◌, ◌^◌, ◌≤◌, Bool, true, false, List, [], ◌∷◌, length, take, drop, map, filter, fold, Option}
+use Rattle.std.specs.Prelude.{◌≡◌, ℕ, suc, ◌+◌, ◌-◌, ◌^◌, ◌≤◌, nat_le, min, max, Bool, true, false, List, [], ◌∷◌, length, take, drop, map, filter, fold, Option, Some, None, if◌then◌else◌}
+use Rattle.std.specs.List.{sum_by}
 use Rattle.std.specs.VecDeque.{deque_len, deque_capacity}
 use Rattle.kube_meta.specs.Rows.{RowData, AreRising, row_with}
+use Rattle.kube_meta.specs.declared.objects.Obj.{Obj}
 use Rattle.kube_meta.specs.declared.resources.Resource.{Resource}
 use Rattle.kube_meta.specs.declared.resources.Resource.TheVariants.{Pods, ConfigMaps, Deployments}
 use Rattle.rev_front.specs.Passes.{last_or}
@@ -69,6 +71,15 @@ with_changes revisions = filter has_changes revisions
 abbrev pub changed : Log → ℕ → ℕ → List RevisionData
 changed log from to = with_changes (between log from to)
 
+-- the bytes of an object's text, without its revision
+abbrev pub text_size : Option Obj → ℕ
+text_size None = 0
+text_size (Some obj) = length obj.front + length obj.back
+
+-- the bytes that a revision carries: the texts of its new objects
+abbrev pub carried : RevisionData → ℕ
+carried revision = min (sum_by (λ change. text_size change.new) revision.changes) (2 ^ 64 - 1)
+
 -- what is kept of a log with this floor
 pub record Keeps (log : Log) (floor : ℕ) (kept : Kept) : Type 0 where
   pub numbered : AreNumbered log.first log.revisions
@@ -78,6 +89,7 @@ pub record Keeps (log : Log) (floor : ℕ) (kept : Kept) : Type 0 where
   pub reached : floor ≤ end_of log
   pub end_is : kept.end ≡ end_of log
   pub revisions : kept.revisions.items ≡ changed log kept.from (end_of log)
+  pub bytes : kept.bytes ≡ sum_by carried kept.revisions.items
   pub floor_rows : Replay log kept.from floor kept.floor_rows
   pub followed : kept.from ≤ kept.last_at
   pub behind : kept.last_at ≤ end_of log
@@ -94,6 +106,16 @@ abbrev pub floor_behind : ℕ → List RevisionData → ℕ
 floor_behind history revisions =
     let those : List RevisionData = with_changes revisions in
     last_or 0 (map (λ r. r.rev) (take (length those - history) those))
+
+-- how many of the last revisions carry at most this many bytes together, or one where the last carries more
+abbrev pub fitting : ℕ → List RevisionData → ℕ
+fitting bytes [] = 0
+fitting bytes (r ∷ rest) = if nat_le (sum_by carried (r ∷ rest)) bytes then suc (length rest) else max 1 (fitting bytes rest)
+
+-- the same of the revisions with changes above it: they carry no more than this many bytes, but for the last one, which
+-- stays whatever it carries
+abbrev pub floor_within : ℕ → List RevisionData → ℕ
+floor_within bytes revisions = floor_behind (fitting bytes (with_changes revisions)) revisions
 
 -- there is room for this many more revisions
 abbrev pub HasRoom : ℕ → Kept → Type 0

@@ -8,13 +8,19 @@ use Rattle.up_api.specs.Sections.{Knows, HasSeenAll}
 use Rattle.up_store.specs.declared.kept.Kept.{Kept}
 use Rattle.up_store.specs.declared.operations.OpNo.{OpNo}
 use Rattle.up_store.specs.declared.operations.OpNo.TheVariants.{Compacted, Future, UsedUp}
-use Rattle.up_store.specs.Kept.{Keeps}
+use Rattle.up_store.specs.Kept.{Keeps, floor_within}
 
--- the log with its floor and its generation, how many revisions the floor is behind the end at most, and how often states and histories were read
+-- the log with its floor and its generation, how many revisions the floor is behind the end at most, how many bytes those
+-- carry at most to which it is trimmed, and how often states and histories were read
 pub record StoreData : Type 0 where
   pub whole : Whole RevisionData
   pub history : ℕ
+  pub bytes : ℕ
   pub reads : ℕ
+
+-- the bytes to which a log is trimmed unless it is told others: 256 MiB
+abbrev pub usual_bytes : ℕ
+usual_bytes = 2 ^ 28
 
 -- the log, from these base rows
 abbrev pub log_in : List RowData → Whole RevisionData → Log
@@ -37,6 +43,10 @@ pub record HasMet (w : Whole RevisionData) (p q : Pass RevisionData) : Type 0 wh
 -- the log with one more revision: the floor follows the end, `history` behind it
 abbrev pub accepted : ℕ → Whole RevisionData → RevisionData → Whole RevisionData
 accepted history w r = record w { log = w.log ++ r ∷ []; floor = max w.floor (revision w + 1 - history) }
+
+-- the log whose floor has followed the bytes
+abbrev pub trimmed_to : ℕ → Whole RevisionData → Whole RevisionData
+trimmed_to bytes w = record w { floor = max w.floor (floor_within bytes w.log) }
 
 -- it knows the log, its floor and its generation, and was told of nothing else
 abbrev pub KnowsAll : Whole RevisionData → Pass RevisionData → Type 0

@@ -1,7 +1,6 @@
 //! Doors to one store, for many threads.
 
-ghost use Rattle.std.specs.Prelude.{◌≡◌, ◌≤◌, ◌^◌, All, IfErr, IfOk, true};
-ghost use Rattle.kube_meta.specs.declared.resources.Resource.TheVariants.{Pods};
+ghost use Rattle.std.specs.Prelude.{◌≡◌, ◌≤◌, ◌^◌, IfErr, IfOk, true};
 ghost use Rattle.rev_front.specs.Passes.{Whole, pass_from};
 ghost use Rattle.rev_log.specs.Changes.{RevisionData};
 ghost use Rattle.rev_log.specs.States.{IsStateAt};
@@ -50,6 +49,14 @@ impl<N: LogFacts, R: Wait + Copy> StoreDoor<N, R> {
         })
     }
 
+    /// Bounds the bytes that the revisions above the floor carry: from now on the floor follows behind each change, in
+    /// the same section. The last revision with changes stays.
+    pub fn bound_bytes(&self, bytes: u64) {
+        let mut store = self.store.lock(&self.rt);
+        store.bound_bytes(bytes);
+        store.trim();
+    }
+
     /// Makes a write, if nothing refuses it; the first refusal that holds is answered. The object is copied before the
     /// lock is taken.
     pub fn write(&self, ask: &WriteAsk, told: &mut Pass<N>) -> Result<Written, WriteNo>
@@ -58,7 +65,10 @@ impl<N: LogFacts, R: Wait + Copy> StoreDoor<N, R> {
         ensures reply { IsWriteReply N.base N.mirror told.old ask.now result told.new }
     {
         let shared = share(self.alloc, ask);
-        self.store.lock(&self.rt).write_shared(ask, shared, told)
+        let mut store = self.store.lock(&self.rt);
+        let answer = store.write_shared(ask, shared, told);
+        store.trim();
+        answer
     }
 
     /// Makes a transaction: all its writes at one revision, or none of them. The answers stand in the order of the
@@ -69,19 +79,24 @@ impl<N: LogFacts, R: Wait + Copy> StoreDoor<N, R> {
         ensures reply { IsTransactionReply N.base N.mirror told.old ask.now (answers_in result) told.new }
     {
         let shared = share_all(self.alloc, ask.items());
-        self.store.lock(&self.rt).transact_shared(ask, shared, told)
+        let mut store = self.store.lock(&self.rt);
+        let answer = store.transact_shared(ask, shared, told);
+        store.trim();
+        answer
     }
 
     /// Adds a revision of the peer's log, which is a mirror's next one, and answers its number.
     pub fn hear(&self, revision: Revision, told: &mut Pass<N>) -> Result<u64, HearNo>
         requires mirror { N.mirror ≡ true }
         requires last { revision.rev ≤ 2 ^ 62 }
-        requires pods { All (λ change. change.resource ≡ Pods) revision.changes }
         ensures learns { Learns told.old told.new }
         ensures section { HasSeenAll told.new }
         ensures reply { IsHearReply N.base told.old revision result told.new }
     {
-        self.store.lock(&self.rt).hear_next(revision, told)
+        let mut store = self.store.lock(&self.rt);
+        let answer = store.hear_next(revision, told);
+        store.trim();
+        answer
     }
 
     /// Adds the revisions of the peer's log that follow `from`, if that is the mirror's end, up to `to`: these, and all
@@ -97,12 +112,14 @@ impl<N: LogFacts, R: Wait + Copy> StoreDoor<N, R> {
         requires mirror { N.mirror ≡ true }
         requires rising { AreAscending from revisions.items to }
         requires last { to ≤ 2 ^ 62 }
-        requires pods { All (λ revision. All (λ change. change.resource ≡ Pods) revision.changes) revisions.items }
         ensures learns { Learns told.old told.new }
         ensures section { HasSeenAll told.new }
         ensures reply { IsFollowReply N.base told.old from revisions.items to result told.new }
     {
-        self.store.lock(&self.rt).follow(from, revisions, to, told)
+        let mut store = self.store.lock(&self.rt);
+        let answer = store.follow(from, revisions, to, told);
+        store.trim();
+        answer
     }
 
     /// Adds the revisions of the peer's log that follow `from`, as `follow` does, and raises the floor to the last of
@@ -117,7 +134,6 @@ impl<N: LogFacts, R: Wait + Copy> StoreDoor<N, R> {
         requires mirror { N.mirror ≡ true }
         requires rising { AreAscending from revisions.items to }
         requires last { to ≤ 2 ^ 62 }
-        requires pods { All (λ revision. All (λ change. change.resource ≡ Pods) revision.changes) revisions.items }
         ensures learns { Learns told.old told.new }
         ensures section { HasSeenAll told.new }
         ensures reply { IsAnewReply N.base told.old from revisions.items to result told.new }

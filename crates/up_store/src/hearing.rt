@@ -2,13 +2,12 @@
 
 ghost use Rattle.std.specs.Prelude.{◌≡◌, ◌+◌, ◌^◌, ◌<◌, ◌≤◌, All, IfOk, true};
 ghost use Rattle.kube_meta.specs.Rows.{AreRising};
-ghost use Rattle.kube_meta.specs.declared.resources.Resource.TheVariants.{Pods};
 ghost use Rattle.rev_front.specs.Passes.{Covers, empty_log, revision as reached};
 ghost use Rattle.rev_log.specs.Logs.{Fits};
 ghost use Rattle.up_api.specs.Sections.{Learns};
 ghost use Rattle.up_store.specs.Hearing.{AreAscending, IsHeard, IsHearAnswer, IsHearReply, IsAddAnswer, IsFollowAnswer, IsFollowReply, IsAnewAnswer, IsAnewReply, extended, filled};
 ghost use Rattle.up_store.specs.Kept.{Keeps};
-ghost use Rattle.up_store.specs.Stores.{KnowsAll, log_in};
+ghost use Rattle.up_store.specs.Stores.{KnowsAll, log_in, usual_bytes};
 
 use crate::Store;
 use crate::committing::{commit, put_all, raise};
@@ -55,7 +54,7 @@ impl<N: LogFacts> Store<N> {
         requires rising { AreRising rows.items }
         requires old { All (λ row. row.rev ≤ blank.first) rows.items }
         requires history { 1 ≤ history }
-        ensures { IfOk result (λ store. store ≡ record { whole = empty_log N.log.first; history = history; reads = 0 }) }
+        ensures { IfOk result (λ store. store ≡ record { whole = empty_log N.log.first; history = history; bytes = usual_bytes; reads = 0 }) }
     {
         Store::open(alloc, blank, rows, true, history)
     }
@@ -65,7 +64,6 @@ impl<N: LogFacts> Store<N> {
         requires mirror { N.mirror ≡ true }
         requires next { revision.rev ≡ reached self.old.whole + 1 }
         requires last { revision.rev ≤ 2 ^ 62 }
-        requires pods { All (λ change. change.resource ≡ Pods) revision.changes }
         ensures covered { Covers self.old.whole told.old }
         ensures learns { Learns told.old told.new }
         ensures tells { KnowsAll self.new.whole told.new }
@@ -89,7 +87,6 @@ impl<N: LogFacts> Store<N> {
     pub fn hear_next(&mut self, revision: Revision, told: &mut Pass<N>) -> Result<u64, HearNo>
         requires mirror { N.mirror ≡ true }
         requires last { revision.rev ≤ 2 ^ 62 }
-        requires pods { All (λ change. change.resource ≡ Pods) revision.changes }
         ensures covered { Covers self.old.whole told.old }
         ensures learns { Learns told.old told.new }
         ensures tells { KnowsAll self.new.whole told.new }
@@ -122,7 +119,6 @@ impl<N: LogFacts> Store<N> {
         requires mirror { N.mirror ≡ true }
         requires rising { AreAscending from revisions.items to }
         requires last { to ≤ 2 ^ 62 }
-        requires pods { All (λ revision. All (λ change. change.resource ≡ Pods) revision.changes) revisions.items }
         ensures covered { Covers self.old.whole told.old }
         ensures learns { Learns told.old told.new }
         ensures tells { KnowsAll self.new.whole told.new }
@@ -156,7 +152,6 @@ impl<N: LogFacts> Store<N> {
         requires mirror { N.mirror ≡ true }
         requires rising { AreAscending from revisions.items to }
         requires last { to ≤ 2 ^ 62 }
-        requires pods { All (λ revision. All (λ change. change.resource ≡ Pods) revision.changes) revisions.items }
         ensures covered { Covers self.old.whole told.old }
         ensures learns { Learns told.old told.new }
         ensures tells { KnowsAll self.new.whole told.new }

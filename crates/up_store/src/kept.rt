@@ -1,6 +1,7 @@
 //! What a store keeps of its log.
 
-ghost use Rattle.std.specs.Prelude.{◌≡◌, ℕ, ◌+◌, ◌-◌, ◌≤◌, ◌∷◌, ◌++◌, [], max, IfOk, OnOk, drop, length, option_copied, take};
+ghost use Rattle.std.specs.Prelude.{◌≡◌, ℕ, ◌+◌, ◌-◌, ◌≤◌, ◌^◌, ◌∷◌, ◌++◌, [], max, min, IfOk, OnOk, drop, length, option_copied, take};
+ghost use Rattle.std.specs.List.{sum_by};
 ghost use Rattle.kube_meta.specs.Rows.{row_with};
 ghost use Rattle.rev_log.specs.Logs.{Log, end_of};
 ghost use Rattle.up_api.specs.Feeds.{IsPoll};
@@ -11,7 +12,7 @@ ghost use Rattle.up_store.specs.Writes.{row_before};
 
 use crate::parts::part;
 use crate::past::{OldHistory, OldState};
-use crate::revisions::SharedRevision;
+use crate::revisions::{SharedRevision, carried};
 use crate::tables::Tables;
 use crate::transactions::{key_of, resource_of};
 use crate::writes::WriteAsk;
@@ -29,6 +30,8 @@ pub struct Kept {
     pub from: u64,
     /// The revisions with changes after `from`.
     pub revisions: VecDeque<SharedRevision>,
+    /// The bytes that these carry.
+    pub bytes: u128,
     /// The log's end.
     pub end: u64,
     pub floor_rows: Tables,
@@ -88,8 +91,10 @@ impl Kept {
         ensures end { self.new.end ≡ self.old.end }
         ensures shorter { OnOk result (length self.new.revisions.items + 1 ≡ length self.old.revisions.items) }
     {
-        self.floor_rows.apply(&self.revisions[0])?;
-        self.from = self.revisions[0].get().rev;
+        let first = &self.revisions[0];
+        self.floor_rows.apply(first)?;
+        self.from = first.get().rev;
+        self.bytes = self.bytes.saturating_sub(u128::from(carried(first.get())));
         let _ = self.revisions.pop_front();
         Ok(())
     }
@@ -107,6 +112,30 @@ impl Kept {
         self.revisions[last].get().rev
     }
 
+    /// The same of the revisions that carry no more than this many bytes behind it, but for the last one, which stays
+    /// whatever it carries.
+    pub fn floor_within(&self, bytes: u64) -> u64
+        ensures within { (log : Log) (floor : ℕ) → Keeps log floor self.now → result ≤ end_of log }
+        ensures bytes { (log : Log) (floor : ℕ) → Keeps log floor self.now → max floor result ≡ max floor (keeping.floor_within bytes log.revisions) }
+    {
+        self.floor_behind(self.fitting(u128::from(bytes)))
+    }
+
+    // How many of the last revisions carry at most this many bytes together, or one where the last carries more.
+    fn fitting(&self, bytes: u128) -> u64
+        ensures { self.now.bytes ≡ sum_by keeping.carried self.now.revisions.items → result ≡ keeping.fitting bytes self.now.revisions.items }
+    {
+        let count = self.revisions.len();
+        let mut left = self.bytes;
+        for i in 0..count {
+            if left <= bytes {
+                return (count - i) as u64;
+            }
+            left = left.saturating_sub(u128::from(carried(self.revisions[i].get())));
+        }
+        count.min(1) as u64
+    }
+
     /// Makes room for this many more revisions.
     pub fn reserve(&mut self, count: usize) -> Result<(), Memory>
         ensures same { self.new ≡ record self.old { revisions = self.new.revisions } }
@@ -120,11 +149,15 @@ impl Kept {
     /// Adds the revision that the log got, for which there is room. It is kept if it has changes.
     pub fn push(&mut self, revision: SharedRevision)
         requires { HasRoom 1 self.old }
-        ensures same { self.new ≡ record self.old { revisions = self.new.revisions; end = revision.rev } }
+        ensures same { self.new ≡ record self.old { revisions = self.new.revisions; bytes = self.new.bytes; end = revision.rev } }
         ensures items { self.new.revisions.items ≡ self.old.revisions.items ++ with_changes (revision ∷ []) }
+        ensures bytes { self.new.bytes ≡ min (self.old.bytes + keeping.carried revision) (2 ^ 128 - 1) }
         ensures room { (count : ℕ) → HasRoom (count + 1) self.old → HasRoom count self.new }
     {
         self.end = revision.get().rev;
+        self.bytes = self
+            .bytes
+            .saturating_add(u128::from(carried(revision.get())));
         if !revision.get().changes.is_empty() {
             self.revisions.push_back_reserved(revision);
         }

@@ -1,6 +1,7 @@
 //! The revisions of a log as its store keeps them.
 
 ghost use Rattle.std.specs.Prelude.{◌≡◌, IfOk, map};
+ghost use Rattle.up_store.specs.Kept as keeping;
 ghost use Rattle.up_store.specs.Shared.{shared_row, made_row};
 
 use encode_once::Shown;
@@ -67,6 +68,21 @@ impl SharedRevision {
     {
         self.parts.made.as_slice()
     }
+}
+
+/// The bytes that a revision carries: the texts of its new objects.
+pub fn carried(revision: &Revision) -> u64
+    ensures { result ≡ keeping.carried revision.now }
+{
+    let mut bytes: u64 = 0;
+    for change in &revision.changes {
+        if let Some(obj) = &change.new {
+            bytes = bytes
+                .saturating_add(obj.front.as_str().len() as u64)
+                .saturating_add(obj.back.as_str().len() as u64);
+        }
+    }
+    bytes
 }
 
 /// Revisions, to be shared.

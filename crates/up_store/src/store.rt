@@ -6,10 +6,10 @@ ghost use Rattle.rev_front.specs.Passes.{Covers, IsWhole, empty_log, pass_from, 
 ghost use Rattle.rev_log.specs.Logs.{Fits};
 ghost use Rattle.up_api.specs.Sections.{Learns};
 ghost use Rattle.up_store.specs.Replies.{IsCutReply, IsCompactionReply};
-ghost use Rattle.up_store.specs.Stores.{HasMet, KnowsAll, IsCutAnswer, IsCompactionAnswer};
+ghost use Rattle.up_store.specs.Stores.{HasMet, KnowsAll, trimmed_to, usual_bytes, IsCutAnswer, IsCompactionAnswer};
 
 use crate::OpNo;
-use crate::committing::{compact, cut};
+use crate::committing::{compact, cut, raise};
 use crate::kept::Kept;
 use crate::tables::Tables;
 use kube_meta::{Memory, Row};
@@ -22,6 +22,9 @@ use up_api::{LogFacts, Pass};
 
 /// The greatest revision, and the greatest generation of feeds: 2 ^ 62.
 pub(crate) const LAST: u64 = 1 << 62;
+
+// The bytes to which a store is trimmed unless it is told others: 256 MiB.
+const USUAL_BYTES: u64 = 1 << 28;
 
 /// The store of an API server: one log of what was accepted. Contracts see the whole log; the code keeps the rows at
 /// the compaction floor and at the log's end, and the revisions with changes after the floor. Each call that takes a
@@ -36,6 +39,8 @@ pub struct Store<N: LogFacts> {
     // How many revisions the floor is behind the log's end at most, once the log is longer than that. Where the log
     // follows a peer's, those at which nothing changes don't count.
     pub(crate) history: u64,
+    // How many bytes those carry at most, once `trim` was called.
+    pub(crate) bytes: u64,
     pub(crate) reads: u64,
 }
 
@@ -44,7 +49,7 @@ impl<N: LogFacts> Model for Store<N> {
 
     ghost Value = { StoreData };
 
-    ghost view = { λ s. record { whole = s.pen; history = s.history; reads = s.reads } };
+    ghost view = { λ s. record { whole = s.pen; history = s.history; bytes = s.bytes; reads = s.reads } };
 
     ghost invariant = { λ s. IsStore N.base N.mirror s.pen s.kept s.mirror s.history s.reads };
 }
@@ -56,7 +61,7 @@ impl<N: LogFacts> Store<N> {
         requires base { N.base ≡ [] }
         requires own { N.mirror ≡ false }
         requires history { 1 ≤ history }
-        ensures { IfOk result (λ store. store ≡ record { whole = empty_log N.log.first; history = history; reads = 0 }) }
+        ensures { IfOk result (λ store. store ≡ record { whole = empty_log N.log.first; history = history; bytes = usual_bytes; reads = 0 }) }
     {
         Store::open(alloc, blank, Vec::new(alloc), false, history)
     }
@@ -74,7 +79,7 @@ impl<N: LogFacts> Store<N> {
         requires rising { AreRising pods.items }
         requires mirror { mirror ≡ N.mirror }
         requires history { 1 ≤ history }
-        ensures { IfOk result (λ store. store ≡ record { whole = empty_log N.log.first; history = history; reads = 0 }) }
+        ensures { IfOk result (λ store. store ≡ record { whole = empty_log N.log.first; history = history; bytes = usual_bytes; reads = 0 }) }
     {
         let floor_rows = Tables::of_pods(alloc, pods)?;
         let last_rows = floor_rows.copy()?;
@@ -83,6 +88,7 @@ impl<N: LogFacts> Store<N> {
         let kept = Kept {
             from: first,
             revisions: VecDeque::new(alloc),
+            bytes: 0,
             end: first,
             floor_rows,
             last_rows,
@@ -94,6 +100,7 @@ impl<N: LogFacts> Store<N> {
             kept,
             mirror,
             history,
+            bytes: USUAL_BYTES,
             reads: 0,
         })
     }
@@ -131,6 +138,22 @@ impl<N: LogFacts> Store<N> {
         ensures fits { result ≤ 2 ^ 62 }
     {
         self.reads
+    }
+
+    /// Bounds the bytes that the revisions above the floor carry, behind each `trim`.
+    pub fn bound_bytes(&mut self, bytes: u64)
+        ensures { self.new ≡ record self.old { bytes = bytes } }
+    {
+        self.bytes = bytes;
+    }
+
+    /// Lets the floor follow the bytes, as far as the bound asks for it; the last revision with changes stays above it.
+    /// What falls below it is given up as far as there is memory for that.
+    pub fn trim(&mut self)
+        ensures { self.new ≡ record self.old { whole = trimmed_to self.old.bytes self.old.whole } }
+    {
+        let floor = self.pen.floor().max(self.kept.floor_within(self.bytes));
+        let _ = raise(&mut self.pen, &mut self.kept, floor);
     }
 
     /// Cuts all feeds: their next polls are refused. Answers the new generation of feeds. It takes no memory.

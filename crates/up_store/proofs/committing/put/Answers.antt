@@ -15,4 +15,4 @@ returns-clause-log g c = c.commit-end.ensures.log ∙ ap (λ (r : RevisionData).
 pub returns-clause-keeps : goal.returns-clause-keeps
 returns-clause-keeps g c =
     committed g.N.LogFacts.base c.args.pen.now c.commit-end.new.self c.args.revision c.args.kept.now c.push.new.self (returns-clause-log g c) c.requires.last
-    c.requires.fits.0 c.push.ensures.same c.push.ensures.items c.requires.keeps
+    c.requires.fits.0 c.push.ensures.same c.push.ensures.items c.push.ensures.bytes c.requires.keeps

@@ -1,5 +1,5 @@
 -- Nothing but the base rows is kept of a log that begins, and both tables have them.
-use Rattle.std.proofs.Common.{◌≡◌, List, ap, arith, subst, sym}
+use Rattle.std.proofs.Common.{◌≡◌, refl, List, ap, arith, subst, sym}
 use Rattle.kube_meta.specs.Rows.{RowData}
 use Rattle.rev_front.specs.Passes.{revision}
 use Rattle.rev_log.specs.States.{row_in_base}
@@ -15,5 +15,5 @@ invariant_of-result g c =
     subst (λ (base : List RowData). HoldEach c.in_ok-floor_rows.floor_rows (row_in_base base)) (sym c.requires.base) c.in_ok-floor_rows.ensures in
     let last : HoldEach c.in_ok-last_rows.last_rows (row_in_base g.N.LogFacts.base) =
     subst (λ (tables : Tables). HoldEach tables (row_in_base g.N.LogFacts.base)) (sym c.in_ok-last_rows.ensures) floor in
-    opened g.N.LogFacts.base g.N.LogFacts.mirror _ c.start-pen.result _ c.args.history g.N.LogName.log.first c.start-pen.ensures (omega (arith, first, c.revision-first.ensures.answer, c.revision-first.ensures.lawful.bounded.0)) first first first c.new.ensures.items
+    opened g.N.LogFacts.base g.N.LogFacts.mirror _ c.start-pen.result _ c.args.history g.N.LogName.log.first c.start-pen.ensures (omega (arith, first, c.revision-first.ensures.answer, c.revision-first.ensures.lawful.bounded.0)) first first first c.new.ensures.items refl
     floor last c.requires.mirror c.requires.history
