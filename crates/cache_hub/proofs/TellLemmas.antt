@@ -1,8 +1,10 @@
 -- A change is told lane by lane, or in one walk over all lanes.
-use Rattle.std.proofs.Common.{◌≡◌, ℕ, zero, suc, ◌≤◌, Bool, true, false, cond, eqb-true, eq-eqb, length, get_or, slice_get, arith, List, [], ◌∷◌, Option, Some, None, option_map, refl, sym, ap, ◌∙◌, subst}
+use Rattle.std.proofs.Common.{◌≡◌, ℕ, zero, suc, ◌+◌, ◌<◌, ◌≤◌, Bool, true, false, cond, eqb-true, eq-eqb, length, take, get_or, slice_get, filter_map, arith, List, [], ◌∷◌, ◌++◌, Option, Some, None, option_map, refl, sym, ap, ◌∙◌, subst}
 use Rattle.std.specs.Prelude.{nat_eq}
 use Rattle.std.specs.List.{AllByRecursion, IsDistinct, cons_option}
 use Rattle.std.specs.List.Sorted.{IsStrictlyIncreasing}
+use Rattle.std.proofs.lemmas.List.Elements.{filter_map-append}
+use Rattle.std.proofs.Math.Seq.{take-suc}
 use Rattle.std.specs.Map.{keys_of, values_of}
 use Rattle.indexmap.specs.IndexMap.{set_value_at}
 use Rattle.rev_log.specs.Logs.{Log}
@@ -11,7 +13,7 @@ use Rattle.watch_lane.specs.Index.{is_listed}
 use Rattle.select_all.specs.declared.selection.Selection.{Selection}
 use Rattle.watch_lane.specs.Batches.{PieceData}
 use Rattle.cache_hub.specs.OpenLanes.{OpenLaneData, Each, AreTold, open_at, told_lane}
-use Rattle.cache_hub.specs.Due.{due_in, AreReady, AreUntold, IsPieceOf, IsWaiting}
+use Rattle.cache_hub.specs.Due.{due_at, due_in, AreReady, AreSilent, AreUntold, IsPieceOf, IsWaiting}
 use Rattle.cache_hub.proofs.BothLemmas.{none_is}
 use Rattle.cache_hub.proofs.LaneLemmas.{some_is}
 use Rattle.cache_hub.proofs.WaitingLemmas.{AreDistinct, by_test, distinct_from_increasing, is_waiting}
@@ -23,16 +25,16 @@ module _ (log : Log) (end : ℕ) where
     pub distinct : AreDistinct ids
     pub each : (q : ℕ) → IsSentTo log end (is_listed ids q) (open_at start q) (open_at now q)
 
-  pub telling_begins : (start : List (ℕ × OpenLaneData)) (event : EventRows) (ids : List ℕ) → IsStrictlyIncreasing ids →
-      AreUntold start event ids → AreReady log end (event ∷ []) start → AreTelling start start ids
-  telling_begins start event ids rising others ready = record {
+  pub telling_begins : (start : List (ℕ × OpenLaneData)) (events : List EventRows) (ids : List ℕ) → IsStrictlyIncreasing ids →
+      AreSilent start events ids → AreReady log end events start → AreTelling start start ids
+  telling_begins start events ids rising others ready = record {
     distinct = distinct_from_increasing ids rising;
     each = λ q. by (is_listed ids q) q refl;
   }
     where
-      waits : (q : ℕ) (o : Option OpenLaneData) → open_at start q ≡ o → due_in o event ≡ None → IsWaiting log end [] o
+      waits : (q : ℕ) (o : Option OpenLaneData) → open_at start q ≡ o → filter_map (due_in o) events ≡ [] → IsWaiting log end [] o
       waits q None is none = tt
-      waits q (Some o) is none = is_waiting log end (event ∷ []) o [] (ready q o is) (sym (ap (λ line. cons_option line []) none))
+      waits q (Some o) is none = is_waiting log end events o [] (ready q o is) (sym none)
 
       by : (b : Bool) (q : ℕ) → is_listed ids q ≡ b → IsSentTo log end (is_listed ids q) (open_at start q) (open_at start q)
       by true q is = subst (λ b. IsSentTo log end b (open_at start q) (open_at start q)) (sym is) refl
@@ -126,8 +128,12 @@ pub no_piece : (log : Log) (end : ℕ) (lanes : List (ℕ × OpenLaneData)) → 
 no_piece log end [] = tt
 no_piece log end (e ∷ es) = (tt, no_piece log end es)
 
--- a list of one event
-pub one_event : (events : List EventRows) (event : EventRows) → length events ≡ 1 → event ≡ get_or events 0 event → events ≡ event ∷ []
-one_event [] event one is = absurd (omega (arith, one))
-one_event (e ∷ []) event one is = ap (λ x. x ∷ []) (sym is)
-one_event (e ∷ f ∷ es) event one is = absurd (omega (arith, one))
+-- ---- lanes that several events don't concern, event by event
+
+pub silent_on : (lanes : List (ℕ × OpenLaneData)) (events : List EventRows) (i : ℕ) (event : EventRows) (ids : List ℕ) → i < length events → event ≡ get_or events i event →
+    AreSilent lanes (take i events) ids → AreUntold lanes event ids → AreSilent lanes (take (i + 1) events) ids
+silent_on lanes events i event ids within is silent untold = let next : suc i ≡ i + 1 = omega arith in λ id other.
+    ap (filter_map (due_at lanes id)) (ap (λ n. take n events) (sym next) ∙ take-suc events i event within ∙ ap (λ e. take i events ++ e ∷ []) (sym is))
+    ∙ filter_map-append (due_at lanes id) (take i events) (event ∷ [])
+    ∙ ap (λ xs. xs ++ filter_map (due_at lanes id) (event ∷ [])) (silent id other)
+    ∙ ap (λ line. cons_option line []) (untold id other)

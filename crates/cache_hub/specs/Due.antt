@@ -65,6 +65,10 @@ AreReady log end events lanes = (id : ℕ) (o : OpenLaneData) → open_at lanes 
 abbrev pub AreUntold : List (ℕ × OpenLaneData) → EventRows → List ℕ → Type 0
 AreUntold lanes event ids = (id : ℕ) → is_listed ids id ≡ false → due_at lanes id event ≡ None
 
+-- nor of any of these events
+abbrev pub AreSilent : List (ℕ × OpenLaneData) → List EventRows → List ℕ → Type 0
+AreSilent lanes events ids = (id : ℕ) → is_listed ids id ≡ false → filter_map (due_at lanes id) events ≡ []
+
 -- what waits for a lane is what it wasn't sent; nothing waits for one that is behind
 abbrev pub IsWaiting : Log → ℕ → List TransitionData → Option OpenLaneData → Type 0
 IsWaiting log end lines None = Unit {0}

@@ -1,10 +1,10 @@
 //! What the lanes that have a place are told: those that changes may concern, and no other one is visited.
 
-ghost use Rattle.std.specs.Prelude.{◌≡◌, ◌≤◌, ℕ, Bool, true, [], ◌∷◌, ◌++◌, List, None, Some, option_map, IfOk, OnOk};
+ghost use Rattle.std.specs.Prelude.{◌≡◌, ◌≤◌, ℕ, Bool, true, [], ◌∷◌, ◌++◌, List, None, Some, option_map, IfOk, IfSome, IsTrue, OnOk};
 ghost use Rattle.std.specs.List.Sorted.{IsStrictlyIncreasing};
 ghost use Rattle.rev_front.specs.Passes.{end_from};
 ghost use Rattle.up_api.specs.Sections.{log_of};
-ghost use Rattle.cache_hub.specs.Due.{AddsEach, AddsTo, AllDue, AreReady, AreUntold, AreWaiting, IsWaiting, due_at, missed};
+ghost use Rattle.cache_hub.specs.Due.{AddsEach, AddsTo, AllDue, AreReady, AreSilent, AreUntold, AreWaiting, IsWaiting, due_at, missed};
 ghost use Rattle.cache_hub.specs.OpenLanes.{OpenLaneData, SetsLane, AreChanged, AreTold, IsIndexed, told_lane, open_at};
 
 use crate::due::{Waiting, put_line};
@@ -18,8 +18,8 @@ use std::collections::BTreeMap;
 use up_api::{LogFacts, Pass};
 use watch_lane::{LaneIndex, Line};
 
-/// Tells the lanes of events: of several, first what each has to be told of all of them is gathered. Without memory for
-/// that those that they concern are behind.
+/// Tells the lanes of events: where these may concern different lanes, first what each has to be told of all of them is
+/// gathered. Without memory for that those that they concern are behind.
 pub(crate) fn tell_placed<N: LogFacts>(
     lanes: &mut IndexMap<u64, OpenLane<N>>,
     index: &LaneIndex,
@@ -35,14 +35,41 @@ pub(crate) fn tell_placed<N: LogFacts>(
     ensures told { told.new ≡ told.old }
     ensures lanes { AreTold (log_of N.base told.old) end lanes.old.entries lanes.new.entries }
 {
-    if let [event] = events
-        && let Ok(ids) = touched(index, event)
-    {
-        return tell_each(lanes, alloc, &ids, event, end, told, called);
+    if let Some(ids) = touched_alike(index, events) {
+        return tell_each(lanes, alloc, &ids, events, end, told, called);
     }
     match waiting(lanes, index, alloc, events) {
         Ok(waiting) => send_all(lanes, alloc, waiting, end, told, called),
         Err(Memory) => miss_all(lanes, events, called),
+    }
+}
+
+// The lanes that the events may concern, where each may concern the same.
+fn touched_alike(index: &LaneIndex, events: &[Event]) -> Option<Vec<u64>>
+    ensures rising { IfSome result (λ ids. IsStrictlyIncreasing ids.items) }
+    ensures others { IfSome result (λ ids. (lanes : List (ℕ × OpenLaneData)) → IsIndexed index.now lanes → AreSilent lanes events.now ids.items) }
+{
+    let Some((first, rest)) = events.split_first() else {
+        return None;
+    };
+    let Ok(ids) = touched(index, first) else {
+        return None;
+    };
+    for event in rest {
+        if !touches(index, event, &ids) {
+            return None;
+        }
+    }
+    Some(ids)
+}
+
+// Whether these are known as the lanes that an event may concern.
+fn touches(index: &LaneIndex, event: &Event, ids: &[u64]) -> bool
+    ensures { IsTrue result → (lanes : List (ℕ × OpenLaneData)) → IsIndexed index.now lanes → AreUntold lanes event.entry.now ids.now }
+{
+    match touched(index, event) {
+        Ok(found) => found.as_slice() == ids,
+        Err(Memory) => false,
     }
 }
 

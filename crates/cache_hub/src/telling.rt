@@ -1,17 +1,16 @@
-//! Changes that lanes are told one by one. Lanes that are told the same share the piece that they are told.
+//! Changes that lanes are told lane by lane. Lanes that are told the same share the piece that they are told.
 
 ghost use Rattle.std.specs.Prelude.{◌≡◌, ◌≤◌, Bool, true, Some, [], ◌∷◌, option_map};
 ghost use Rattle.std.specs.List.Sorted.{IsStrictlyIncreasing};
 ghost use Rattle.rev_front.specs.Passes.{end_from};
 ghost use Rattle.up_api.specs.Sections.{log_of};
-ghost use Rattle.cache_hub.specs.Due.{AreReady, AreUntold, IsPieceIn, IsReady};
+ghost use Rattle.cache_hub.specs.Due.{AreReady, AreSilent, IsPieceIn, IsReady};
 ghost use Rattle.cache_hub.specs.OpenLanes.{OpenLaneData, SetsLane, AreAlike, AreTold, told_lane, open_at};
 
 use crate::open_lane::OpenLane;
 use event_ring::Event;
 use indexmap::IndexMap;
 use std::alloc::Global;
-use std::slice;
 use std::sync::Arc;
 use up_api::{LogFacts, Pass};
 use watch_lane::Piece;
@@ -39,25 +38,24 @@ pub(crate) fn tell_every<N: LogFacts>(
     }
 }
 
-/// Tells the lanes under these numbers of an event. It concerns no other lane.
+/// Tells the lanes under these numbers of events. They concern no other lane.
 pub(crate) fn tell_each<N: LogFacts>(
     lanes: &mut IndexMap<u64, OpenLane<N>>,
     alloc: Global,
     ids: &[u64],
-    event: &Event,
+    events: &[Event],
     end: u64,
     told: &mut Pass<N>,
     called: &mut Vec<u64>,
 )
     requires within { end ≤ end_from told.old.first told.old.seen }
-    requires ready { AreReady (log_of N.base told.old) end (event.now ∷ []) lanes.old.entries }
+    requires ready { AreReady (log_of N.base told.old) end events.now lanes.old.entries }
     requires rising { IsStrictlyIncreasing ids.now }
-    requires others { AreUntold lanes.old.entries event.now ids.now }
+    requires others { AreSilent lanes.old.entries events.now ids.now }
     ensures told { told.new ≡ told.old }
     ensures lanes { AreTold (log_of N.base told.old) end lanes.old.entries lanes.new.entries }
 {
     let mut last = None;
-    let events = slice::from_ref(event);
     for id in ids {
         tell_lane(lanes, alloc, *id, events, end, &mut last, told, called);
     }
