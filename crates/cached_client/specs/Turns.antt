@@ -1,5 +1,5 @@
--- What the lines of a watch are to a turn, and where it stands then.
-use Rattle.std.specs.Prelude.{◌==◌, ℕ, nat_le, length, Option, option_map, if◌then◌else◌}
+-- What the lines of a watch are to a turn, where it stands then, and whether it rests.
+use Rattle.std.specs.Prelude.{◌==◌, ℕ, Bool, not, ◌&&◌, nat_le, length, Option, option_map, if◌then◌else◌}
 use Rattle.std.specs.Global.{Vec}
 use Rattle.select_all.specs.Streams.{TransitionData}
 use Rattle.client_api.specs.declared.answers.Took.{Took}
@@ -13,3 +13,8 @@ took_of from upto lines seen = if length lines.items == 0 then Quiet upto (nat_l
 -- a watch, if there is one, at this revision
 abbrev pub moved_to : ℕ → Option Watched → Option Watched
 moved_to upto watching = option_map (λ (watched : Watched). record watched { position = upto }) watching
+
+-- Whether a watch to which nothing was sent rests: its lane isn't behind, and the revision that was loaded is neither
+-- above its position nor above what is seen.
+abbrev pub rests : Bool → ℕ → ℕ → ℕ → Bool
+rests behind loaded at seen = not behind && (nat_le loaded at && nat_le loaded seen)

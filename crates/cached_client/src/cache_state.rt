@@ -78,7 +78,8 @@ impl<N: LogFacts, One: OfResource, W: Window> Model for CacheState<N, One, W> {
 
 impl<N: LogFacts, One: OfResource, W: Window> CacheState<N, One, W> {
     /// The cache that upstream's history of the resource makes, without lanes. `pass` is given to it. It asks upstream
-    /// for as many changes at a time as the settings say.
+    /// for as many changes at a time as the settings say; its window, how that may grow, and the room of each lane are
+    /// theirs too.
     pub fn new<U: Upstream<N>>(
         alloc: Global,
         up: &mut U,
@@ -89,6 +90,9 @@ impl<N: LogFacts, One: OfResource, W: Window> CacheState<N, One, W> {
         requires window { unwrap_or W.window settings.now.window ≡ settings.now.window }
         ensures batch { IfOk result (λ cache. cache.reflector.batch ≡ settings.now.batch) }
         ensures window_is { IfOk result (λ cache. cache.hub.cache.ring.window ≡ settings.now.window) }
+        ensures window_max { IfOk result (λ cache. cache.hub.cache.ring.window_max ≡ settings.now.window_max) }
+        ensures fresh_ms { IfOk result (λ cache. cache.hub.cache.ring.fresh_ms ≡ settings.now.fresh_ms) }
+        ensures room { IfOk result (λ cache. cache.hub.lanes.room ≡ settings.now.lane) }
         ensures own { U.own up.new ≡ U.own up.old }
         ensures history { U.history up.new ≡ U.history up.old }
     {
@@ -379,6 +383,7 @@ impl<N: LogFacts, One: OfResource, W: Window> CacheState<N, One, W> {
     ) -> Result<WatchLane<N>, CatchNo>
         requires resource { selection.now.resource ≡ One.resource }
         ensures learns { Learns told.old told.new }
+        ensures served { OnOk result (self.new.hub.cache.ring.floor ≤ at) }
         ensures lost { IfErr result (IsLostAt N.base (unwrap_or W.window self.new.hub.cache.ring.window) selection.now at told.new) }
     {
         let bell = shared(bell)?;
@@ -399,6 +404,7 @@ impl<N: LogFacts, One: OfResource, W: Window> CacheState<N, One, W> {
     ) -> Result<(), CatchNo>
         requires resource { selection.now.resource ≡ One.resource }
         ensures section { IsSection self.old self.new told.old told.new }
+        ensures served { OnOk result (self.new.hub.cache.ring.floor ≤ at) }
         ensures lost { IfErr result (IsLostAt N.base (unwrap_or W.window self.new.hub.cache.ring.window) selection.now at told.new) }
         ensures own { U.own up.new ≡ U.own up.old }
         ensures history { U.history up.new ≡ U.history up.old }

@@ -12,6 +12,7 @@ ghost use Rattle.cached_client.specs.Caches.{CachesFacts, CachesState, KnowsOwn,
 ghost use Rattle.cached_client.specs.Serving.{IsFound, IsServed, IsShown, IsUnserved, found_at};
 ghost use Rattle.cached_client.specs.Watching.{IsLoadedTurn, IsLostAt};
 
+use crate::lanes::LaneSign;
 use crate::reads::Found;
 use cache_hub::CatchNo;
 use client_api::{ListNo, Took};
@@ -76,8 +77,9 @@ pub trait Reads<N: LogFacts>: Caches<N> {
 
 /// What watches ask of caches.
 pub trait Watches<N: LogFacts>: Caches<N> {
-    /// What the caches have of one watch, until it is closed.
-    type Lane;
+    /// What the caches have of one watch, until it is closed. Its sign is read behind the count of rings on which the
+    /// watcher rests then: whatever leaves the lane behind later than that rings it behind that count.
+    type Lane: LaneSign;
 
     /// The objects of the selection's resource at the end of its cache, and what the caches have of a watch from
     /// there.
@@ -121,9 +123,6 @@ pub trait Watches<N: LogFacts>: Caches<N> {
         ensures turn { IfSome result (λ sent. IfOk sent (λ took. (window : ℕ) (p : PassData RevisionData) →
             IsWatchTurn N.base window p (record { selection = selection.now; position = position }) took told.new)) }
         ensures within { Self.alone → IfSome result (λ sent. IfOk sent (λ took. TakesWithin took ((Self.cached self.new).ends selection.now.resource))) };
-
-    /// Whether a watch to which nothing was sent may rest where the log stands at its position.
-    fn may_rest(&self, lane: &Self::Lane) -> bool;
 
     /// Closes what the caches have of a watch.
     fn close(&self, lane: Self::Lane);

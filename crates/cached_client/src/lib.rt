@@ -26,7 +26,7 @@ mod windows;
 pub use answering::{get, list, measure};
 pub use cache_state::{CacheState, Turn};
 pub use caches::{Caches, Measures, Reads, Watches};
-pub use lanes::WatchLane;
+pub use lanes::{LaneSign, WatchLane};
 pub use reads::Found;
 pub use resources::{OfConfigMaps, OfDeployments, OfPods, OfResource};
 pub use turns::{heard, see_from, turn_of};

@@ -16,7 +16,9 @@ ghost use Rattle.cached_client.specs.Watching.{BeginsAtEnd, IsStartLost};
 
 use crate::answering::load;
 use crate::caches::Watches;
+use crate::lanes::LaneSign;
 use crate::start_answers::{bare, opened, unreached};
+use crate::turn_answers::rests;
 use cache_hub::CatchNo;
 use client_api::{Begun, ListNo, Took};
 use kube_meta::Memory;
@@ -181,8 +183,8 @@ fn watch_at<N: LogFacts, C: Watches<N>>(
 }
 
 /// A turn of a watch. What was sent to it comes first; where nothing was, the revision that the log has reached is
-/// loaded. Where it is at the watch's position the turn is quiet, if the watch may rest there; else the caches are
-/// asked.
+/// loaded. Where it is at the watch's position the turn is quiet, unless the watch's lane is behind: such a lane calls
+/// nobody any more, so the caches are asked then, also where there is nothing to tell.
 #[tactic(auto, using(crate::proofs::CallLemmas::loads_none, crate::proofs::CallLemmas::loads_on, crate::proofs::CallLemmas::knew, crate::proofs::CallLemmas::reads_since))]
 pub fn turn<N: LogFacts, C: Watches<N>>(
     caches: &mut C,
@@ -207,7 +209,7 @@ pub fn turn<N: LogFacts, C: Watches<N>>(
         return took;
     }
     let loaded = load(caches, told);
-    if caches.may_rest(&watch.lane) && loaded <= watch.position && loaded <= told.end() {
+    if rests(watch.lane.is_behind(), loaded, watch.position, told.end()) {
         return Ok(quiet(told, watch.position));
     }
     let took = caches.turn(

@@ -164,10 +164,6 @@ impl<N: LogFacts> Watches<N> for SoleCaches<N> {
         None
     }
 
-    fn may_rest(&self, _lane: &()) -> bool {
-        true
-    }
-
     fn close(&self, _lane: ()) {}
 
     fn turn(
