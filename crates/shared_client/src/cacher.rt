@@ -7,25 +7,30 @@ ghost use Rattle.rev_log.specs.Logs.{Fits};
 ghost use Rattle.up_api.specs.Sections.{Learns};
 ghost use Rattle.up_api.specs.Settings.{AreInRange};
 
-use crate::client::SharedClient;
+use crate::client::{SharedClient, WriteDoor};
 use bells::Bell;
 use cached_client::{CacheState, OfConfigMaps, OfDeployments, OfPods, OfResource};
 use kube_meta::Memory;
 use std::alloc::Global;
+use std::sync::atomic::AtomicU64;
+use std::sync::atomic::Ordering::SeqCst;
 use std::sync::{Arc, Mutex, Wait};
 use up_api::{LogFacts, Pass, Settings};
-use up_store::StoreDoor;
+use up_store::{ReadDoor, StoreDoor};
 
 /// A cache of each resource of one log, each behind a lock of its own. It is shared by reference among threads, and
-/// each of them makes clients of its own.
+/// each of them makes clients of its own. The caches are fed through a door that only reads; the one that writes is its
+/// clients' own.
 #[derive(Drop)]
 pub struct Cacher<N: LogFacts, R: Wait + Copy> {
     pub(crate) rt: R,
     pub(crate) alloc: Global,
-    pub(crate) door: StoreDoor<N, R>,
+    pub(crate) write_door: WriteDoor<N, R>,
     pub(crate) pods: Mutex<CacheState<N, OfPods>>,
     pub(crate) config_maps: Mutex<CacheState<N, OfConfigMaps>>,
     pub(crate) deployments: Mutex<CacheState<N, OfDeployments>>,
+    // Up to which revision the caches were fed last; before they were at all, the greatest number.
+    fed: AtomicU64,
 }
 
 impl<N: LogFacts, R: Wait + Copy> Cacher<N, R> {
@@ -39,18 +44,19 @@ impl<N: LogFacts, R: Wait + Copy> Cacher<N, R> {
         requires settings { AreInRange settings.now }
         requires window { N.window ≡ settings.now.window }
     {
-        let mut door = door;
-        let pods = locked(alloc, &mut door, settings);
-        let config_maps = locked(alloc, &mut door, settings);
-        let deployments = locked(alloc, &mut door, settings);
+        let mut reader = door.reader()?;
+        let pods = locked(alloc, &mut reader, settings);
+        let config_maps = locked(alloc, &mut reader, settings);
+        let deployments = locked(alloc, &mut reader, settings);
         match (pods, config_maps, deployments) {
             (Ok(pods), Ok(config_maps), Ok(deployments)) => Ok(Cacher {
                 rt,
                 alloc,
-                door,
+                write_door: WriteDoor::new(door),
                 pods,
                 config_maps,
                 deployments,
+                fed: AtomicU64::new(u64::MAX),
             }),
             _ => Err(Memory),
         }
@@ -74,7 +80,7 @@ impl<N: LogFacts, R: Wait + Copy> Cacher<N, R> {
     pub fn pass(&self) -> Result<Pass<N>, Memory>
         ensures { IfOk result (λ p. (whole : Whole RevisionData) × (p ≡ pass_from whole p.seat)) }
     {
-        self.door.pass()
+        self.write_door.pass()
     }
 
     /// Loads the revision that the log has reached, brings each cache there, and gives the bells of the lanes that
@@ -84,7 +90,7 @@ impl<N: LogFacts, R: Wait + Copy> Cacher<N, R> {
         ensures extends { Extends told.old told.new }
     {
         let until = told.look();
-        let mut door = self.door.again()?;
+        let mut door = self.write_door.reader()?;
         let pods = self.pods.lock(&self.rt).feed(&mut door, told, until, calls);
         let config_maps = self
             .config_maps
@@ -94,7 +100,14 @@ impl<N: LogFacts, R: Wait + Copy> Cacher<N, R> {
             .deployments
             .lock(&self.rt)
             .feed(&mut door, told, until, calls);
+        self.fed.store(until, SeqCst);
         pods.and(config_maps).and(deployments)
+    }
+
+    /// Whether nobody is on the way to feed the caches with what the log has up to a revision, as far as is known. No
+    /// contract speaks of it.
+    pub(crate) fn is_fed(&self, upto: u64) -> bool {
+        upto <= self.fed.load(SeqCst)
     }
 
     /// Tells each cache the time, in milliseconds, by which the age of its events is judged. It never goes back.
@@ -110,12 +123,12 @@ impl<N: LogFacts, R: Wait + Copy> Cacher<N, R> {
         ensures learns { Learns told.old told.new }
         ensures floor { IfOk result (λ floor. (told.old.floor ≤ floor) × (floor ≤ told.new.floor)) }
     {
-        let mut door = self.door.again()?;
+        let mut door = self.write_door.reader()?;
         self.rebuild_each(&mut door, told)
     }
 
     // The same, through this door.
-    fn rebuild_each(&self, door: &mut StoreDoor<N, R>, told: &mut Pass<N>) -> Result<u64, Memory>
+    fn rebuild_each(&self, door: &mut ReadDoor<N, R>, told: &mut Pass<N>) -> Result<u64, Memory>
         ensures learns { Learns told.old told.new }
         ensures floor { IfOk result (λ floor. (told.old.floor ≤ floor) × (floor ≤ told.new.floor)) }
     {
@@ -128,7 +141,7 @@ impl<N: LogFacts, R: Wait + Copy> Cacher<N, R> {
 // The cache of one resource behind its lock.
 fn locked<N: LogFacts, R: Wait + Copy, One: OfResource>(
     alloc: Global,
-    door: &mut StoreDoor<N, R>,
+    door: &mut ReadDoor<N, R>,
     settings: &Settings,
 ) -> Result<Mutex<CacheState<N, One>>, Memory>
     requires settings { AreInRange settings.now }

@@ -4,6 +4,8 @@ ghost use Rattle.std.specs.Prelude.{◌≡◌, ◌≤◌, None, IfOk};
 ghost use Rattle.rev_front.specs.Passes.{IsPass, Whole, pass_from};
 ghost use Rattle.rev_log.specs.Changes.{RevisionData};
 ghost use Rattle.rev_log.specs.Logs.{Fits};
+ghost use Rattle.up_api.specs.Sections.{Learns};
+ghost use Rattle.up_store.specs.Replies.{IsOperationReply};
 
 use crate::cacher::Cacher;
 use crate::shared::SharedCaches;
@@ -15,11 +17,40 @@ use list_rules::{GetAsk, ListAsk};
 use metrics::Metrics;
 use std::sync::{Arc, Wait};
 use up_api::{LogFacts, Pass};
-use up_store::{OpNo, Operate, Transaction, TxWriteNo, WriteAsk, WriteNo, Written};
+use up_store::{
+    OpNo, Operate, ReadDoor, StoreDoor, Transaction, TxWriteNo, WriteAsk, WriteNo, Written,
+};
 use watch_rules::WatchAsk;
 
-/// One of many clients of a log. It answers from the caches of its `Cacher`, which it shares with the others, and has
-/// a pass and a door to the store of its own, and the bell that ends the rests of its watches, if there is one.
+/// The door to the store by which the clients of a `Cacher` write. Nobody else can open it, so nothing but a client
+/// writes to the log, cuts its feeds or compacts it.
+#[derive(Drop)]
+pub(crate) struct WriteDoor<N: LogFacts, R: Wait + Copy> {
+    door: StoreDoor<N, R>,
+}
+
+impl<N: LogFacts, R: Wait + Copy> WriteDoor<N, R> {
+    /// The same door, for clients alone.
+    pub fn new(door: StoreDoor<N, R>) -> WriteDoor<N, R> {
+        WriteDoor { door }
+    }
+
+    /// A door for who reads and follows the log.
+    pub fn reader(&self) -> Result<ReadDoor<N, R>, Memory> {
+        self.door.reader()
+    }
+
+    /// A pass that knows the whole log.
+    pub fn pass(&self) -> Result<Pass<N>, Memory>
+        ensures { IfOk result (λ p. (whole : Whole RevisionData) × (p ≡ pass_from whole p.seat)) }
+    {
+        self.door.pass()
+    }
+}
+
+/// One of many clients of a log. It answers from the caches of its `Cacher` and writes by the door there, which it
+/// shares with the others, and has a pass of its own, a door to read the store by, and the bell that ends the rests of
+/// its watches, if there is one.
 ///
 /// Its lane is closed when its watch ends, and when it is let go.
 pub struct SharedClient<'a, N: LogFacts, R: Wait + Copy> {
@@ -36,8 +67,8 @@ impl<'a, N: LogFacts, R: Wait + Copy> SharedClient<'a, N, R> {
         ensures pass { IfOk result (λ client. (whole : Whole RevisionData) × (client.told ≡ pass_from whole client.told.seat)) }
         ensures lawful { IfOk result (λ client. IsPass Fits client.told) }
     {
-        let door = cacher.door.again()?;
-        let told = cacher.door.pass()?;
+        let door = cacher.write_door.reader()?;
+        let told = cacher.write_door.pass()?;
         let _known = told.shown();
         Ok(SharedClient {
             caches: SharedCaches {
@@ -103,13 +134,15 @@ impl<N: LogFacts, R: Wait + Copy> Client for SharedClient<'_, N, R> {
     ghost times = { λ _ _. None };
 
     fn write(&mut self, ask: &WriteAsk) -> Result<Written, WriteNo> {
-        let answer = self.caches.door.write(ask, &mut self.told);
+        let cacher = self.caches.cacher;
+        let answer = cacher.write_door.door.write(ask, &mut self.told);
         let _known = self.told.shown();
         answer
     }
 
     fn transact(&mut self, ask: &Transaction) -> Result<Vec<Written>, TxWriteNo> {
-        let answer = self.caches.door.transact(ask, &mut self.told);
+        let cacher = self.caches.cacher;
+        let answer = cacher.write_door.door.transact(ask, &mut self.told);
         let _known = self.told.shown();
         answer
     }
@@ -144,7 +177,7 @@ impl<N: LogFacts, R: Wait + Copy> Client for SharedClient<'_, N, R> {
     }
 
     fn operate(&mut self, ask: Operate) -> Result<u64, OpNo> {
-        let answer = self.caches.operate(ask, &mut self.told);
+        let answer = operated(self.caches.cacher, ask, &mut self.told);
         let _known = self.told.shown();
         answer
     }
@@ -164,5 +197,22 @@ impl<N: LogFacts, R: Wait + Copy> Client for SharedClient<'_, N, R> {
 
     fn tick(&mut self, ms: u64) {
         self.heard = self.heard.max(ms);
+    }
+}
+
+// Does an operation. Where all open watches are to end, that is up to whoever serves them.
+fn operated<N: LogFacts, R: Wait + Copy>(
+    cacher: &Cacher<N, R>,
+    ask: Operate,
+    told: &mut Pass<N>,
+) -> Result<u64, OpNo>
+    ensures learns { Learns told.old told.new }
+    ensures reply { IsOperationReply told.old ask result told.new }
+{
+    match ask {
+        Operate::Cut => cacher.write_door.door.drop_feeds(told),
+        Operate::Compact { at } => cacher.write_door.door.compact(at, told),
+        Operate::Restart => Ok(cacher.restart(told)?),
+        Operate::Disconnect => Ok(told.floor()),
     }
 }

@@ -2,13 +2,13 @@
 
 ghost use Rattle.std.specs.Prelude.{◌≡◌, ◌≤◌, IfOk, IfErr, IfSome};
 ghost use Rattle.up_api.specs.Sections.{Learns};
-ghost use Rattle.up_store.specs.Replies.{IsOperationReply};
 ghost use Rattle.select_all.specs.declared.selection.Selection.{Selection as SelectionData};
+ghost use Rattle.watch_lane.specs.Batches.{IsBatch};
 ghost use Rattle.cached_client.specs.Watching.{IsLoadedTurn, IsLostAt, IsTold};
 
 use crate::cacher::Cacher;
 use crate::lanes::{next_batch, received};
-use bells::Bell;
+use bells::{Bell, NO_PEER};
 use cache_hub::{CatchNo, Caught};
 use cached_client::{
     Caches, Found, Measures, Reads, Turn, Watch, WatchLane, Watches, heard, see_from, turn_of,
@@ -21,7 +21,14 @@ use select_all::{Meaning, Selection};
 use std::alloc::Global;
 use std::sync::{Arc, Wait};
 use up_api::{LogFacts, Pass, UpNo};
-use up_store::{OpNo, Operate, StoreDoor};
+use up_store::ReadDoor;
+use watch_lane::Batch;
+
+// How often a turn looks for what is under way to its lane, and for how many milliseconds it rests behind the first
+// look; each other rest takes twice as long as the one before.
+const MOST_LOOKS: u64 = 7;
+
+const LOOK_MS: u64 = 10;
 
 // Calls this of the cache of a resource, which is locked meanwhile.
 macro_rules! with_cache {
@@ -34,12 +41,12 @@ macro_rules! with_cache {
     };
 }
 
-/// The caches of a `Cacher` as one client has them, with a door to the store of its own, and the bell that ends the
-/// rests of its watches, if there is one.
+/// The caches of a `Cacher` as one client has them, with a door of its own through which the store is read, and the
+/// bell that ends the rests of its watches, if there is one.
 #[derive(Drop)]
 pub struct SharedCaches<'a, N: LogFacts, R: Wait + Copy> {
     pub(crate) cacher: &'a Cacher<N, R>,
-    pub(crate) door: StoreDoor<N, R>,
+    pub(crate) door: ReadDoor<N, R>,
     pub(crate) bell: Option<Arc<Bell>>,
 }
 
@@ -58,19 +65,6 @@ impl<N: LogFacts, R: Wait + Copy> SharedCaches<'_, N, R> {
                 lane,
             } = watch;
             self.close(lane);
-        }
-    }
-
-    /// Does an operation. Where all open watches are to end, that is up to whoever serves them.
-    pub fn operate(&mut self, ask: Operate, told: &mut Pass<N>) -> Result<u64, OpNo>
-        ensures learns { Learns told.old told.new }
-        ensures reply { IsOperationReply told.old ask result told.new }
-    {
-        match ask {
-            Operate::Cut => self.door.drop_feeds(told),
-            Operate::Compact { at } => self.door.compact(at, told),
-            Operate::Restart => Ok(self.cacher.restart(told)?),
-            Operate::Disconnect => Ok(told.floor()),
         }
     }
 
@@ -108,6 +102,37 @@ impl<N: LogFacts, R: Wait + Copy> SharedCaches<'_, N, R> {
             selection.resource,
             turn_by_ring(door, told, selection, turn)
         )
+    }
+
+    // The next batch of a lane that isn't behind, where whoever feeds the caches is on the way with the log up to a
+    // revision and brings one soon. So where much is written each watch waits at its own bell, and not all at the
+    // cache's lock. Whether the caches are fed, and the rings, are read before the lane is: what was told is seen, and
+    // what is told later rings behind the count (`Bell`).
+    fn under_way(
+        &self,
+        lane: &mut WatchLane<N>,
+        selection: &Selection,
+        position: u64,
+        upto: u64,
+    ) -> Option<Batch<N>>
+        ensures batch { IfSome result (IsBatch N.base) }
+        ensures goes_on { IfSome result (λ batch. (batch.from ≡ position) × (batch.selection ≡ selection.now)) }
+    {
+        let Some(bell) = &self.bell else {
+            return None;
+        };
+        let mut ms = LOOK_MS;
+        for _ in 0..MOST_LOOKS {
+            let count = bell.count();
+            let is_all = self.cacher.is_fed(upto) || lane.out.is_behind();
+            let batch = next_batch(&mut lane.out, selection, position);
+            if batch.is_some() || is_all {
+                return batch;
+            }
+            bell.rest(&self.cacher.rt, count, &NO_PEER, ms);
+            ms = ms.saturating_mul(2);
+        }
+        None
     }
 
     // A turn at which a batch came into the lane since the lane was asked. It was pushed under the lock, so it is
@@ -227,13 +252,6 @@ impl<N: LogFacts, R: Wait + Copy> Watches<N> for SharedCaches<'_, N, R> {
         }
     }
 
-    // The sign is read behind the count of rings on which the watcher rests then. So whatever leaves the lane behind
-    // later than this calls the watcher behind that count, and ends its rest. A lane that is behind already calls
-    // nobody any more: its watcher has to catch up under the lock, also where there is nothing to tell.
-    fn may_rest(&self, lane: &WatchLane<N>) -> bool {
-        !lane.out.is_behind()
-    }
-
     fn close(&self, lane: WatchLane<N>) {
         let WatchLane {
             resource,
@@ -252,6 +270,10 @@ impl<N: LogFacts, R: Wait + Copy> Watches<N> for SharedCaches<'_, N, R> {
         max: usize,
         ms: u64,
     ) -> Result<Took, Memory> {
+        let upto = told.shown();
+        if let Some(batch) = self.under_way(lane, selection, position, upto) {
+            return received(self.cacher.alloc, told, batch);
+        }
         let turn = Turn {
             lane: lane.id,
             at: position,
