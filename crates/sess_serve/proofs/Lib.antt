@@ -4,3 +4,6 @@ pub mod Session
 pub mod Exact
 pub mod Ending
 pub mod WatchLemmas
+pub mod EachSession
+pub mod EachRounds
+pub mod EachPaths

@@ -27,20 +27,20 @@ use Rattle.sess_serve.specs.Serving.{Given, Exchanged, AnsweredAs, Answered, End
 use Rattle.sess_serve.specs.declared.ends.SessionEnd.{SessionEnd}
 use Rattle.sess_serve.specs.declared.ends.SessionEnd.TheVariants.{Done, Watched, ReadFault, WriteFault, CutShort, Refused, TooMany, Memory}
 
-module _ (terms : Terms) (whole : Type 0) (p q : Pass RevisionData) (old_reader new_reader : ReaderState) (old new : Ends) (f f' : ℕ) (g g' : ℕ) where
+module _ (Of : Req → Type 0) (terms : Terms) (whole : Type 0) (p q : Pass RevisionData) (old_reader new_reader : ReaderState) (old new : Ends) (f f' : ℕ) (g g' : ℕ) where
   -- ---- a request was read and answered
 
-  module _ (bytes after written : List ℕ) (readings : List Reading) (req : Req) (reads : ReadsOne bytes req after) where
+  module _ (bytes after written : List ℕ) (readings : List Reading) (req : Req) (is_of : Of req) (reads : ReadsOne bytes req after) where
     -- what was begun for the request is what was begun for the bytes
     lacking : (q.seen ≡ p.seen) ⊎ IsSomeAnd terms.sole_history (λ history. Begins terms history p req q) → SoleMemory terms p bytes q
     lacking (inl same) = inl same
     lacking (inr done) = inr (req, after, reads, done)
 
-    abbrev one : Given terms whole p req readings q → Exchanged terms whole p bytes after readings q
-    one given = record { request = req; reads = reads; given = given }
+    abbrev one : Given terms whole p req readings q → Exchanged Of terms whole p bytes after readings q
+    one given = record { request = req; is = is_of; reads = reads; given = given }
 
     goes : (s t : Type 0) (came : Result (Option WatchEnd) Broken) (close : Bool) → req.close ≡ close → AnsweredAs terms whole p req written readings q came
-        → Counts came (sent_of old.written new.written s t g g') → RoundIs terms whole p bytes after written readings q (Rose f f') (Rose g g') new.left
+        → Counts came (sent_of old.written new.written s t g g') → RoundIs Of terms whole p bytes after written readings q (Rose f f') (Rose g g') new.left
         (end_after came close)
     goes s t (Ok None) true closes (given, replied, out) counts = inl (one given, record { closes = closes; by_reply = replied }, out)
     goes s t (Ok None) false closes (given, replied, out) counts = (one given, record { open_ = closes; by_reply = replied }, out)
@@ -48,22 +48,22 @@ module _ (terms : Terms) (whole : Type 0) (p q : Pass RevisionData) (old_reader 
     goes s t (Err broken.Fault) close closes (given, begun) counts = (counts, inl (one given, begun))
     goes s t (Err broken.Memory) close closes (inl (given, begun)) counts = inl (one given, begun)
     goes s t (Err broken.Memory) close closes (inr un) counts =
-        inr (inr (record { nothing = un.nothing; unread = un.unread; onward = un.onward; sole = λ w. lacking (un.sole w) }))
+        inr (inr (record { nothing = un.nothing; unread = un.unread; onward = un.onward; asked = inr (req, after, reads, is_of); sole = λ w. lacking (un.sole w) }))
 
-  pub round-answered : (s t : Type 0) (req : Req) (came : Result (Option WatchEnd) Broken) (result : Option SessionEnd)
+  pub round-answered : (s t : Type 0) (req : Req) (is_of : Of req) (came : Result (Option WatchEnd) Broken) (result : Option SessionEnd)
       → AnswersNext old_reader new_reader old.left new.left f f' (Ok (Some req))
       → Answered terms whole p req (record { readings_old = old.readings; readings_new = new.readings; sent = sent_of old.written new.written s t g g' }) q came
       → result ≡ end_after came req.close
-      → IsRound terms whole p old_reader.kept new_reader.kept old new (Rose f f') (Rose g g') q result
-  round-answered s t req came result reading answered is = record {
+      → IsRound Of terms whole p old_reader.kept new_reader.kept old new (Rose f f') (Rose g g') q result
+  round-answered s t req is_of came result reading answered is = record {
     taken = reading.taken;
     written = answered.written;
     readings = answered.readings;
     source = reading.left;
     sink = answered.sink;
     noted = answered.noted;
-    round = subst (RoundIs terms whole p (old_reader.kept ++ reading.taken) new_reader.kept answered.written answered.readings q (Rose f f') (Rose g g') new.left) (sym is)
-        (goes (old_reader.kept ++ reading.taken) new_reader.kept answered.written answered.readings req reading.answers s t came req.close refl
+    round = subst (RoundIs Of terms whole p (old_reader.kept ++ reading.taken) new_reader.kept answered.written answered.readings q (Rose f f') (Rose g g') new.left) (sym is)
+        (goes (old_reader.kept ++ reading.taken) new_reader.kept answered.written answered.readings req is_of reading.answers s t came req.close refl
         answered.answered answered.counts);
   }
 
@@ -74,7 +74,7 @@ module _ (terms : Terms) (whole : Type 0) (p q : Pass RevisionData) (old_reader 
     noted = subst (λ (x : Option (List Reading)). Noted old.readings x []) (sym unread) (Noted-nil old.readings)
 
     pub round-clean : new.written ≡ old.written → AnswersNext old_reader new_reader old.left new.left f f' (Ok None)
-        → IsRound terms whole p old_reader.kept new_reader.kept old new (Rose f f') (Rose g g') q (Some Done)
+        → IsRound Of terms whole p old_reader.kept new_reader.kept old new (Rose f f') (Rose g g') q (Some Done)
     round-clean still reading = record {
       taken = reading.taken;
       written = [];
@@ -86,7 +86,7 @@ module _ (terms : Terms) (whole : Type 0) (p q : Pass RevisionData) (old_reader 
     }
 
     refuses : (s t : Type 0) (bytes after written : List ℕ) (fault : ReqNo) (how : SessionEnd) → IsRefused bytes fault → RefusalEnds fault written how → CountsAt how (sent_of old.written new.written s t g g')
-        → RoundIs terms whole p bytes after written [] q (Rose f f') (Rose g g') new.left (Some how)
+        → RoundIs Of terms whole p bytes after written [] q (Rose f f') (Rose g g') new.left (Some how)
     refuses s t bytes after written fault (Refused told) refused ends counts = (ends.1 ∙ ap request_refusal_text (sym ends.0), subst (IsRefused bytes) (sym ends.0) refused, refl, same)
     refuses s t bytes after written fault WriteFault refused ends counts = (counts, inr (fault, refused, ends, refl, same))
     refuses s t bytes after written fault Memory refused ends counts = inr (inl (fault, refused, ends, refl, same))
@@ -97,7 +97,7 @@ module _ (terms : Terms) (whole : Type 0) (p q : Pass RevisionData) (old_reader 
     refuses s t bytes after written fault TooMany refused ends counts = absurd ends
 
     pub stops : (s t : Type 0) (bytes after written : List ℕ) (fault : ReqNo) (how : SessionEnd) → ReadsNext bytes (Err fault) after new.left f f' → StopsAs fault written how → CountsAt how (sent_of old.written new.written s t g g')
-        → RoundIs terms whole p bytes after written [] q (Rose f f') (Rose g g') new.left (Some how)
+        → RoundIs Of terms whole p bytes after written [] q (Rose f f') (Rose g g') new.left (Some how)
     stops s t bytes after written req_no.CutShort how reads (none, is) counts = rw is ((none, refl, same), reads.0, reads.1)
     stops s t bytes after written req_no.ReadFault how reads (none, is) counts = rw is ((none, refl, same), reads.1, reads.0)
     stops s t bytes after written req_no.Memory how reads (none, is) counts =
@@ -105,6 +105,7 @@ module _ (terms : Terms) (whole : Type 0) (p q : Pass RevisionData) (old_reader 
           nothing = none;
           unread = refl;
           onward = subst (IsOnward p) same (onwards_do_join.0 p);
+          asked = inl same;
           sole = λ w. inl (ap (λ (a : Pass RevisionData). a.seen) (sym same));
         })))
     stops s t bytes after written req_no.Malformed how reads ends counts = refuses s t bytes after written req_no.Malformed how reads ends counts
@@ -115,7 +116,7 @@ module _ (terms : Terms) (whole : Type 0) (p q : Pass RevisionData) (old_reader 
 
     pub round-stopped : (s t : Type 0) (fault : ReqNo) (how : SessionEnd) → AnswersNext old_reader new_reader old.left new.left f f' (Err fault)
         → IsStopped fault (sent_of old.written new.written s t g g') how
-        → IsRound terms whole p old_reader.kept new_reader.kept old new (Rose f f') (Rose g g') q (Some how)
+        → IsRound Of terms whole p old_reader.kept new_reader.kept old new (Rose f f') (Rose g g') q (Some how)
     round-stopped s t fault how reading stopped = record {
       taken = reading.taken;
       written = stopped.written;

@@ -1,5 +1,5 @@
 -- How a session goes on by one request, and how it ends.
-use Rattle.std.proofs.Common.{◌≡◌, ◌∙◌, ◌++◌, ℕ, ◌+◌, ◌<◌, Bool, List, [], ◌∷◌, length, Option, Some, None, refl, sym, ap, subst, inl, inr, arith}
+use Rattle.std.proofs.Common.{◌≡◌, ◌∙◌, ◌++◌, ℕ, ◌+◌, ◌<◌, Bool, ◌⊎◌, List, [], ◌∷◌, length, Option, Some, None, refl, sym, ap, subst, inl, inr, arith}
 use Rattle.std.specs.Prelude.{All}
 use Rattle.std.proofs.lemmas.List.{append_assoc, append-nil, length-append}
 use Rattle.std.proofs.lemmas.Grind.{flat_map-append}
@@ -9,6 +9,7 @@ use Rattle.edge_io.specs.Told.{prepended, appended, Noted}
 use Rattle.edge_io.specs.declared.clock.Reading.{Reading}
 use Rattle.edge_io.proofs.ToldLemmas.{appended-appended, appended-nil, prepended-prepended, prepended-nil, Noted-nil, Noted-join}
 use Rattle.http_read.specs.Requests.{ReadsOne, ReadsSome}
+use Rattle.http_read.specs.declared.request.Req.{Req}
 use Rattle.http_read.proofs.EndingLemmas.{some-stay}
 use Rattle.kube_meta.specs.Rows.{RowData}
 use Rattle.up_api.specs.declared.settings.Settings.{Settings}
@@ -25,21 +26,21 @@ use Rattle.sess_serve.specs.Steps.{Exchange, Step, Run, AreAlone, IsAlone}
 use Rattle.sess_serve.specs.Texts.{answer_text, answer_texts, answer_bytes}
 use Rattle.sess_serve.specs.Ends.{Traffic, Stays, IsKeptOpen, Last, BrokenOff, BrokenRefusal, Ended, Knows, KnowsAlone}
 use Rattle.sess_serve.specs.Session.{IsSession, requests_of, readings_in}
-use Rattle.sess_serve.specs.Serving.{Exchanged, exchange_of, RefusalBegun, RoundIs, IsRound, Ends}
+use Rattle.sess_serve.specs.Serving.{Exchanged, exchange_of, BeginsWith, RefusalBegun, RoundIs, IsRound, Ends}
 
 -- ---- one more at the end
 
-reads-push : (bytes mid rest : List ℕ) (es : List Exchange) (e : Exchange) → ReadsSome bytes (requests_of es) mid → ReadsOne mid e.request rest
+pub reads-push : (bytes mid rest : List ℕ) (es : List Exchange) (e : Exchange) → ReadsSome bytes (requests_of es) mid → ReadsOne mid e.request rest
     → ReadsSome bytes (requests_of (es ++ e ∷ [])) rest
 reads-push bytes mid rest [] e same one = (rest, subst (λ b. ReadsOne b e.request rest) (sym same) one, refl)
 reads-push bytes mid rest (f ∷ es) e (after, first, others) one = (after, first, reads-push after mid rest es e others one)
 
-run-push : (terms : Terms) (p mid : Pass RevisionData) (es : List Exchange) (e : Exchange) → Run terms p es mid → Step terms mid e
+pub run-push : (terms : Terms) (p mid : Pass RevisionData) (es : List Exchange) (e : Exchange) → Run terms p es mid → Step terms mid e
     → Run terms p (es ++ e ∷ []) e.pass
 run-push terms p mid [] e same step = (subst (λ a. Step terms a e) (sym same) step, refl)
 run-push terms p mid (f ∷ es) e (first, others) step = (first, run-push terms f.pass mid es e others step)
 
-alone-push : (terms : Terms) (p mid : Pass RevisionData) (es : List Exchange) (e : Exchange) → Run terms p es mid → AreAlone terms p es
+pub alone-push : (terms : Terms) (p mid : Pass RevisionData) (es : List Exchange) (e : Exchange) → Run terms p es mid → AreAlone terms p es
     → IsAlone terms mid e.answer e.pass → AreAlone terms p (es ++ e ∷ [])
 alone-push terms p mid [] e same all sole = (subst (λ a. IsAlone terms a e.answer e.pass) (sym same) sole, tt)
 alone-push terms p mid (f ∷ es) e (first, others) all sole = (all.0, alone-push terms f.pass mid es e others all.1 sole)
@@ -59,18 +60,38 @@ prefix-after front text written begun all whole is (rest, e) same out =
 -- ---- what was done so far
 
 -- n requests were answered, and none of them ended the session
-pub record Sofar (terms : Terms) (whole : Type 0) (p : Pass RevisionData) (taken written : List ℕ) (readings : List Reading) (kept : List ℕ) (q : Pass RevisionData) (n : ℕ) : Type 0 where
+pub record Sofar (terms : Terms) (taken written : List ℕ) (readings : List Reading) (kept : List ℕ) (n : ℕ) : Type 0 where
   pub exchanges : List Exchange
   pub reads : ReadsSome taken (requests_of exchanges) kept
-  pub run : Run terms p exchanges q
-  pub sole : whole → AreAlone terms p exchanges
   pub text : written ≡ answer_texts terms exchanges
   pub readings_are : readings ≡ readings_in exchanges
   pub stay : All Stays exchanges
   pub count : length exchanges ≡ n
 
-module _ (terms : Terms) (whole now : Type 0) (still : whole → now) (p : Pass RevisionData) (taken written : List ℕ) (readings : List Reading) (kept : List ℕ) (q : Pass RevisionData) (n : ℕ)
-    (sofar : Sofar terms whole p taken written readings kept q n) (more : List ℕ) (text : List ℕ) (times : List Reading) (after : List ℕ) (q' : Pass RevisionData) where
+-- what a session says beside what is known of its log
+pub record Finished (terms : Terms) (exchanges : List Exchange) (rest : List ℕ) (traffic : Traffic) (how : SessionEnd) : Type 0 where
+  pub reads : ReadsSome traffic.taken (requests_of exchanges) rest
+  pub readings : traffic.readings ≡ readings_in exchanges
+  pub ended : Ended terms exchanges rest traffic how
+
+abbrev pub none-sofar : (terms : Terms) (kept : List ℕ) → kept ≡ [] → Sofar terms [] [] [] kept 0
+none-sofar terms kept none = record { exchanges = []; reads = sym none; text = refl; readings_are = refl; stay = All-nil Stays; count = refl }
+
+-- as many requests as are allowed were answered
+pub full : (terms : Terms) (taken written : List ℕ) (readings : List Reading) (kept : List ℕ) (n : ℕ) (read_fault write_fault : Type 0) (left : Option (List ℕ))
+    (sofar : Sofar terms taken written readings kept n) → n ≡ terms.settings.requests
+    → Finished terms sofar.exchanges kept (record { taken = taken; written = written; readings = readings; read_fault = read_fault; write_fault = write_fault; left = left }) TooMany
+full terms taken written readings kept n read_fault write_fault left sofar same =
+    record { reads = sofar.reads; readings = sofar.readings_are; ended = (sofar.text, sofar.stay, sofar.count ∙ same) }
+
+-- there was no memory before the first request
+pub none-finished : (terms : Terms) (v w : Type 0) (left : Option (List ℕ)) → 0 < terms.settings.requests
+    → Finished terms [] [] (record { taken = []; written = []; readings = []; read_fault = v; write_fault = w; left = left }) Memory
+none-finished terms v w left room = record { reads = refl; readings = refl; ended = inl (refl, record { stay = All-nil Stays; few = room }) }
+
+-- one more request, over a log of which this is told, by whose terms answers are written as by those of the session
+module _ (terms own : Terms) (alike : (e : Exchange) → answer_text own e ≡ answer_text terms e) (Of : Req → Type 0) (now : Type 0) (taken written : List ℕ) (readings : List Reading) (kept : List ℕ) (n : ℕ)
+    (sofar : Sofar terms taken written readings kept n) (more : List ℕ) (text : List ℕ) (times : List Reading) (after : List ℕ) (q q' : Pass RevisionData) where
   reads' : ReadsSome (taken ++ more) (requests_of sofar.exchanges) (kept ++ more)
   reads' = some-stay taken more (requests_of sofar.exchanges) kept sofar.reads
 
@@ -78,58 +99,50 @@ module _ (terms : Terms) (whole now : Type 0) (still : whole → now) (p : Pass 
   goes-on room = record { stay = sofar.stay; few = subst (λ k. k < terms.settings.requests) (sym sofar.count) room }
 
   -- with one more exchange
-  module _ (x : Exchanged terms now q (kept ++ more) after times q') where
-    abbrev last : Exchange
-    last = exchange_of x.request x.given.answer q'
+  module _ (x : Exchanged Of own now q (kept ++ more) after times q') where
+    abbrev last-exchange : Exchange
+    last-exchange = exchange_of x.request x.given.answer q'
 
     abbrev pushed : List Exchange
-    pushed = sofar.exchanges ++ last ∷ []
+    pushed = sofar.exchanges ++ last-exchange ∷ []
 
-    pushed-reads : ReadsSome (taken ++ more) (requests_of pushed) after
-    pushed-reads = reads-push (taken ++ more) (kept ++ more) after sofar.exchanges last reads' x.reads
+    pub pushed-reads : ReadsSome (taken ++ more) (requests_of pushed) after
+    pushed-reads = reads-push (taken ++ more) (kept ++ more) after sofar.exchanges last-exchange reads' x.reads
 
-    pushed-run : Run terms p pushed q'
-    pushed-run = run-push terms p q sofar.exchanges last sofar.run (record { answers = x.given.answers; says = x.given.says; onward = x.given.onward })
-
-    pushed-sole : whole → AreAlone terms p pushed
-    pushed-sole w = alone-push terms p q sofar.exchanges last sofar.run (sofar.sole w) (x.given.sole (still w))
-
-    pushed-readings : readings ++ times ≡ readings_in pushed
+    pub pushed-readings : readings ++ times ≡ readings_in pushed
     pushed-readings =
         ap (λ r. r ++ times) sofar.readings_are ∙ ap (λ t. readings_in sofar.exchanges ++ t) x.given.readings_are
-        ∙ sym (readings-push sofar.exchanges last)
+        ∙ sym (readings-push sofar.exchanges last-exchange)
 
-    pushed-text : text ≡ answer_bytes terms x.request x.given.answer → written ++ text ≡ answer_texts terms pushed
+    pub pushed-text : text ≡ answer_bytes own x.request x.given.answer → written ++ text ≡ answer_texts terms pushed
     pushed-text e =
-        ap (λ w. w ++ text) sofar.text ∙ ap (λ t. answer_texts terms sofar.exchanges ++ t) e ∙ sym (texts-push terms sofar.exchanges last)
+        ap (λ w. w ++ text) sofar.text ∙ ap (λ t. answer_texts terms sofar.exchanges ++ t) (e ∙ alike last-exchange)
+        ∙ sym (texts-push terms sofar.exchanges last-exchange)
 
-    next : Stays last → text ≡ answer_bytes terms x.request x.given.answer
-        → Sofar terms whole p (taken ++ more) (written ++ text) (readings ++ times) after q' (n + 1)
+    abbrev pub next : Stays last-exchange → text ≡ answer_bytes own x.request x.given.answer → Sofar terms (taken ++ more) (written ++ text) (readings ++ times) after (n + 1)
     next stays e = record {
       exchanges = pushed;
       reads = pushed-reads;
-      run = pushed-run;
-      sole = pushed-sole;
       text = pushed-text e;
       readings_are = pushed-readings;
-      stay = All-push Stays sofar.exchanges last sofar.stay stays;
-      count = length-append sofar.exchanges (last ∷ []) ∙ ap (λ k. k + 1) sofar.count;
+      stay = All-push Stays sofar.exchanges last-exchange sofar.stay stays;
+      count = length-append sofar.exchanges (last-exchange ∷ []) ∙ ap (λ k. k + 1) sofar.count;
     }
 
     module _ (room : n < terms.settings.requests) where
       abbrev last-of : Last terms pushed
       last-of = record {
         before = sofar.exchanges;
-        last = last;
+        last = last-exchange;
         parted = refl;
         goes_on = goes-on room;
       }
 
-      broken-off : IsPrefix text (answer_bytes terms x.request x.given.answer) → BrokenOff terms pushed (written ++ text)
+      broken-off : IsPrefix text (answer_bytes own x.request x.given.answer) → BrokenOff terms pushed (written ++ text)
       broken-off begun = record {
         last = last-of;
-        begun_text = prefix-after (answer_texts terms sofar.exchanges) (answer_bytes terms x.request x.given.answer) written text (written ++ text) (answer_texts terms pushed)
-            sofar.text begun (texts-push terms sofar.exchanges last) refl;
+        begun_text = prefix-after (answer_texts terms sofar.exchanges) (answer_text terms last-exchange) written text (written ++ text) (answer_texts terms pushed)
+            sofar.text (subst (IsPrefix text) (alike last-exchange) begun) (texts-push terms sofar.exchanges last-exchange) refl;
         others = (text, ap (λ w. w ++ text) (sym sofar.text));
       }
 
@@ -149,77 +162,51 @@ module _ (terms : Terms) (whole now : Type 0) (still : whole → now) (p : Pass 
     others = (text, ap (λ w. w ++ text) (sym sofar.text));
   }
 
-  module _ (read_fault write_fault : Type 0) (left : Option (List ℕ)) (room : n < terms.settings.requests) where
+  module _ (read_fault write_fault : Type 0) (left : Option (List ℕ)) (Out : SessionEnd → Type 0) where
     abbrev traffic : Traffic
     traffic = record { taken = taken ++ more; written = written ++ text; readings = readings ++ times; read_fault = read_fault; write_fault = write_fault; left = left }
 
-    -- it ended with one more exchange
-    with-one : (how : SessionEnd) (x : Exchanged terms now q (kept ++ more) after times q') → Knows how q' q' → KnowsAlone terms how q' after q'
-        → Ended terms (pushed x) after traffic how → IsSession terms whole p traffic q' how
-    with-one how x knows alone ended = record {
-      exchanges = pushed x;
-      last = q';
-      rest = after;
-      reads = pushed-reads x;
-      run = pushed-run x;
-      knows = knows;
-      sole = λ w. (pushed-sole x w, alone);
-      readings = pushed-readings x;
-      ended = ended;
-    }
+    -- the session ended with one more exchange, or with those so far
+    abbrev EndsWithOne : Type 0
+    EndsWithOne =
+        (how : SessionEnd) (x : Exchanged Of own now q (kept ++ more) after times q') → Knows how q' q' → KnowsAlone own how q' after q'
+        → Finished terms (sofar.exchanges ++ exchange_of x.request x.given.answer q' ∷ []) after traffic how → Out how
 
-    -- it ended with those so far
-    with-none : (how : SessionEnd) → times ≡ [] → Knows how q q' → (now → KnowsAlone terms how q (kept ++ more) q')
-        → Ended terms sofar.exchanges (kept ++ more) traffic how → IsSession terms whole p traffic q' how
-    with-none how unread knows alone ended = record {
-      exchanges = sofar.exchanges;
-      last = q;
-      rest = kept ++ more;
-      reads = reads';
-      run = sofar.run;
-      knows = knows;
-      sole = λ w. (sofar.sole w, alone (still w));
-      readings = silent-readings unread;
-      ended = ended;
-    }
+    abbrev EndsWithNone : Type 0
+    EndsWithNone =
+        (how : SessionEnd) → Knows how q q' → (q ≡ q') ⊎ BeginsWith Of (kept ++ more) → (now → KnowsAlone own how q (kept ++ more) q')
+        → Finished terms sofar.exchanges (kept ++ more) traffic how → Out how
 
-    -- the session ended in a round
-    ends : (how : SessionEnd) → RoundIs terms now q (kept ++ more) after text times q' read_fault write_fault left (Some how)
-        → IsSession terms whole p traffic q' how
-    ends Done (inl (x, closed, e)) = with-one Done x refl tt (pushed-text x e, inl (last-of x room, closed))
-    ends Done (inr (silent, nothing, exhausted)) =
-        with-none Done silent.1 silent.2 (λ _. tt) (silent-text silent.0, inr (goes-on room, nothing, exhausted))
-    ends (Watched how) (x, is, e) = with-one (Watched how) x refl tt (pushed-text x e, (last-of x room, is))
-    ends CutShort (silent, cut, exhausted) = with-none CutShort silent.1 silent.2 (λ _. tt) (silent-text silent.0, goes-on room, cut, exhausted)
-    ends ReadFault (silent, unfinished, rose) = with-none ReadFault silent.1 silent.2 (λ _. tt) (silent-text silent.0, goes-on room, unfinished, rose)
-    ends (Refused fault) (e, refused, unread, same) =
-        with-none (Refused fault) unread same (λ _. tt)
-        (ap (λ w. w ++ text) sofar.text ∙ ap (λ t. answer_texts terms sofar.exchanges ++ t) e, goes-on room, refused)
-    ends WriteFault (rose, inl (x, begun)) = with-one WriteFault x refl tt (rose, inl (broken-off x room begun))
-    ends WriteFault (rose, inr begun) = with-none WriteFault begun.3 begun.4 (λ _. tt) (rose, inr (refusal-begun room begun))
-    ends Memory (inl (x, begun)) = with-one Memory x (onwards_do_join.0 q') (inl refl) (inr (inl (broken-off x room begun)))
-    ends Memory (inr (inl begun)) =
-        with-none Memory begun.3 (subst (IsOnward q) begun.4 (onwards_do_join.0 q))
-        (λ _. inl (ap (λ (a : Pass RevisionData). a.seen) (sym begun.4))) (inr (inr (refusal-begun room begun)))
-    ends Memory (inr (inr unfinished)) =
-        with-none Memory unfinished.unread unfinished.onward unfinished.sole (inl (silent-text unfinished.nothing, goes-on room))
-    ends TooMany h = absurd h
+    module _ (room : n < terms.settings.requests) (with-one : EndsWithOne) (with-none : EndsWithNone) where
+      one : (how : SessionEnd) (x : Exchanged Of own now q (kept ++ more) after times q') → Knows how q' q' → KnowsAlone own how q' after q' → Ended terms (pushed x) after traffic how → Out how
+      one how x knows alone ended = with-one how x knows alone (record { reads = pushed-reads x; readings = pushed-readings x; ended = ended })
 
--- as many requests as are allowed were answered
-full : (terms : Terms) (whole : Type 0) (p : Pass RevisionData) (taken written : List ℕ) (readings : List Reading) (kept : List ℕ) (q : Pass RevisionData) (n : ℕ) (read_fault write_fault : Type 0)
-    (left : Option (List ℕ)) → Sofar terms whole p taken written readings kept q n → n ≡ terms.settings.requests
-    → IsSession terms whole p (record { taken = taken; written = written; readings = readings; read_fault = read_fault; write_fault = write_fault; left = left }) q TooMany
-full terms whole p taken written readings kept q n read_fault write_fault left sofar same = record {
-  exchanges = sofar.exchanges;
-  last = q;
-  rest = kept;
-  reads = sofar.reads;
-  run = sofar.run;
-  knows = refl;
-  sole = λ w. (sofar.sole w, tt);
-  readings = sofar.readings_are;
-  ended = (sofar.text, sofar.stay, sofar.count ∙ same);
-}
+      none : (how : SessionEnd) → times ≡ [] → Knows how q q' → (q ≡ q') ⊎ BeginsWith Of (kept ++ more) → (now → KnowsAlone own how q (kept ++ more) q')
+          → Ended terms sofar.exchanges (kept ++ more) traffic how → Out how
+      none how unread knows asked alone ended = with-none how knows asked alone (record { reads = reads'; readings = silent-readings unread; ended = ended })
+
+      -- the session ended in a round
+      pub ends : (how : SessionEnd) → RoundIs Of own now q (kept ++ more) after text times q' read_fault write_fault left (Some how) → Out how
+      ends Done (inl (x, closed, e)) = one Done x refl tt (pushed-text x e, inl (last-of x room, closed))
+      ends Done (inr (silent, nothing, exhausted)) =
+          none Done silent.1 silent.2 (inl silent.2) (λ _. tt) (silent-text silent.0, inr (goes-on room, nothing, exhausted))
+      ends (Watched how) (x, is, e) = one (Watched how) x refl tt (pushed-text x e, (last-of x room, is))
+      ends CutShort (silent, cut, exhausted) =
+          none CutShort silent.1 silent.2 (inl silent.2) (λ _. tt) (silent-text silent.0, goes-on room, cut, exhausted)
+      ends ReadFault (silent, unfinished, rose) =
+          none ReadFault silent.1 silent.2 (inl silent.2) (λ _. tt) (silent-text silent.0, goes-on room, unfinished, rose)
+      ends (Refused fault) (e, refused, unread, same) =
+          none (Refused fault) unread same (inl same) (λ _. tt)
+          (ap (λ w. w ++ text) sofar.text ∙ ap (λ t. answer_texts terms sofar.exchanges ++ t) e, goes-on room, refused)
+      ends WriteFault (rose, inl (x, begun)) = one WriteFault x refl tt (rose, inl (broken-off x room begun))
+      ends WriteFault (rose, inr begun) = none WriteFault begun.3 begun.4 (inl begun.4) (λ _. tt) (rose, inr (refusal-begun room begun))
+      ends Memory (inl (x, begun)) = one Memory x (onwards_do_join.0 q') (inl refl) (inr (inl (broken-off x room begun)))
+      ends Memory (inr (inl begun)) =
+          none Memory begun.3 (subst (IsOnward q) begun.4 (onwards_do_join.0 q)) (inl begun.4)
+          (λ _. inl (ap (λ (a : Pass RevisionData). a.seen) (sym begun.4))) (inr (inr (refusal-begun room begun)))
+      ends Memory (inr (inr unfinished)) =
+          none Memory unfinished.unread unfinished.onward unfinished.asked unfinished.sole (inl (silent-text unfinished.nothing, goes-on room))
+      ends TooMany h = absurd h
 
 -- what doesn't change between turns
 pub terms-same : (base : List RowData) (mirror : Bool) (s : Settings) (f g : Facts) (w : Option Watching) (h : ℕ) → g ≡ record f { watching = w; heard = h }
@@ -234,104 +221,162 @@ facts-idle f g idle e = grind arith
 
 -- ---- from round to round
 
--- what the loop keeps: from what the ends told at first to what they tell now
-pub record Loop (terms : Terms) (whole : Type 0) (p : Pass RevisionData) (first now : Ends) (kept : List ℕ) (q : Pass RevisionData) (n : ℕ) : Type 0 where
+-- what went through the ends so far: from what they told at first to what they tell now
+pub record Passed (first now : Ends) : Type 0 where
   pub taken : List ℕ
   pub written : List ℕ
   pub readings : List Reading
   pub source : first.left ≡ prepended taken now.left
   pub sink : now.written ≡ appended first.written written
   pub noted : Noted first.readings now.readings readings
-  pub sofar : Sofar terms whole p taken written readings kept q n
 
-pub loop-start : (terms : Terms) (whole : Type 0) (p : Pass RevisionData) (first : Ends) (kept : List ℕ) → kept ≡ [] → Loop terms whole p first first kept p 0
-loop-start terms whole p first kept none = record {
+abbrev pub none-passed : (first : Ends) → Passed first first
+none-passed first = record {
   taken = [];
   written = [];
   readings = [];
   source = sym (prepended-nil first.left);
   sink = sym (appended-nil first.written);
   noted = Noted-nil first.readings;
-  sofar = record {
-    exchanges = [];
-    reads = sym none;
-    run = refl;
-    sole = λ w. tt;
-    text = refl;
-    readings_are = refl;
-    stay = All-nil Stays;
-    count = refl;
-  };
 }
 
--- the clause of the session
-abbrev pub IsSessionBetween : Terms → Type 0 → Pass RevisionData → Ends → Ends → Pass RevisionData → Type 0 → Type 0 → SessionEnd → Type 0
-IsSessionBetween terms whole p first last q read_fault write_fault how =
+-- with what went through in a round
+abbrev pub more-passed : (first mid last : Ends) → Passed first mid → Passed mid last → Passed first last
+more-passed first mid last a b = record {
+  taken = a.taken ++ b.taken;
+  written = a.written ++ b.written;
+  readings = a.readings ++ b.readings;
+  source = a.source ∙ ap (prepended a.taken) b.source ∙ prepended-prepended a.taken b.taken last.left;
+  sink = b.sink ∙ ap (λ m. appended m b.written) a.sink ∙ appended-appended first.written a.written b.written;
+  noted = Noted-join first.readings mid.readings last.readings a.readings b.readings a.noted b.noted;
+}
+
+abbrev pub round-passed : (Of : Req → Type 0) (terms : Terms) (whole : Type 0) (p q : Pass RevisionData) (kept after : List ℕ) (old new : Ends) (r s : Type 0) (came : Option SessionEnd)
+    → IsRound Of terms whole p kept after old new r s q came → Passed old new
+round-passed Of terms whole p q kept after old new r s came round = record {
+  taken = round.taken;
+  written = round.written;
+  readings = round.readings;
+  source = round.source;
+  sink = round.sink;
+  noted = round.noted;
+}
+
+-- the clause of a session, by what its traffic makes of it
+abbrev pub Between : Ends → Ends → Type 0 → Type 0 → (Traffic → Type 0) → Type 0
+Between first last read_fault write_fault Session =
     (taken : List ℕ) × (written : List ℕ) × (readings : List Reading)
     × (first.left ≡ prepended taken last.left)
     × (last.written ≡ appended first.written written)
     × Noted first.readings last.readings readings
-    × IsSession terms whole p (record { taken = taken; written = written; readings = readings; read_fault = read_fault; write_fault = write_fault; left = last.left }) q how
+    × Session (record { taken = taken; written = written; readings = readings; read_fault = read_fault; write_fault = write_fault; left = last.left })
+
+pub between : (first last : Ends) (r s : Type 0) (Session : Traffic → Type 0) (a : Passed first last)
+    → Session (record { taken = a.taken; written = a.written; readings = a.readings; read_fault = r; write_fault = s; left = last.left }) → Between first last r s Session
+between first last r s Session a session = (a.taken, a.written, a.readings, a.source, a.sink, a.noted, session)
+
+-- what the loop keeps
+pub record Loop (terms : Terms) (whole : Type 0) (p : Pass RevisionData) (first now : Ends) (kept : List ℕ) (q : Pass RevisionData) (n : ℕ) : Type 0 where
+  pub passed : Passed first now
+  pub sofar : Sofar terms passed.taken passed.written passed.readings kept n
+  pub run : Run terms p sofar.exchanges q
+  pub sole : whole → AreAlone terms p sofar.exchanges
+
+pub loop-start : (terms : Terms) (whole : Type 0) (p : Pass RevisionData) (first : Ends) (kept : List ℕ) → kept ≡ [] → Loop terms whole p first first kept p 0
+loop-start terms whole p first kept none = record { passed = none-passed first; sofar = none-sofar terms kept none; run = refl; sole = λ w. tt }
+
+-- the clause of the session
+abbrev pub IsSessionBetween : Terms → Type 0 → Pass RevisionData → Ends → Ends → Pass RevisionData → Type 0 → Type 0 → SessionEnd → Type 0
+IsSessionBetween terms whole p first last q read_fault write_fault how = Between first last read_fault write_fault (λ traffic. IsSession terms whole p traffic q how)
 
 module _ (terms terms' : Terms) (same : terms' ≡ terms) (whole now : Type 0) (still : whole → now) (p : Pass RevisionData) (first mid last : Ends) (kept after : List ℕ) (q q' : Pass RevisionData) (n : ℕ) (r s : Type 0)
     (loop : Loop terms whole p first mid kept q n) where
-  pub loop-next : IsRound terms' now q kept after mid last r s q' None → Loop terms whole p first last after q' (n + 1)
+  abbrev Any : Req → Type 0
+  Any req = Unit {0}
+
+  module _ (more : List ℕ) (times : List Reading) (x : Exchanged Any terms now q (kept ++ more) after times q') where
+    abbrev e : Exchange
+    e = exchange_of x.request x.given.answer q'
+
+    pushed-run : Run terms p (loop.sofar.exchanges ++ e ∷ []) q'
+    pushed-run = run-push terms p q loop.sofar.exchanges e loop.run (record { answers = x.given.answers; says = x.given.says; onward = x.given.onward })
+
+    pushed-sole : whole → AreAlone terms p (loop.sofar.exchanges ++ e ∷ [])
+    pushed-sole w = alone-push terms p q loop.sofar.exchanges e loop.run (loop.sole w) (x.given.sole (still w))
+
+  pub loop-next : IsRound Any terms' now q kept after mid last r s q' None → Loop terms whole p first last after q' (n + 1)
   loop-next x =
-      let round : IsRound terms now q kept after mid last r s q' None = subst (λ t. IsRound t now q kept after mid last r s q' None) same x in
+      let round : IsRound Any terms now q kept after mid last r s q' None = subst (λ t. IsRound Any t now q kept after mid last r s q' None) same x in
       record {
-        taken = loop.taken ++ round.taken;
-        written = loop.written ++ round.written;
-        readings = loop.readings ++ round.readings;
-        source = loop.source ∙ ap (prepended loop.taken) round.source ∙ prepended-prepended loop.taken round.taken last.left;
-        sink = round.sink ∙ ap (λ m. appended m round.written) loop.sink ∙ appended-appended first.written loop.written round.written;
-        noted = Noted-join first.readings mid.readings last.readings loop.readings round.readings loop.noted round.noted;
-        sofar = next terms whole now still p loop.taken loop.written loop.readings kept q n loop.sofar round.taken round.written round.readings after q' round.round.0 round.round.1 round.round.2;
+        passed = more-passed first mid last loop.passed (round-passed Any terms now q q' kept after mid last r s None round);
+        sofar = next terms terms (λ e. refl) Any now loop.passed.taken loop.passed.written loop.passed.readings kept n loop.sofar round.taken round.written round.readings after q q'
+            round.round.0 round.round.1 round.round.2;
+        run = pushed-run round.taken round.readings round.round.0;
+        sole = pushed-sole round.taken round.readings round.round.0;
       }
 
-  pub loop-ends : (how : SessionEnd) → n < terms.settings.requests → IsRound terms' now q kept after mid last r s q' (Some how)
+  pub loop-ends : (how : SessionEnd) → n < terms.settings.requests → IsRound Any terms' now q kept after mid last r s q' (Some how)
       → IsSessionBetween terms whole p first last q' r s how
   loop-ends how room x =
-      let round : IsRound terms now q kept after mid last r s q' (Some how) = subst (λ t. IsRound t now q kept after mid last r s q' (Some how)) same x in (
-        loop.taken ++ round.taken,
-        loop.written ++ round.written,
-        loop.readings ++ round.readings,
-        loop.source ∙ ap (prepended loop.taken) round.source ∙ prepended-prepended loop.taken round.taken last.left,
-        round.sink ∙ ap (λ m. appended m round.written) loop.sink ∙ appended-appended first.written loop.written round.written,
-        Noted-join first.readings mid.readings last.readings loop.readings round.readings loop.noted round.noted,
-        ends terms whole now still p loop.taken loop.written loop.readings kept q n loop.sofar round.taken round.written round.readings after q' r s
-            last.left room how round.round,
-      )
+      let round : IsRound Any terms now q kept after mid last r s q' (Some how) = subst (λ t. IsRound Any t now q kept after mid last r s q' (Some how)) same x in
+      let all = more-passed first mid last loop.passed (round-passed Any terms now q q' kept after mid last r s (Some how) round) in
+      let Out : SessionEnd → Type 0 =
+      λ how'. IsSession terms whole p (record { taken = all.taken; written = all.written; readings = all.readings; read_fault = r; write_fault = s; left = last.left }) q' how' in
+      between first last r s (λ traffic. IsSession terms whole p traffic q' how) all
+      (ends terms terms (λ e. refl) Any now loop.passed.taken loop.passed.written loop.passed.readings kept n loop.sofar round.taken round.written round.readings after q q' r s last.left
+      Out room
+      (λ how' x' knows alone done. record {
+        exchanges = loop.sofar.exchanges ++ exchange_of x'.request x'.given.answer q' ∷ [];
+        last = q';
+        rest = after;
+        reads = done.reads;
+        run = pushed-run round.taken round.readings x';
+        knows = knows;
+        sole = λ w. (pushed-sole round.taken round.readings x' w, alone);
+        readings = done.readings;
+        ended = done.ended;
+      })
+      (λ how' knows asked alone done. record {
+        exchanges = loop.sofar.exchanges;
+        last = q;
+        rest = kept ++ round.taken;
+        reads = done.reads;
+        run = loop.run;
+        knows = knows;
+        sole = λ w. (loop.sole w, alone (still w));
+        readings = done.readings;
+        ended = done.ended;
+      })
+      how round.round)
 
 pub loop-full : (terms : Terms) (whole : Type 0) (p : Pass RevisionData) (first last : Ends) (kept : List ℕ) (q : Pass RevisionData) (n : ℕ) (v w : Type 0) → Loop terms whole p first last kept q n
     → n ≡ terms.settings.requests → IsSessionBetween terms whole p first last q v w TooMany
-loop-full terms whole p first last kept q n v w loop same = (
-  loop.taken,
-  loop.written,
-  loop.readings,
-  loop.source,
-  loop.sink,
-  loop.noted,
-  full terms whole p loop.taken loop.written loop.readings kept q n v w last.left loop.sofar same,
-)
+loop-full terms whole p first last kept q n v w loop same =
+    let a = loop.passed in
+    let done = full terms a.taken a.written a.readings kept n v w last.left loop.sofar same in
+    between first last v w (λ traffic. IsSession terms whole p traffic q TooMany) a (record {
+      exchanges = loop.sofar.exchanges;
+      last = q;
+      rest = kept;
+      reads = done.reads;
+      run = loop.run;
+      knows = refl;
+      sole = λ u. (loop.sole u, tt);
+      readings = done.readings;
+      ended = done.ended;
+    })
 
 -- there was no memory before the first request
 pub none-begun : (terms : Terms) (whole : Type 0) (p : Pass RevisionData) (first : Ends) (v w : Type 0) → 0 < terms.settings.requests → IsSessionBetween terms whole p first first p v w Memory
-none-begun terms whole p first v w room = (
-  [],
-  [],
-  [],
-  sym (prepended-nil first.left),
-  sym (appended-nil first.written),
-  Noted-nil first.readings,
-  record {
-    exchanges = [];
-    last = p;
-    rest = [];
-    reads = refl;
-    run = refl;
-    knows = onwards_do_join.0 p;
-    sole = λ u. (tt, inl refl);
-    readings = refl;
-    ended = inl (refl, record { stay = All-nil Stays; few = room });
-  },
-)
+none-begun terms whole p first v w room =
+    between first first v w (λ traffic. IsSession terms whole p traffic p Memory) (none-passed first) (record {
+      exchanges = [];
+      last = p;
+      rest = [];
+      reads = refl;
+      run = refl;
+      knows = onwards_do_join.0 p;
+      sole = λ u. (tt, inl refl);
+      readings = refl;
+      ended = (none-finished terms v w first.left room).ended;
+    })

@@ -7,3 +7,5 @@ pub mod Status
 pub mod NewLogs
 pub mod Laws
 pub mod Serving
+pub mod Each
+pub mod EachServing

@@ -108,9 +108,10 @@ end_of_refusal fault (Err broken.Memory) = Memory
 
 -- ---- one round of the loop, over the bytes that were kept and taken
 
--- the bytes begin with a request, which was answered
-pub record Exchanged (terms : Terms) (whole : Type 0) (p : Pass RevisionData) (bytes after : List ℕ) (readings : List Reading) (q : Pass RevisionData) : Type 0 where
+-- the bytes begin with such a request, which was answered
+pub record Exchanged (Of : Req → Type 0) (terms : Terms) (whole : Type 0) (p : Pass RevisionData) (bytes after : List ℕ) (readings : List Reading) (q : Pass RevisionData) : Type 0 where
   pub request : Req
+  pub is : Of request
   pub reads : ReadsOne bytes request after
   pub given : Given terms whole p request readings q
 
@@ -127,40 +128,45 @@ RefusalBegun bytes written readings p q =
     (fault : ReqNo) × IsRefused bytes fault × IsPrefix written (request_refusal_text fault) × (readings ≡ []) × (p ≡ q)
 
 -- a request was answered, and a beginning of the answer was written
-abbrev pub AnswerBegun : Terms → Type 0 → Pass RevisionData → List ℕ → List ℕ → List ℕ → List Reading → Pass RevisionData → Type 0
-AnswerBegun terms whole p bytes after written readings q =
-    (x : Exchanged terms whole p bytes after readings q) × IsPrefix written (answer_bytes terms x.request x.given.answer)
+abbrev pub AnswerBegun : (Req → Type 0) → Terms → Type 0 → Pass RevisionData → List ℕ → List ℕ → List ℕ → List Reading → Pass RevisionData → Type 0
+AnswerBegun Of terms whole p bytes after written readings q =
+    (x : Exchanged Of terms whole p bytes after readings q) × IsPrefix written (answer_bytes terms x.request x.given.answer)
+
+-- the bytes begin with such a request
+abbrev pub BeginsWith : (Req → Type 0) → List ℕ → Type 0
+BeginsWith Of bytes = (req : Req) × (after : List ℕ) × ReadsOne bytes req after × Of req
 
 -- there was no memory before an answer
-pub record Unfinished (terms : Terms) (whole : Type 0) (p : Pass RevisionData) (bytes written : List ℕ) (readings : List Reading) (q : Pass RevisionData) : Type 0 where
+pub record Unfinished (Of : Req → Type 0) (terms : Terms) (whole : Type 0) (p : Pass RevisionData) (bytes written : List ℕ) (readings : List Reading) (q : Pass RevisionData) : Type 0 where
   pub nothing : written ≡ []
   pub unread : readings ≡ []
   pub onward : IsOnward p q
+  pub asked : (p ≡ q) ⊎ BeginsWith Of bytes
   pub sole : whole → SoleMemory terms p bytes q
 
-abbrev pub RoundIs : Terms → Type 0 → Pass RevisionData → List ℕ → List ℕ → List ℕ → List Reading → Pass RevisionData → Type 0 → Type 0 → Option (List ℕ) → Option SessionEnd → Type 0
-RoundIs terms whole p bytes after written readings q read_fault write_fault left None =
-    (x : Exchanged terms whole p bytes after readings q) × Stays (exchange_of x.request x.given.answer q)
+abbrev pub RoundIs : (Req → Type 0) → Terms → Type 0 → Pass RevisionData → List ℕ → List ℕ → List ℕ → List Reading → Pass RevisionData → Type 0 → Type 0 → Option (List ℕ) → Option SessionEnd → Type 0
+RoundIs Of terms whole p bytes after written readings q read_fault write_fault left None =
+    (x : Exchanged Of terms whole p bytes after readings q) × Stays (exchange_of x.request x.given.answer q)
     × (written ≡ answer_bytes terms x.request x.given.answer)
-RoundIs terms whole p bytes after written readings q read_fault write_fault left (Some Done) =
-    ((x : Exchanged terms whole p bytes after readings q) × IsClosed (exchange_of x.request x.given.answer q)
+RoundIs Of terms whole p bytes after written readings q read_fault write_fault left (Some Done) =
+    ((x : Exchanged Of terms whole p bytes after readings q) × IsClosed (exchange_of x.request x.given.answer q)
     × (written ≡ answer_bytes terms x.request x.given.answer))
     ⊎ (IsSilent written readings p q × (bytes ≡ []) × IsExhausted left)
-RoundIs terms whole p bytes after written readings q read_fault write_fault left (Some (Watched how)) =
-    (x : Exchanged terms whole p bytes after readings q) × IsWatchEnd x.given.answer how
+RoundIs Of terms whole p bytes after written readings q read_fault write_fault left (Some (Watched how)) =
+    (x : Exchanged Of terms whole p bytes after readings q) × IsWatchEnd x.given.answer how
     × (written ≡ answer_bytes terms x.request x.given.answer)
-RoundIs terms whole p bytes after written readings q read_fault write_fault left (Some CutShort) =
+RoundIs Of terms whole p bytes after written readings q read_fault write_fault left (Some CutShort) =
     IsSilent written readings p q × IsCutShort bytes × IsExhausted left
-RoundIs terms whole p bytes after written readings q read_fault write_fault left (Some ReadFault) =
+RoundIs Of terms whole p bytes after written readings q read_fault write_fault left (Some ReadFault) =
     IsSilent written readings p q × IsUnfinished bytes × read_fault
-RoundIs terms whole p bytes after written readings q read_fault write_fault left (Some (Refused fault)) =
+RoundIs Of terms whole p bytes after written readings q read_fault write_fault left (Some (Refused fault)) =
     (written ≡ request_refusal_text fault) × IsRefused bytes fault × (readings ≡ []) × (p ≡ q)
-RoundIs terms whole p bytes after written readings q read_fault write_fault left (Some WriteFault) =
-    write_fault × (AnswerBegun terms whole p bytes after written readings q ⊎ RefusalBegun bytes written readings p q)
-RoundIs terms whole p bytes after written readings q read_fault write_fault left (Some Memory) =
-    AnswerBegun terms whole p bytes after written readings q
-    ⊎ (RefusalBegun bytes written readings p q ⊎ Unfinished terms whole p bytes written readings q)
-RoundIs terms whole p bytes after written readings q read_fault write_fault left (Some TooMany) = ⊥
+RoundIs Of terms whole p bytes after written readings q read_fault write_fault left (Some WriteFault) =
+    write_fault × (AnswerBegun Of terms whole p bytes after written readings q ⊎ RefusalBegun bytes written readings p q)
+RoundIs Of terms whole p bytes after written readings q read_fault write_fault left (Some Memory) =
+    AnswerBegun Of terms whole p bytes after written readings q
+    ⊎ (RefusalBegun bytes written readings p q ⊎ Unfinished Of terms whole p bytes written readings q)
+RoundIs Of terms whole p bytes after written readings q read_fault write_fault left (Some TooMany) = ⊥
 
 -- what the ends of a session tell: the bytes that are left in the source, the bytes written, the readings
 pub record Ends : Type 0 where
@@ -168,15 +174,15 @@ pub record Ends : Type 0 where
   pub written : Option (List ℕ)
   pub readings : Option (List Reading)
 
--- one round, from the bytes that were kept before it to those that are kept then
-pub record IsRound (terms : Terms) (whole : Type 0) (p : Pass RevisionData) (kept kept_then : List ℕ) (old new : Ends) (read_fault write_fault : Type 0) (q : Pass RevisionData) (came : Option SessionEnd) : Type 0 where
+-- one round, from the bytes that were kept before it to those that are kept then; a request that was read is such a one
+pub record IsRound (Of : Req → Type 0) (terms : Terms) (whole : Type 0) (p : Pass RevisionData) (kept kept_then : List ℕ) (old new : Ends) (read_fault write_fault : Type 0) (q : Pass RevisionData) (came : Option SessionEnd) : Type 0 where
   pub taken : List ℕ
   pub written : List ℕ
   pub readings : List Reading
   pub source : old.left ≡ prepended taken new.left
   pub sink : new.written ≡ appended old.written written
   pub noted : Noted old.readings new.readings readings
-  pub round : RoundIs terms whole p (kept ++ taken) kept_then written readings q read_fault write_fault new.left came
+  pub round : RoundIs Of terms whole p (kept ++ taken) kept_then written readings q read_fault write_fault new.left came
 
 -- what is told where no request was read: nothing, or the reply to bytes that are no request, or a beginning of it
 abbrev pub RefusalEnds : ReqNo → List ℕ → SessionEnd → Type 0

@@ -1,5 +1,6 @@
 //! What holds of all sessions.
 
+ghost use Rattle.sess_serve.specs.Each.{RequestsAreOfTheirPath};
 ghost use Rattle.sess_serve.specs.Laws.{SessionsSettle, EndsAreExact};
 
 /// Where no end failed and there was memory, a session answered the requests that its input holds up to the one that
@@ -12,4 +13,9 @@ pub fn sessions_settle()
 /// between bytes that are cut short and bytes that are no request two cases are open.
 pub fn ends_are_exact()
     ensures { EndsAreExact }
+{}
+
+/// A request whose path is that of a resource is of that resource, whose client answers it.
+pub fn requests_are_of_their_path()
+    ensures { RequestsAreOfTheirPath }
 {}

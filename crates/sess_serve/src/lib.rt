@@ -3,14 +3,17 @@
 #![tactic(auto)]
 
 mod answer;
+mod each;
 mod ends;
 mod laws;
 mod refused;
+mod resources;
 mod serve;
 mod steps;
 mod view;
 mod watching;
 
+pub use each::{EachClient, serve_each};
 pub use ends::SessionEnd;
-pub use laws::{ends_are_exact, sessions_settle};
+pub use laws::{ends_are_exact, requests_are_of_their_path, sessions_settle};
 pub use serve::serve_session;

@@ -104,7 +104,7 @@ fn round<C: Client, S: Source, K: Sink, T: Clock>(
     requires settings { AreInRange settings.now }
     requires reading { reader.old.refusal ≡ None }
     requires settled { 0 < answered → K.settled sink.old }
-    ensures round { IsRound (terms_of C.base C.mirror (C.facts client.old) settings.now) (C.whole client.old) (C.pass client.old)
+    ensures round { IsRound (λ req. Unit {0}) (terms_of C.base C.mirror (C.facts client.old) settings.now) (C.whole client.old) (C.pass client.old)
         reader.old.kept reader.new.kept
         (record { left = S.left source.old; written = K.written sink.old; readings = T.readings clock.old })
         (record { left = S.left source.new; written = K.written sink.new; readings = T.readings clock.new })
@@ -131,9 +131,9 @@ fn round<C: Client, S: Source, K: Sink, T: Clock>(
     }
 }
 
-// Reads the next request. The source is read here alone: what was written is sent on before, and nothing is read while
-// a request stands whole in what was read.
-fn next_request<S: Source, K: Sink>(
+/// Reads the next request. The source is read here alone: what was written is sent on before, and nothing is read while
+/// a request stands whole in what was read.
+pub fn next_request<S: Source, K: Sink>(
     reader: &mut Reader,
     source: &mut S,
     sink: &K,
@@ -151,8 +151,8 @@ fn next_request<S: Source, K: Sink>(
     reader.next_request(source)
 }
 
-// How the session goes on after a request.
-fn end_after(came: Result<Option<WatchEnd>, Broken>, close: bool) -> Option<SessionEnd>
+/// How the session goes on after a request.
+pub fn end_after(came: Result<Option<WatchEnd>, Broken>, close: bool) -> Option<SessionEnd>
     ensures { result ≡ serving.end_after came close }
 {
     match came {
@@ -169,8 +169,8 @@ fn end_by_reply(close: bool) -> Option<SessionEnd>
     if close { Some(SessionEnd::Done) } else { None }
 }
 
-// Ends the session, since no request was read: bytes that are no request are told so.
-fn stop<K: Sink>(alloc: Global, sink: &mut K, fault: ReqNo) -> SessionEnd
+/// Ends the session, since no request was read: bytes that are no request are told so.
+pub fn stop<K: Sink>(alloc: Global, sink: &mut K, fault: ReqNo) -> SessionEnd
     ensures { IsStopped fault (sent_through K.written K.settled K.faults sink.old sink.new) result }
 {
     match fault {

@@ -7,7 +7,7 @@ use Rattle.sess_serve.proofs.serve.round.Goals as goal
 
 pub returns-in-Ok-Some-clause-round : goal.returns-in-Ok-Some-clause-round
 returns-in-Ok-Some-clause-round g c =
-    round-answered _ _ _ _ _ _ _ _ _ _ _ _ _ _ c.in-Ok-Some.req c.answer-came.result c.end_after.result (rw c.in-Ok-Some.field-0-is at c.in-Ok-Some.ensures.reads)
+    round-answered _ _ _ _ _ _ _ _ _ _ _ _ _ _ _ c.in-Ok-Some.req tt c.answer-came.result c.end_after.result (rw c.in-Ok-Some.field-0-is at c.in-Ok-Some.ensures.reads)
     c.answer-came.ensures.answered c.end_after.ensures
 
 pub returns-in-Ok-Some-clause-kept : goal.returns-in-Ok-Some-clause-kept
@@ -30,10 +30,10 @@ pub returns-in-Ok-Some-clause-quiet_sink : goal.returns-in-Ok-Some-clause-quiet_
 returns-in-Ok-Some-clause-quiet_sink g c = after-sink c.answer-came.result c.in-Ok-Some.req.close c.end_after.result c.end_after.ensures _ c.answer-came.ensures.answered.counts
 
 pub returns-in-Ok-None-clause-round : goal.returns-in-Ok-None-clause-round
-returns-in-Ok-None-clause-round g c = round-clean _ _ _ _ _ _ _ _ _ _ _ _ refl refl refl (rw c.in-Ok-None.field-0-is at c.in-Ok-None.ensures.reads)
+returns-in-Ok-None-clause-round g c = round-clean _ _ _ _ _ _ _ _ _ _ _ _ _ refl refl refl (rw c.in-Ok-None.field-0-is at c.in-Ok-None.ensures.reads)
 
 pub returns-in-Err-clause-round : goal.returns-in-Err-clause-round
-returns-in-Err-clause-round g c = round-stopped _ _ _ _ _ _ _ _ _ _ _ _ (sym c.tell_refused.ensures.pass) refl _ _ c.in-Err.fault c.stop.result c.in-Err.ensures.reads c.stop.ensures
+returns-in-Err-clause-round g c = round-stopped _ _ _ _ _ _ _ _ _ _ _ _ _ (sym c.tell_refused.ensures.pass) refl _ _ c.in-Err.fault c.stop.result c.in-Err.ensures.reads c.stop.ensures
 
 pub returns-in-Err-clause-kept : goal.returns-in-Err-clause-kept
 returns-in-Err-clause-kept g c = λ w. memory-anyway c.stop.result (c.tell_refused.ensures.kept w)
