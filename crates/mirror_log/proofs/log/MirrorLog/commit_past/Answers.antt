@@ -1,22 +1,11 @@
 -- All of them are added, or none is.
-use Rattle.std.proofs.Common.{ℕ, ◌≡◌, ◌+◌, List, [], ◌∷◌, Err, All, sym, subst}
-use Rattle.std.proofs.lemmas.List.Elements.{All-cons, All-nil}
+use Rattle.std.proofs.Common.{ℕ, ◌≡◌, ◌+◌, List, [], ◌∷◌, Err, subst}
 use Rattle.std.proofs.lemmas.Result.{err_from_is_err_and}
-use Rattle.kube_meta.specs.declared.resources.Resource.TheVariants.{Pods}
 use Rattle.rev_log.specs.Changes.{RevisionData}
 use Rattle.up_api.specs.Sections.{log_upto}
 use Rattle.up_store.specs.Hearing.{AreHeard, IsFollowReply}
 use Rattle.mirror_log.proofs.CommitLemmas.{refused, holds_past, moves_past, end_past}
-use Rattle.mirror_log.proofs.StepLemmas.{pods_alone}
 use Rattle.mirror_log.proofs.log.MirrorLog.commit_past.Goals as goal
-
-pub follow-requires-clause-pods : goal.follow-requires-clause-pods
-follow-requires-clause-pods g c =
-    let one : All (λ (r : RevisionData). All (λ change. change.resource ≡ Pods) r.changes) (c.in_ok-revision.field-0 ∷ []) =
-    All-cons (λ (r : RevisionData). All (λ change. change.resource ≡ Pods) r.changes) c.in_ok-revision.field-0 []
-    (pods_alone (c.self.inside.intake.to + 1) c.self.inside.intake.kept c.in_ok-revision.field-0 c.in_ok-revision.ensures)
-    (All-nil (λ (r : RevisionData). All (λ change. change.resource ≡ Pods) r.changes)) in
-    subst (All (λ (r : RevisionData). All (λ change. change.resource ≡ Pods) r.changes)) (sym c.in_ok-revisions.ensures) one
 
 pub returns-in_err-follow-clause-commits : goal.returns-in_err-follow-clause-commits
 returns-in_err-follow-clause-commits g c =
