@@ -12,3 +12,12 @@ pub mod ChangesLemmas
 pub mod AloneLemmas
 pub mod DeterminedLemmas
 pub mod LoadLemmas
+pub mod PeerHeadLemmas
+pub mod StorableLemmas
+pub mod StoredRunLemmas
+pub mod PeerLemmas
+pub mod QueryLemmas
+pub mod NextLineLemmas
+pub mod OpenedLemmas
+pub mod ServerLemmas
+pub mod ReplyTextLemmas

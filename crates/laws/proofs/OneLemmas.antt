@@ -12,20 +12,20 @@ use Rattle.watch_lines.specs.declared.peer_line.PeerLine.TheVariants as peer
 use Rattle.watch_rules.specs.Bodies.{Line, Told, Closing, initial, initial_lines}
 use Rattle.laws.specs.Openings.{OpeningsAreOne}
 
-row_of : (row other : RowData) → peer.Told Added row.obj row.rev ≡ peer.Told Added other.obj other.rev → other ≡ row
+pub row_of : (row other : RowData) → peer.Told Added row.obj row.rev ≡ peer.Told Added other.obj other.rev → other ≡ row
 row_of row other same =
     let obj_is : other.obj ≡ row.obj = cc in
     let rev_is : other.rev ≡ row.rev = cc in
     λ i. record { obj = obj_is i; rev = rev_is i }
 
-first_is : (t u : List ℕ) (texts others : List (List ℕ)) → u ∷ others ≡ t ∷ texts → u ≡ t
+pub first_is : (t u : List ℕ) (texts others : List (List ℕ)) → u ∷ others ≡ t ∷ texts → u ≡ t
 first_is t u texts others same = cc
 
-rest_is : (t u : List ℕ) (texts others : List (List ℕ)) → u ∷ others ≡ t ∷ texts → others ≡ texts
+pub rest_is : (t u : List ℕ) (texts others : List (List ℕ)) → u ∷ others ≡ t ∷ texts → others ≡ texts
 rest_is t u texts others same = cc
 
 -- a text of two lines is that of one
-same_line : LinesAreOne → (t u : List ℕ) (line other : Line) → IsPeerLine Pods t (as_read line) → IsPeerLine Pods u (as_read other) → u ≡ t → as_read line ≡ as_read other
+pub same_line : LinesAreOne → (t u : List ℕ) (line other : Line) → IsPeerLine Pods t (as_read line) → IsPeerLine Pods u (as_read other) → u ≡ t → as_read line ≡ as_read other
 same_line one t u line other a b same = one Pods t (as_read line) (as_read other) a (subst (λ (l : List ℕ). IsPeerLine Pods l (as_read other)) same b)
 
 -- where the texts of an opening begin those of another, that is the same

@@ -4,13 +4,14 @@ use Rattle.kube_meta.specs.Rows.{RowData}
 use Rattle.meta_view.specs.declared.form.Form.TheVariants.{Whole}
 use Rattle.rev_front.specs.Passes.{Pass}
 use Rattle.rev_log.specs.Changes.{RevisionData}
-use Rattle.rev_log.specs.Logs.{Log}
+use Rattle.rev_log.specs.Logs.{Log, grown}
 use Rattle.select_all.specs.declared.selection.Selection.{Selection}
 use Rattle.select_all.specs.declared.selection.Meaning.{Meaning}
 use Rattle.select_all.specs.declared.selection.Meaning.TheVariants.{MostRecent, Any, NotOlder, Exact}
 use Rattle.up_api.specs.Sections.{log_of as known_log}
 use Rattle.watch_record.specs.declared.records.Record.{Record}
 use Rattle.watch_rules.specs.Bodies.{Line, IsOpening, TellsBody}
+use Rattle.watch_rules.proofs.LineLemmas.{tellings_stay}
 use Rattle.watch_rules.specs.Starts.{is_never_exact}
 use Rattle.watch_rules.specs.declared.starts.Start.{Start}
 use Rattle.watch_rules.specs.declared.starts.Start.TheVariants.{FromState, FromHere, FromRevision}
@@ -57,11 +58,12 @@ streams_lawful terms p opened q ask watch case judgement base pass later start t
     let position : ℕ = turns.last.position in
     let at : ℕ = watch.begun.at in
     let lines : List Line = watch_lines terms ask opened watch in
-    let same_log : known_log terms.base q ≡ record_log case = λ i. record { first = sym records.first_is i; base = base i; revisions = sym records.log_is i } in
+    let same_log : grown (known_log terms.base q) records.log_on.0 ≡ record_log case = λ i. record { first = sym records.first_is i; base = base i; revisions = records.log_on.1 i } in
     let ask_is : ask ≡ case.ask = sym records.ask_is in
     let known : TellsBody (known_log terms.base q) q.floor terms.window ask at lines position = turns_tell terms p opened q ask watch start turns in
-    let over : TellsBody (record_log case) q.floor terms.window ask at lines position = subst (λ (log : Log). TellsBody log q.floor terms.window ask at lines position) same_log known in
-    let floored : TellsBody (record_log case) case.floor terms.window ask at lines position = subst (λ (n : ℕ). TellsBody (record_log case) n terms.window ask at lines position) (sym records.floor_is) over in
+    let later_on : TellsBody (grown (known_log terms.base q) records.log_on.0) case.floor terms.window ask at lines position =
+    tellings_stay (known_log terms.base q) records.log_on.0 q.floor case.floor terms.window ask at lines position records.floor_on known in
+    let floored : TellsBody (record_log case) case.floor terms.window ask at lines position = subst (λ (log : Log). TellsBody log case.floor terms.window ask at lines position) same_log later_on in
     let wide : TellsBody (record_log case) case.floor case.window ask at lines position = subst (λ (n : ℕ). TellsBody (record_log case) case.floor n ask at lines position) (sym records.window_is) floored in
     let tells : TellsBody (record_log case) case.floor case.window case.ask at lines position = subst (λ (a : WatchAsk). TellsBody (record_log case) case.floor case.window a at lines position) ask_is wide in
     let texts_are : case.lines.items ≡ map (line_text Whole case.ask.selection.resource) lines =

@@ -1,5 +1,6 @@
 -- Laws of the streams of sessions, as they are judged.
-use Rattle.std.specs.Prelude.{◌≡◌, ℕ, [], map}
+use Rattle.std.specs.Prelude.{◌≡◌, ℕ, ◌≤◌, [], map}
+use mathlib.Core.List.{IsPrefix}
 use Rattle.meta_view.specs.declared.form.Form.TheVariants.{Whole}
 use Rattle.rev_front.specs.Passes.{Pass, IsPass, Extends}
 use Rattle.rev_log.specs.Changes.{RevisionData}
@@ -14,11 +15,12 @@ use Rattle.body_check.specs.declared.judging.Checked.{Checked}
 use Rattle.body_check.specs.declared.judging.Checked.TheVariants.{Lawful}
 use Rattle.body_check.specs.Judging.{IsJudged}
 
--- A record of a watch's stream: what is known of the log at its end, what was asked for, and the texts of its lines.
+-- A record of a watch's stream: the log, which goes on from what the session knew of it at its end, with a floor that may
+-- be higher, what was asked for, and the texts of its lines.
 pub record Records (case : Record) (terms : Terms) (ask : WatchAsk) (opened : Pass RevisionData) (watch : Turns) (q : Pass RevisionData) : Type 0 where
   pub first_is : case.first ≡ q.first
-  pub log_is : case.log.items ≡ q.seen
-  pub floor_is : case.floor ≡ q.floor
+  pub log_on : IsPrefix q.seen case.log.items
+  pub floor_on : q.floor ≤ case.floor
   pub window_is : case.window ≡ terms.window
   pub ask_is : case.ask ≡ ask
   pub lines_are : case.lines.items ≡ map (line_text Whole ask.selection.resource) (watch_lines terms ask opened watch)

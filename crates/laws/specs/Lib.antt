@@ -9,3 +9,9 @@ pub mod Due
 pub mod Answered
 pub mod Determined
 pub mod Loads
+pub mod PeerHeads
+pub mod Storable
+pub mod SessionPeers
+pub mod MirrorQueries
+pub mod ServedMirrors
+pub mod ReplyTexts

@@ -1,9 +1,9 @@
 //! The laws.
 
-ghost use Rattle.laws.specs.Openings.{OpeningsAreOne};
+ghost use Rattle.laws.specs.Openings.{OpeningsAreOne, OpeningsAreNotRefused};
 ghost use Rattle.laws.specs.MirroredStreams.{WatchesAreRead};
 
-use line_stream::readings_agree;
+use line_stream::{outcomes_agree, readings_agree};
 use watch_lines::{lines_are_one, lines_read_back, texts_have_no_line_feed};
 
 /// Whoever stands in a beginning of what a session writes to a watch, in chunks of whole objects, stands with the texts
@@ -21,4 +21,13 @@ pub fn openings_are_one()
 {
     lines_are_one();
     readings_agree();
+}
+
+/// Bytes that begin with an opening aren't refused as one, whatever follows, but for want of memory.
+pub fn openings_are_not_refused()
+    ensures { OpeningsAreNotRefused }
+{
+    lines_are_one();
+    readings_agree();
+    outcomes_agree();
 }
