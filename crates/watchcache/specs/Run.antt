@@ -266,7 +266,7 @@ RunsAny (Some peer) cluster namespace options net sent status = RunsMirror optio
 
 -- the bytes are a record that is judged so, or they are none for this reason
 abbrev pub IsSaid : List ℕ → Result Checked RecordNo → Type 0
-IsSaid bytes (Ok judgement) = (case : Record) × IsRecordOf bytes case × IsJudged case judgement
+IsSaid bytes (Ok judgement) = (record_fault bytes ≡ None) × ((case : Record) × IsRecordOf bytes case × IsJudged case judgement)
 IsSaid bytes (Err fault) = record_fault bytes ≡ Some fault
 
 -- the exit status, where that was sent on
