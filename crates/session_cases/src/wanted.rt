@@ -16,6 +16,7 @@ fn phrase(code: &str) -> &'static str {
         "410" => "Gone",
         "411" => "Length Required",
         "413" => "Payload Too Large",
+        "415" => "Unsupported Media Type",
         "422" => "Unprocessable Entity",
         "500" => "Internal Server Error",
         "504" => "Gateway Timeout",
