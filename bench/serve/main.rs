@@ -2,6 +2,7 @@
 //! all in one run, and prints a table of ratios. The words are: the three programs or `-`, a folder for files, the
 //! processors of the servers, `quick` for a short run that tells nothing of speed, and names of single measures. The
 //! status is 1 where something falls short of what is wanted.
+mod attacks;
 mod http;
 mod measures;
 mod pods;
@@ -9,6 +10,7 @@ mod servers;
 mod table;
 mod watchers;
 
+use attacks::Waits;
 use http::Connection;
 use servers::Server;
 use std::fs;
@@ -47,7 +49,7 @@ const OTHERS: usize = 8;
 const PAUSE: Duration = Duration::from_millis(3);
 
 /// What is measured, by the names that pick a part of it.
-const MEASURES: [(&str, fn(&Plan, &mut Table) -> io::Result<()>); 9] = [
+const MEASURES: [(&str, fn(&Plan, &mut Table) -> io::Result<()>); 12] = [
     ("reads", reads),
     ("fan_out", fan_out),
     ("delivery", delivery),
@@ -57,6 +59,9 @@ const MEASURES: [(&str, fn(&Plan, &mut Table) -> io::Result<()>); 9] = [
     ("watches_by_node", watches_by_node),
     ("idle_watches", idle_watches),
     ("idle_clients", idle_clients),
+    ("initial_states", initial_states),
+    ("bytes", bytes),
+    ("locks", locks),
 ];
 
 fn main() -> io::Result<()> {
@@ -299,4 +304,54 @@ fn idle_clients(plan: &Plan, table: &mut Table) -> io::Result<()> {
     table.add(Row::new("get alone, p99, µs", alone), Wanted::Nothing);
     table.add(Row::new("get beside 1,000 idle clients, p99, µs", beside), Wanted::AtMost(2.0 * alone));
     Ok(())
+}
+
+// What watches hold that have read an initial state, beside those that began at a revision.
+fn initial_states(plan: &Plan, table: &mut Table) -> io::Result<()> {
+    let server = plan.watchcache(&["--window-max", "102400"])?;
+    pods::load(server.port, plan.pods)?;
+    let alone = attacks::each_watch(&server, plan.events / 50, false)?;
+    let beside = attacks::each_watch(&server, plan.events / 50, true)?;
+    table.add(Row::new("a watch of 10,000 pods from a revision, KiB", alone), Wanted::Nothing);
+    table.add(Row::new("the same behind an initial state, KiB", beside), Wanted::AtMost(26.0));
+    Ok(())
+}
+
+// The memory of one object of 1 MB, and of many replacements of it.
+fn bytes(plan: &Plan, table: &mut Table) -> io::Result<()> {
+    let server = plan.watchcache(&[])?;
+    pods::load(server.port, 1)?;
+    let alone = attacks::replacements(&server, 1)?;
+    let beside = attacks::replacements(&server, plan.events / 10)?;
+    table.add(Row::new("resident with one object of 1 MB, MiB", alone), Wanted::Nothing);
+    table.add(Row::new("behind 1,000 replacements of it, MiB", beside), Wanted::AtMost(600.0));
+    Ok(())
+}
+
+// What a get waits beside who has the caches begin anew, asks for what is old, or is told of a burst with many others.
+fn locks(plan: &Plan, table: &mut Table) -> io::Result<()> {
+    let server = plan.watchcache(&["--window", "102400", "--history", "1000000"])?;
+    let from = measures::revision(server.port)?;
+    pods::load(server.port, plan.pods)?;
+    for turn in 0..plan.events / 5_000 * 4 {
+        attacks::write_all(server.port, plan.pods, turn)?;
+    }
+    let old = pods::read(&format!("/api/v1/pods?limit=1&resourceVersionMatch=Exact&resourceVersion={}", from + plan.pods as u64));
+    for (name, clients, request) in [("4 clients that restart caches", 4, pods::restart()), ("2 that ask for an old page", 2, old)] {
+        let (alone, beside) = attacks::beside_requests(server.port, clients, &request, plan.time * 2)?;
+        tell(table, &format!("beside {name}"), alone, beside, Wanted::Nothing);
+    }
+    drop(server);
+    let server = plan.watchcache(&["--window-max", "102400"])?;
+    pods::load(server.port, 1)?;
+    let (alone, beside) = attacks::beside_watches(server.port, plan.idle / 5, plan.events / 10)?;
+    tell(table, "beside 2,000 watches and 1,000 writes", alone, beside, Wanted::AtMost(50.0));
+    Ok(())
+}
+
+fn tell(table: &mut Table, name: &str, alone: Waits, beside: Waits, wanted: Wanted) {
+    table.add(Row::new("get, p50, ms", alone.median), Wanted::Nothing);
+    table.add(Row::new("the longest, ms", alone.longest), Wanted::Nothing);
+    table.add(Row::new(&format!("{name}, p50, ms"), beside.median), Wanted::Nothing);
+    table.add(Row::new("the longest, ms", beside.longest), wanted);
 }

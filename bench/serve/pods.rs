@@ -14,8 +14,8 @@ pub fn name(number: usize) -> String {
     format!("pod-{number:05}")
 }
 
-/// A pod as a controller writes it, in so many bytes; `turn` makes its writes differ.
-pub fn pod(number: usize, turn: usize) -> String {
+/// A pod as a controller writes it, in so many bytes where that is enough; `turn` makes its writes differ.
+fn pod(number: usize, turn: usize, size: usize) -> String {
     let (name, tier) = (name(number), number % OF);
     let front = format!(
         "{{\"metadata\":{{\"name\":\"{name}\",\"namespace\":\"default\",\"uid\":\"6f2b1c8e-0d3a-4b57-9c1e-{number:012}\",\
@@ -34,16 +34,31 @@ pub fn pod(number: usize, turn: usize) -> String {
         number / 250 % 250,
         number % 250
     );
-    let note = SIZE.saturating_sub(front.len() + back.len());
+    let note = size.saturating_sub(front.len() + back.len());
     format!("{front}{}{back}", "n".repeat(note))
 }
 
 pub fn create(number: usize) -> Vec<u8> {
-    with_body("POST", COLLECTION, &pod(number, 0))
+    with_body("POST", COLLECTION, &pod(number, 0, SIZE))
+}
+
+/// Creates a pod that has little but a name.
+pub fn create_small(number: usize) -> Vec<u8> {
+    with_body("POST", COLLECTION, &format!("{{\"metadata\":{{\"name\":\"small-{number}\"}},\"spec\":{{\"nodeName\":\"here\"}}}}"))
 }
 
 pub fn replace(number: usize, turn: usize) -> Vec<u8> {
-    with_body("PUT", &format!("{COLLECTION}/{}", name(number)), &pod(number, turn))
+    replace_by(number, turn, SIZE)
+}
+
+/// The same by a pod of so many bytes.
+pub fn replace_by(number: usize, turn: usize, size: usize) -> Vec<u8> {
+    with_body("PUT", &format!("{COLLECTION}/{}", name(number)), &pod(number, turn, size))
+}
+
+/// A request of the server's own paths that changes nothing of the log.
+pub fn restart() -> Vec<u8> {
+    with_body("POST", "/watchcache/restart", "")
 }
 
 fn with_body(method: &str, path: &str, body: &str) -> Vec<u8> {

@@ -367,6 +367,39 @@ def stored_lists():
         yield lists_record(step), says.format(*rest)
 
 
+# Of a pod's life and five others, as a kube-apiserver told them: what is said where the line of this place is left out. Where nothing
+# is, a later write of the same pod covers it, or no list shows it.
+WITHOUT_LINE = {0: "unlawful at line 0", 4: "unlawful at list 1", 5: "unlawful at line 5"}
+WITHOUT_LINE_OF_LABEL = {0: "unlawful at line 0", 1: "unlawful at line 1", 2: "unlawful at line 2", 3: "unlawful at line 3", 5: "unlawful at line 5"}
+
+
+def stored_server():
+    """What a kube-apiserver sent, byte for byte, of tools/hostile/records/server: a list, watches from there, and a later list. As it
+    came, and damaged: without each of its lines, with two exchanged, with an older list. Each with what is said of it."""
+    def read(name):
+        return open(f"{ROOT}/tools/hostile/records/server/{name}.json", encoding="utf-8").read()
+
+    def record(query, lines, *later):
+        head = json.dumps({"namespace": "n1", "query": query, "resource": "pods"}, separators=(",", ":"))
+        parts = [read("list-180").rstrip("\n") + "\n", "".join(lines), *later]
+        return (head + "\n" + "\n".join(parts)).encode()
+
+    query, later, lines = "watch=true&allowWatchBookmarks=true&resourceVersion=180", read("list-185"), read("watch").splitlines(True)
+    whole = "lawful from 180 to 197, 1 of 1 lists held"
+    yield record(query, lines, later), whole
+    for place in range(len(lines)):
+        yield record(query, lines[:place] + lines[place + 1:], later), WITHOUT_LINE.get(place, whole)
+    yield record(query, [*lines[:3], lines[4], lines[3], *lines[5:]], later), "unlawful at line 4"
+    yield record(query, lines, later.replace('"resourceVersion":"185"},"items"', '"resourceVersion":"186"},"items"')), "unlawful at list 1"
+    yield record(query, lines, later.replace("\u2603", "x")), "unlawful at list 1"
+    yield record(query.replace("allowWatchBookmarks=true&", ""), lines, later), "unlawful at line 12"
+    query, lines = "watch=true&resourceVersion=180&labelSelector=app%3Da", read("watch-of-a-label").splitlines(True)
+    whole = "lawful from 180 to 197, 0 of 0 lists held"
+    yield record(query, lines), whole
+    for place in range(len(lines) - 1):
+        yield record(query, lines[:place] + lines[place + 1:]), WITHOUT_LINE_OF_LABEL.get(place, whole)
+
+
 def lists_record(step):
     """The record that a row of tools/hostile/records/lists.txt stands for."""
     first, query, body, *later = (it.strip() for it in step.split("|"))

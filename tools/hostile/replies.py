@@ -4,7 +4,7 @@ import json
 import re
 
 PHRASES = {200: "OK", 201: "Created", 400: "Bad Request", 403: "Forbidden", 404: "Not Found", 405: "Method Not Allowed",
-           409: "Conflict", 410: "Gone", 411: "Length Required", 413: "Payload Too Large", 422: "Unprocessable Entity",
+           409: "Conflict", 410: "Gone", 411: "Length Required", 413: "Payload Too Large", 415: "Unsupported Media Type", 422: "Unprocessable Entity",
            500: "Internal Server Error", 504: "Gateway Timeout"}
 
 # the code of each reason, and the messages that it comes with
@@ -14,7 +14,8 @@ REASONS = {
                    r"|fieldSelector: (?:(?:Syntax|UnknownField) at \d+|TooLong)"
                    r"|list option: (?:BadRevision|RevisionWithContinue|BadLimit)|continue: (?:NotToken|OtherList)"
                    r"|watch option: (?:BadRevision|BadTimeout)|object: (?:NotJson|Float|TooDeep|WrongKind|BadMeta)"
-                   r"|operation: BadRevision|websocket: BadUpgrade|transaction: (?:NotJson|Float|TooDeep|NotList|Empty"
+                   r"|operation: BadRevision|websocket: BadUpgrade"
+                   r"|the server does not serve (?:dryRun|preconditions of a deletion), and nothing was done|transaction: (?:NotJson|Float|TooDeep|NotList|Empty"
                    r"|TooManyItems|(?:BadItem|BadObject|Repeated) in item \d+)"),
     "Forbidden": (403, "the server does not allow requests that a browser makes for another site"),
     "NotFound": (404, NAMED + " not found|the server could not find the requested resource"),
@@ -24,6 +25,7 @@ REASONS = {
     "Expired": (410, r"too old resource version: \d+ \(\d+\)"),
     "LengthRequired": (411, "request: NeedsLength"),
     "RequestEntityTooLarge": (413, "request: (?:HeadTooLong|TooManyHeaders|BodyTooLong)"),
+    "UnsupportedMediaType": (415, "the body of the request was in an unknown format - accepted media types include: application/json"),
     "Invalid": (422, "list option: (?:BadMatch|MatchNeedsRevision|ExactZero|MatchWithContinue|InitialEventsOnList)"
                 "|watch option: (?:MatchWithoutInitial|InitialNeedsNotOlder)"),
     "InternalError": (500, "Revisions are used up"),

@@ -62,9 +62,10 @@ class Request:
         self.path, _, self.query = target.partition("?")
         self.closes = method == "HEAD" or any(
             it.strip().lower() == "close" for value in self.values("connection") for it in value.split(","))
-        # what a browser, another site's name, a WebSocket or another view changes isn't foretold
-        self.is_plain = not (any(self.values(name) for name in ("origin", "sec-fetch-site", "upgrade", "accept"))
-                             or any("." in it for it in self.values("host")))
+        # what a browser, another site's name, a WebSocket, another view or what isn't served changes isn't foretold
+        self.is_plain = not (any(self.values(name) for name in ("origin", "sec-fetch-site", "upgrade", "accept", "content-type"))
+                             or any("." in it for it in self.values("host")) or "dryRun" in target
+                             or method == "DELETE" and (b"dryRun" in body or b"preconditions" in body))
 
     def values(self, name):
         return [value for it, value in self.fields if it == name]
@@ -195,7 +196,7 @@ def shown(value, at):
 
 NO_PATH = (404, "the server could not find the requested resource")
 NO_METHOD = (405, "the server does not allow this method on the requested resource")
-OWN = ("cut", "compact", "restart", "transaction")
+OWN = ("cut", "compact", "restart", "disconnect", "transaction")
 # where a server describes itself
 DOCUMENTS = re.compile("(?:/version|/api|/apis|/api/v1|/apis/apps|/apis/apps/v1|/livez|/readyz|/healthz|/api/v1/namespaces/[^/]*)/?")
 # and what tells a monitor of it
