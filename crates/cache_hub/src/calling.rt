@@ -3,7 +3,7 @@
 ghost use Rattle.std.specs.Prelude.{◌≡◌};
 
 use crate::open_lane::OpenLane;
-use bells::Bell;
+use bells::{Bell, Calls};
 use indexmap::IndexMap;
 use std::sync::Arc;
 use up_api::LogFacts;
@@ -26,7 +26,7 @@ pub(crate) fn hand_over_all<N: LogFacts>(
     placed: &mut IndexMap<u64, OpenLane<N>>,
     alike: &mut IndexMap<u64, OpenLane<N>>,
     called: &mut Vec<u64>,
-    calls: &mut Vec<Arc<Bell>>,
+    calls: &mut Calls,
 )
     ensures placed { placed.new.entries ≡ placed.old.entries }
     ensures alike { alike.new.entries ≡ alike.old.entries }
@@ -39,11 +39,7 @@ pub(crate) fn hand_over_all<N: LogFacts>(
 }
 
 // Hands the bell of a lane's watcher, if it is there, to who rings.
-fn hand_over<N: LogFacts>(
-    lanes: &mut IndexMap<u64, OpenLane<N>>,
-    id: u64,
-    calls: &mut Vec<Arc<Bell>>,
-)
+fn hand_over<N: LogFacts>(lanes: &mut IndexMap<u64, OpenLane<N>>, id: u64, calls: &mut Calls)
     ensures { lanes.new.entries ≡ lanes.old.entries }
 {
     if let Some(lane) = lanes.get_mut(&id) {

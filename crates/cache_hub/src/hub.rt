@@ -16,7 +16,7 @@ ghost use Rattle.cache_hub.specs.declared.catching.CatchNo.TheVariants.{Lost};
 
 use crate::catching::{CatchNo, Caught, first_lines};
 use crate::lanes::Lanes;
-use bells::Bell;
+use bells::{Bell, Calls};
 use cache_core::{AtNo, Cache};
 use kube_meta::{Memory, Resource};
 use metrics::CacheMetrics;
@@ -160,7 +160,7 @@ impl<N: LogFacts> Hub<N> {
 
     /// Puts the bells of all lanes that were told or fell behind since the last such call behind those in `calls`, for
     /// the caller to ring once it has let the cache's lock go. Where there is no memory for one it is rung at once.
-    pub fn take_calls(&mut self, calls: &mut Vec<Arc<Bell>>)
+    pub fn take_calls(&mut self, calls: &mut Calls)
         ensures { self.new ≡ self.old }
     {
         self.lanes.take_calls(calls);

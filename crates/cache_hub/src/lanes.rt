@@ -10,7 +10,7 @@ use crate::calling::{hand_over_all, hang, strike};
 use crate::open_lane::OpenLane;
 use crate::placed::tell_placed;
 use crate::telling::tell_every;
-use bells::Bell;
+use bells::{Bell, Calls};
 use event_ring::Event;
 use indexmap::IndexMap;
 use kube_meta::Memory;
@@ -139,7 +139,7 @@ impl<N: LogFacts> Lanes<N> {
     }
 
     /// Hands the bells of all watchers that are called to who rings.
-    pub fn take_calls(&mut self, calls: &mut Vec<Arc<Bell>>)
+    pub fn take_calls(&mut self, calls: &mut Calls)
         ensures { self.new ≡ self.old }
     {
         hand_over_all(&mut self.placed, &mut self.alike, &mut self.called, calls);

@@ -11,7 +11,7 @@ ghost use Rattle.cache_hub.specs.Due.{IsPiece, IsPieceIn, IsPieceOf, IsReady, Is
 ghost use Rattle.cache_hub.specs.OpenLanes.{GetsAll, GoesAlong, batch_from, batch_of, told_lane, left_behind, caught_up};
 
 use crate::sleeper::Sleeper;
-use bells::Bell;
+use bells::{Bell, Calls};
 use encode_once::Shown;
 use event_ring::Event;
 use kube_meta::{Memory, Obj};
@@ -75,7 +75,7 @@ impl<N: LogFacts> OpenLane<N> {
     }
 
     /// Hands the bell of its watcher to who rings.
-    pub fn hand_over(&mut self, calls: &mut Vec<Arc<Bell>>)
+    pub fn hand_over(&mut self, calls: &mut Calls)
         ensures { self.new ≡ self.old }
     {
         if let Some(sleeper) = &mut self.sleeper {

@@ -1,6 +1,6 @@
 //! Who rests at a lane, and has to be rung.
 
-use bells::Bell;
+use bells::{Bell, Calls};
 use std::sync::Arc;
 
 /// The watcher of a lane that may rest at a bell, with the lane's number, and whether it is called: whether it has to
@@ -38,15 +38,8 @@ impl Sleeper {
     }
 
     /// Hands its bell to who rings, and is no longer called. Where there is no memory for that it is rung at once.
-    pub fn hand_over(&mut self, calls: &mut Vec<Arc<Bell>>) {
+    pub fn hand_over(&mut self, calls: &mut Calls) {
         self.is_called = false;
-        match Arc::try_clone(&self.bell) {
-            Ok(bell) => {
-                if calls.push(bell).is_err() {
-                    self.bell.ring();
-                }
-            }
-            Err(_) => self.bell.ring(),
-        }
+        calls.add(&self.bell);
     }
 }

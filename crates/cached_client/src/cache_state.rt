@@ -24,7 +24,7 @@ use crate::read_answers::revision_alone;
 use crate::reads::Found;
 use crate::resources::OfResource;
 use crate::windows::{NamedWindow, Window};
-use bells::Bell;
+use bells::{Bell, Calls};
 use cache_core::AtNo;
 use cache_hub::{CatchNo, Caught, Hub};
 use client_api::ListNo;
@@ -339,7 +339,7 @@ impl<N: LogFacts, One: OfResource, W: Window> CacheState<N, One, W> {
         up: &mut U,
         told: &mut Pass<N>,
         until: u64,
-        calls: &mut Vec<Arc<Bell>>,
+        calls: &mut Calls,
     ) -> Result<(), Memory>
         requires until { until ≤ told.old.shown }
         ensures extends { Extends told.old told.new }

@@ -8,13 +8,13 @@ ghost use Rattle.up_api.specs.Sections.{Learns};
 ghost use Rattle.up_api.specs.Settings.{AreInRange};
 
 use crate::client::{SharedClient, WriteDoor};
-use bells::Bell;
+use bells::Calls;
 use cached_client::{CacheState, OfConfigMaps, OfDeployments, OfPods, OfResource};
 use kube_meta::Memory;
 use std::alloc::Global;
 use std::sync::atomic::AtomicU64;
 use std::sync::atomic::Ordering::SeqCst;
-use std::sync::{Arc, Mutex, Wait};
+use std::sync::{Mutex, Wait};
 use up_api::{LogFacts, Pass, Settings};
 use up_store::{ReadDoor, StoreDoor};
 
@@ -86,7 +86,7 @@ impl<N: LogFacts, R: Wait + Copy> Cacher<N, R> {
     /// Loads the revision that the log has reached, brings each cache there, and gives the bells of the lanes that
     /// were told, or fell behind, since this was last called, for the caller to ring: no lock is held then. Want of
     /// memory of one cache is answered once the others were brought there.
-    pub fn feed(&self, told: &mut Pass<N>, calls: &mut Vec<Arc<Bell>>) -> Result<(), Memory>
+    pub fn feed(&self, told: &mut Pass<N>, calls: &mut Calls) -> Result<(), Memory>
         ensures extends { Extends told.old told.new }
     {
         let until = told.look();
