@@ -22,10 +22,12 @@ use std::alloc::Global;
 use std::marker::Model;
 
 /// How many bytes of a body are read at a time, at most, behind those that came with its head.
-const STEP: usize = 8192;
+const STEP: usize = 2048;
 
 // Reads once behind the front of a body of `whole` bytes, and answers how many bytes came. The body's memory is
-// reserved, so that none is asked for, and none is used before bytes come for it.
+// reserved, so that none is asked for, and none is used before bytes come for it. Its step lies in a frame of its own:
+// in those of its callers it would be held by whoever waits for a head, or serves what was read.
+#[inline(never)]
 fn read_more<S: Source>(source: &mut S, body: &mut Vec<u8>, whole: usize) -> Result<usize, Failed>
     requires open { length body.old.items < whole }
     requires reserved { whole ≤ vec_capacity body.old }
@@ -64,6 +66,15 @@ fn read_rest<S: Source>(source: &mut S, body: &mut Vec<u8>, whole: usize) -> Res
     Ok(())
 }
 
+// Gives the memory back in which no bytes are kept, where more of a body is to come: its client may be long in coming.
+fn rest_before(kept: &mut Unread, is_whole: bool)
+    ensures { kept.new ≡ kept.old }
+{
+    if !is_whole {
+        kept.rest();
+    }
+}
+
 // Reads a body of `whole` bytes, from the bytes that are kept and then from a source, into memory that is reserved.
 fn read_body<S: Source>(
     kept: &mut Unread,
@@ -85,6 +96,7 @@ fn read_body<S: Source>(
         Err(_) => unreachable!(),
     }
     kept.consume(n);
+    rest_before(kept, n == whole);
     read_rest(source, body, whole)
 }
 

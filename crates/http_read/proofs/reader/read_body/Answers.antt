@@ -20,7 +20,7 @@ returns-clause-reads g c =
     let within : n ≤ length kept = omega (arith, least) in (
       came.0,
       came.1,
-      subst (λ k. FillsBody c.args.whole (kept ++ came.0) body k left f f' c.read_rest.result) (sym c.consume.ensures)
+      subst (λ k. FillsBody c.args.whole (kept ++ came.0) body k left f f' c.read_rest.result) (sym (c.rest_before.ensures ∙ c.consume.ensures))
           (fills kept came.0 body n c.args.whole (all_or_whole kept n c.args.whole least) within left f f' c.read_rest.result
           (subst (λ l. FillsBody c.args.whole (l ++ came.0) body [] left f f' c.read_rest.result) copied came.2)),
       λ enough. fills-nothing front came.0 body c.args.whole left f f' c.read_rest.result (omega (arith, ap length copied, length-take n kept, least, enough)) came.2,
