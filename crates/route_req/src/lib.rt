@@ -15,6 +15,7 @@ pub use laws::{
     answers_agree, item_objects_are_plain, paths_name_one_place, refusals_agree,
     routes_are_not_refused, selections_agree,
 };
+pub use places::{Action, Place};
 pub use routing::{RouteNo, Routed, route};
 pub use transactions::TxTextNo;
 pub use unserved::Unserved;

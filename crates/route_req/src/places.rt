@@ -11,7 +11,7 @@ use kube_meta::{Memory, Resource, Text, is_namespace, is_object_name};
 
 /// What a path names.
 #[derive(Debug, Drop)]
-pub(crate) enum Place {
+pub enum Place {
     /// What the server tells of itself.
     Described(Document),
     /// The objects of a resource, in all namespaces.
@@ -36,19 +36,30 @@ pub(crate) enum Place {
 
 /// What a method asks for at a place: a resource, then a namespace, then a name.
 #[derive(Debug, Drop)]
-pub(crate) enum Action {
+pub enum Action {
+    /// What the server tells of itself.
     Describe(Document),
+    /// The metrics.
     Measure,
     /// A list or a watch, in one namespace or in all.
     Read(Resource, Option<Text>),
+    /// A new object.
     Create(Resource, Text),
+    /// One object.
     Get(Resource, Text, Text),
+    /// Another object in place of one.
     Replace(Resource, Text, Text),
+    /// An object's removal.
     Remove(Resource, Text, Text),
+    /// That feeds are cut.
     Cut,
+    /// A compaction.
     Compact,
+    /// That the caches begin anew.
     Restart,
+    /// That watches end.
     Disconnect,
+    /// Several writes at one revision.
     Transact,
 }
 

@@ -25,7 +25,8 @@ use Rattle.sess_serve.specs.EachServing.{OnlyOf, IsEachRound}
 use Rattle.sess_serve.specs.Ends.{Knows, KnowsAlone}
 use Rattle.sess_serve.specs.Serving.{BeginsWith, Exchanged, exchange_of, RoundIs, Ends}
 use Rattle.sess_serve.specs.Steps.{Exchange, Step, Run, AreAlone, IsAlone}
-use Rattle.sess_serve.specs.Texts.{view_of, answer_bytes, answer_text}
+use Rattle.sess_serve.specs.Http.{view_of}
+use Rattle.sess_serve.specs.Texts.{answer_bytes, answer_text}
 use Rattle.sess_serve.proofs.Session.{run-push, alone-push, Sofar, none-sofar, full, none-finished, next, ends, Passed, none-passed, more-passed, round-passed, Between, between}
 
 -- ---- answers are written by the settings alone

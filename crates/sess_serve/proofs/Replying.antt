@@ -44,10 +44,11 @@ use Rattle.sess_turns.specs.Turns.{Finish, end_of_watch}
 use Rattle.sess_turns.specs.declared.view.View.{View}
 use Rattle.sess_turns.specs.declared.ends.WatchEnd.{WatchEnd}
 use Rattle.sess_turns.specs.declared.ends.WatchEnd.TheVariants as watch_end
-use Rattle.sess_serve.specs.Answers.{replied, streamed, gone, begun, IsReplyTo, IsPlainOrUpgrade, answer_readings}
+use Rattle.sess_serve.specs.Answers.{replied, streamed, gone, begun, IsReplyTo, answer_readings}
 use Rattle.sess_serve.specs.Ends.{Begins}
 use Rattle.sess_serve.specs.Steps.{ReplySays, IsAloneReply}
-use Rattle.sess_serve.specs.Texts.{view_of, framing_of, answer_bytes}
+use Rattle.sess_serve.specs.Http.{IsPlainOrUpgrade, view_of, framing_of}
+use Rattle.sess_serve.specs.Texts.{answer_bytes}
 use Rattle.sess_serve.specs.Serving.{Given, Answered, AnsweredAs, ComesTo, Replied, UnlessMemory, sent_with}
 
 -- ---- nobody else holds the log

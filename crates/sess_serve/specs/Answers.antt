@@ -1,19 +1,18 @@
 -- The answers to requests, as plain data: each has what was asked, and what the client answered.
-use Rattle.std.specs.Prelude.{ℕ, List, [], Bool, true, false, Option, Some, None, IfSome}
+use Rattle.std.specs.Prelude.{ℕ, List, [], Bool, true, false}
 use Rattle.route_req.specs.declared.documents.Document.TheVariants as document
 use Rattle.edge_io.specs.declared.clock.Reading.{Reading}
 use Rattle.rev_front.specs.Passes.{Pass}
 use Rattle.rev_log.specs.Changes.{RevisionData}
 use Rattle.http_read.specs.declared.request.Req.{Req}
-use Rattle.http_read.specs.declared.request.Upgrade.{Upgrade}
 use Rattle.watch_rules.specs.declared.ask.WatchAsk.{WatchAsk}
-use Rattle.route_req.specs.Asks.{IsRoute, IsRefusal}
 use Rattle.route_req.specs.declared.routing.Routed.TheVariants as routed
 use Rattle.route_req.specs.declared.routing.RouteNo.{RouteNo}
 use Rattle.route_req.specs.declared.routing.RouteNo.TheVariants as route_no
-use Rattle.ws_watch.specs.Handshake.{IsUpgrade}
 use Rattle.sess_reply.specs.Replies.{Reply, unrouted, wrote, transacted, got, listed, operated, described, metered, unready, unwatched, bad_upgrade}
 use Rattle.sess_turns.specs.Turns.{Turns, readings_of}
+use Rattle.sess_serve.specs.Wire.{Wire}
+use Rattle.sess_serve.specs.Http.{http}
 
 -- a watch that is answered by a stream: it is told at once that its start is gone, or it begins, and has turns; the
 -- pass is what is known once it has begun
@@ -29,37 +28,38 @@ pub data Answer : Type 0 where
 -- ---- the answer is to what the request asks for
 
 -- the request has no route, for that reason, which isn't want of memory
-abbrev pub IsUnrouted : Req → RouteNo → Type 0
-IsUnrouted req route_no.Memory = ⊥
-IsUnrouted req fault = IsRefusal req fault
-
--- a head that asks for a WebSocket does it as it must (RFC 6455, section 4.2.1)
-abbrev pub IsPlainOrUpgrade : Req → Type 0
-IsPlainOrUpgrade req = IfSome req.upgrade (λ (u : Upgrade). IsUpgrade u.key u.version)
-
--- a head asks for a WebSocket, but not as it must
-abbrev pub FailsUpgrade : Option Upgrade → Type 0
-FailsUpgrade None = ⊥
-FailsUpgrade (Some u) = ¬ (IsUpgrade u.key u.version)
+abbrev pub IsUnroutedBy : Wire → Req → RouteNo → Type 0
+IsUnroutedBy wire req route_no.Memory = ⊥
+IsUnroutedBy wire req fault = wire.is_refusal req fault
 
 -- the reply is to what the request asks for: it tells why that has no route, or what came of the route that it has
-abbrev pub IsReplyTo : Req → Reply → Type 0
-IsReplyTo req (unrouted fault) = IsUnrouted req fault
-IsReplyTo req (wrote ask answer) = IsRoute req (routed.Write ask)
-IsReplyTo req (transacted asks answer) = IsRoute req (routed.Transact asks)
-IsReplyTo req (got ask answer) = IsRoute req (routed.Get ask)
-IsReplyTo req (listed ask answer) = IsRoute req (routed.List ask)
-IsReplyTo req (operated ask answer) = IsRoute req (routed.Operate ask)
-IsReplyTo req (described served document) = IsRoute req (routed.Describe document)
-IsReplyTo req (metered told) = IsRoute req routed.Metrics
-IsReplyTo req (unready probe) = IsRoute req (routed.Describe (document.Probe probe))
-IsReplyTo req (unwatched ask fault) = IsRoute req (routed.Watch ask) × IsPlainOrUpgrade req
-IsReplyTo req (bad_upgrade ask) = IsRoute req (routed.Watch ask) × FailsUpgrade req.upgrade
+abbrev pub IsReplyToBy : Wire → Req → Reply → Type 0
+IsReplyToBy wire req (unrouted fault) = IsUnroutedBy wire req fault
+IsReplyToBy wire req (wrote ask answer) = wire.is_route req (routed.Write ask)
+IsReplyToBy wire req (transacted asks answer) = wire.is_route req (routed.Transact asks)
+IsReplyToBy wire req (got ask answer) = wire.is_route req (routed.Get ask)
+IsReplyToBy wire req (listed ask answer) = wire.is_route req (routed.List ask)
+IsReplyToBy wire req (operated ask answer) = wire.is_route req (routed.Operate ask)
+IsReplyToBy wire req (described served document) = wire.is_route req (routed.Describe document)
+IsReplyToBy wire req (metered told) = wire.is_route req routed.Metrics
+IsReplyToBy wire req (unready probe) = wire.is_route req (routed.Describe (document.Probe probe))
+IsReplyToBy wire req (unwatched ask fault) = wire.is_route req (routed.Watch ask) × wire.may_stream req
+IsReplyToBy wire req (bad_upgrade ask) = wire.is_route req (routed.Watch ask) × wire.fails_upgrade req
 
--- the answer is to what the request asks for; a stream is to a watch that asks for no WebSocket, or does as it must
+-- the answer is to what the request asks for; a stream is to a watch that can be streamed
+abbrev pub IsAnswerToBy : Wire → Req → Answer → Type 0
+IsAnswerToBy wire req (replied reply) = IsReplyToBy wire req reply
+IsAnswerToBy wire req (streamed ask stream) = wire.is_route req (routed.Watch ask) × wire.may_stream req
+
+-- the same, where the wire is HTTP
+abbrev pub IsUnrouted : Req → RouteNo → Type 0
+IsUnrouted = IsUnroutedBy http
+
+abbrev pub IsReplyTo : Req → Reply → Type 0
+IsReplyTo = IsReplyToBy http
+
 abbrev pub IsAnswerTo : Req → Answer → Type 0
-IsAnswerTo req (replied reply) = IsReplyTo req reply
-IsAnswerTo req (streamed ask stream) = IsRoute req (routed.Watch ask) × IsPlainOrUpgrade req
+IsAnswerTo = IsAnswerToBy http
 
 -- ---- streams
 

@@ -4,7 +4,6 @@ use Rattle.std.specs.Option.{option_map_or}
 use Rattle.kube_meta.specs.Resources.{of_group, plural_of, same_resource}
 use Rattle.kube_meta.specs.declared.resources.Resource.{Resource}
 use Rattle.kube_meta.specs.declared.resources.Resource.TheVariants.{Pods, ConfigMaps, Deployments}
-use Rattle.http_read.specs.Requests.{ReadsSome}
 use Rattle.http_read.specs.declared.request.Req.{Req}
 use Rattle.rev_front.specs.Passes.{Pass}
 use Rattle.rev_log.specs.Changes.{RevisionData}
@@ -13,9 +12,11 @@ use Rattle.up_api.specs.declared.settings.Settings.{Settings}
 use Rattle.client_api.specs.Facts.{Facts}
 use Rattle.route_req.specs.Places.{base_of}
 use Rattle.sess_turns.specs.Terms.{Terms, terms_of}
-use Rattle.sess_serve.specs.Steps.{Exchange, Run, AreAlone}
-use Rattle.sess_serve.specs.Ends.{Traffic, Ended, Knows, KnowsAlone}
-use Rattle.sess_serve.specs.Serving.{BeginsWith}
+use Rattle.sess_serve.specs.Wire.{Wire}
+use Rattle.sess_serve.specs.Http.{http}
+use Rattle.sess_serve.specs.Steps.{Exchange, RunBy, AreAlone}
+use Rattle.sess_serve.specs.Ends.{Traffic, EndedBy, Knows, KnowsAloneBy}
+use Rattle.sess_serve.specs.Serving.{BeginsWithBy}
 use Rattle.sess_serve.specs.Session.{requests_of, readings_in}
 use Rattle.sess_serve.specs.declared.ends.SessionEnd.{SessionEnd}
 
@@ -89,20 +90,27 @@ strands pods config_maps deployments Deployments = deployments
 
 -- The strand of a resource: each answer to a request of the resource stands between two passes of its log, and no other
 -- request changed what is known of that.
-pub record IsStrand (strand : Strand) (resource : Resource) (exchanges : List Exchange) (rest : List ℕ) (how : SessionEnd) : Type 0 where
+pub record IsStrandBy (wire : Wire) (strand : Strand) (resource : Resource) (exchanges : List Exchange) (rest : List ℕ) (how : SessionEnd) : Type 0 where
   pub last : Pass RevisionData
-  pub run : Run strand.terms strand.before (exchanges_of resource exchanges) last
+  pub run : RunBy wire strand.terms strand.before (exchanges_of resource exchanges) last
   pub knows : Knows how last strand.after
-  pub others : (last ≡ strand.after) ⊎ BeginsWith (λ req. resource_of req ≡ resource) rest
-  pub sole : strand.whole → AreAlone strand.terms strand.before (exchanges_of resource exchanges) × KnowsAlone strand.terms how last rest strand.after
+  pub others : (last ≡ strand.after) ⊎ BeginsWithBy wire (λ req. resource_of req ≡ resource) rest
+  pub sole : strand.whole → AreAlone strand.terms strand.before (exchanges_of resource exchanges) × KnowsAloneBy wire strand.terms how last rest strand.after
 
 -- A session of three logs, of the same settings: the answered requests stand in the bytes, in order; those of each
 -- resource are answered by its own log; the bytes out and the readings are those of the answers, in order; and the end
 -- has its cause. How answers are written, and how many there may be, goes by the settings.
-pub record IsEachSession (strands_of : Resource → Strand) (traffic : Traffic) (how : SessionEnd) : Type 0 where
+pub record IsEachSessionBy (wire : Wire) (strands_of : Resource → Strand) (traffic : Traffic) (how : SessionEnd) : Type 0 where
   pub exchanges : List Exchange
   pub rest : List ℕ
-  pub reads : ReadsSome traffic.taken (requests_of exchanges) rest
-  pub strand : (resource : Resource) → IsStrand (strands_of resource) resource exchanges rest how
+  pub reads : wire.reads_some traffic.taken (requests_of exchanges) rest
+  pub strand : (resource : Resource) → IsStrandBy wire (strands_of resource) resource exchanges rest how
   pub readings : traffic.readings ≡ readings_in exchanges
-  pub ended : Ended (strands_of Pods).terms exchanges rest traffic how
+  pub ended : EndedBy wire (strands_of Pods).terms exchanges rest traffic how
+
+-- the same, where the wire is HTTP
+abbrev pub IsStrand : Strand → Resource → List Exchange → List ℕ → SessionEnd → Type 0
+IsStrand = IsStrandBy http
+
+abbrev pub IsEachSession : (Resource → Strand) → Traffic → SessionEnd → Type 0
+IsEachSession = IsEachSessionBy http

@@ -1,3 +1,5 @@
+pub mod Wire
+pub mod Http
 pub mod Answers
 pub mod Texts
 pub mod Steps

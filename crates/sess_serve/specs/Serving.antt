@@ -19,6 +19,8 @@ use Rattle.sess_reply.specs.declared.broken.Broken.TheVariants as broken
 use Rattle.sess_turns.specs.Streams.{Outside}
 use Rattle.sess_turns.specs.Terms.{Terms}
 use Rattle.sess_turns.specs.declared.ends.WatchEnd.{WatchEnd}
+use Rattle.sess_serve.specs.Wire.{Wire}
+use Rattle.sess_serve.specs.Http.{http}
 use Rattle.sess_serve.specs.Answers.{Answer, IsAnswerTo, is_stream, answer_readings}
 use Rattle.sess_serve.specs.Ends.{Stays, IsClosed, IsWatchEnd, Begins, SoleMemory, UnlessBroken}
 use Rattle.sess_serve.specs.Steps.{Exchange, Says, IsAlone}
@@ -133,8 +135,12 @@ AnswerBegun Of terms whole p bytes after written readings q =
     (x : Exchanged Of terms whole p bytes after readings q) × IsPrefix written (answer_bytes terms x.request x.given.answer)
 
 -- the bytes begin with such a request
+abbrev pub BeginsWithBy : Wire → (Req → Type 0) → List ℕ → Type 0
+BeginsWithBy wire Of bytes = (req : Req) × (after : List ℕ) × wire.reads_one bytes req after × Of req
+
+-- the same, where the wire is HTTP
 abbrev pub BeginsWith : (Req → Type 0) → List ℕ → Type 0
-BeginsWith Of bytes = (req : Req) × (after : List ℕ) × ReadsOne bytes req after × Of req
+BeginsWith = BeginsWithBy http
 
 -- there was no memory before an answer
 pub record Unfinished (Of : Req → Type 0) (terms : Terms) (whole : Type 0) (p : Pass RevisionData) (bytes written : List ℕ) (readings : List Reading) (q : Pass RevisionData) : Type 0 where

@@ -2,14 +2,15 @@
 use Rattle.std.specs.Prelude.{◌≡◌, ℕ, List, map}
 use Rattle.std.specs.List.{flat_map}
 use Rattle.edge_io.specs.declared.clock.Reading.{Reading}
-use Rattle.http_read.specs.Requests.{ReadsSome}
 use Rattle.http_read.specs.declared.request.Req.{Req}
 use Rattle.rev_front.specs.Passes.{Pass}
 use Rattle.rev_log.specs.Changes.{RevisionData}
 use Rattle.sess_turns.specs.Terms.{Terms}
+use Rattle.sess_serve.specs.Wire.{Wire}
+use Rattle.sess_serve.specs.Http.{http}
 use Rattle.sess_serve.specs.Answers.{answer_readings}
-use Rattle.sess_serve.specs.Steps.{Exchange, Run, AreAlone}
-use Rattle.sess_serve.specs.Ends.{Traffic, Ended, Knows, KnowsAlone}
+use Rattle.sess_serve.specs.Steps.{Exchange, RunBy, AreAlone}
+use Rattle.sess_serve.specs.Ends.{Traffic, EndedBy, Knows, KnowsAloneBy}
 use Rattle.sess_serve.specs.declared.ends.SessionEnd.{SessionEnd}
 
 -- the requests that were answered, in the order of their answers
@@ -23,13 +24,17 @@ readings_in exchanges = flat_map (λ (e : Exchange). answer_readings e.answer) e
 -- A session that began with pass p and ended with pass q: the answered requests stand in the bytes, in order; each
 -- answer stands between two passes; the bytes out and the readings are those of the answers; and the end has its
 -- cause. `whole` says that nobody else holds the log and that p knew it whole.
-pub record IsSession (terms : Terms) (whole : Type 0) (p : Pass RevisionData) (traffic : Traffic) (q : Pass RevisionData) (how : SessionEnd) : Type 0 where
+pub record IsSessionBy (wire : Wire) (terms : Terms) (whole : Type 0) (p : Pass RevisionData) (traffic : Traffic) (q : Pass RevisionData) (how : SessionEnd) : Type 0 where
   pub exchanges : List Exchange
   pub last : Pass RevisionData
   pub rest : List ℕ
-  pub reads : ReadsSome traffic.taken (requests_of exchanges) rest
-  pub run : Run terms p exchanges last
+  pub reads : wire.reads_some traffic.taken (requests_of exchanges) rest
+  pub run : RunBy wire terms p exchanges last
   pub knows : Knows how last q
-  pub sole : whole → AreAlone terms p exchanges × KnowsAlone terms how last rest q
+  pub sole : whole → AreAlone terms p exchanges × KnowsAloneBy wire terms how last rest q
   pub readings : traffic.readings ≡ readings_in exchanges
-  pub ended : Ended terms exchanges rest traffic how
+  pub ended : EndedBy wire terms exchanges rest traffic how
+
+-- the same, where the wire is HTTP
+abbrev pub IsSession : Terms → Type 0 → Pass RevisionData → Traffic → Pass RevisionData → SessionEnd → Type 0
+IsSession = IsSessionBy http

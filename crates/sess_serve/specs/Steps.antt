@@ -17,7 +17,9 @@ use Rattle.client_api.specs.Told.{IsToldRead, IsToldWrite, IsToldTx, IsToldOpera
 use Rattle.sess_reply.specs.Replies.{Reply, unrouted, wrote, transacted, got, listed, operated, described, metered, unready, unwatched, bad_upgrade}
 use Rattle.sess_turns.specs.Terms.{Terms}
 use Rattle.sess_turns.specs.Turns.{IsWatchTurns, AloneFinish}
-use Rattle.sess_serve.specs.Answers.{Stream, gone, begun, Answer, replied, streamed, IsAnswerTo}
+use Rattle.sess_serve.specs.Wire.{Wire}
+use Rattle.sess_serve.specs.Http.{http}
+use Rattle.sess_serve.specs.Answers.{Stream, gone, begun, Answer, replied, streamed, IsAnswerToBy}
 
 -- ---- what an answer says
 
@@ -63,15 +65,22 @@ pub record Exchange : Type 0 where
   pub pass : Pass RevisionData
 
 -- the answer is to the request, and stands between what was known before and what is known then
-pub record Step (terms : Terms) (p : Pass RevisionData) (e : Exchange) : Type 0 where
-  pub answers : IsAnswerTo e.request e.answer
+pub record StepBy (wire : Wire) (terms : Terms) (p : Pass RevisionData) (e : Exchange) : Type 0 where
+  pub answers : IsAnswerToBy wire e.request e.answer
   pub says : Says terms p e.answer e.pass
   pub onward : IsOnward p e.pass
 
 -- each answer stands between two passes, from the first pass to the last
+abbrev pub RunBy : Wire → Terms → Pass RevisionData → List Exchange → Pass RevisionData → Type 0
+RunBy wire terms p [] last = p ≡ last
+RunBy wire terms p (e ∷ es) last = StepBy wire terms p e × RunBy wire terms e.pass es last
+
+-- the same, where the wire is HTTP
+abbrev pub Step : Terms → Pass RevisionData → Exchange → Type 0
+Step = StepBy http
+
 abbrev pub Run : Terms → Pass RevisionData → List Exchange → Pass RevisionData → Type 0
-Run terms p [] last = p ≡ last
-Run terms p (e ∷ es) last = Step terms p e × Run terms e.pass es last
+Run = RunBy http
 
 -- ---- a log that nobody else holds: what becomes of it, its floor and its generation; each load gives its end
 

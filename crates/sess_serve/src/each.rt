@@ -7,8 +7,9 @@ ghost use Rattle.edge_io.specs.declared.clock.Reading.{Reading as ReadingData};
 ghost use Rattle.edge_io.specs.Sent.{sent_through};
 ghost use Rattle.sess_turns.specs.Streams.{outside_of};
 ghost use Rattle.up_api.specs.Settings.{AreInRange};
-ghost use Rattle.sess_serve.specs.Each.{IsEachSession, strand_of, strands};
+ghost use Rattle.sess_serve.specs.Each.{IsEachSessionBy, strand_of, strands};
 ghost use Rattle.sess_serve.specs.EachServing.{AnsweredByOne, IsEachRound};
+ghost use Rattle.sess_serve.specs.Http.{http};
 ghost use Rattle.sess_serve.specs.Ends.{UnlessReadFault, UnlessWriteFault, UnlessMemory, UnlessBroken};
 ghost use Rattle.sess_serve.specs.Serving as serving;
 ghost use Rattle.sess_serve.specs.Serving.{OnNone, OrEnd};
@@ -60,7 +61,7 @@ pub fn serve_each<P: Client, M: Client, D: Client, S: Source, K: Sink, T: Clock>
         × (S.left source.old ≡ prepended taken (S.left source.new))
         × (K.written sink.new ≡ appended (K.written sink.old) written)
         × Noted (T.readings clock.old) (T.readings clock.new) readings
-        × IsEachSession
+        × IsEachSessionBy http
         (strands
         (strand_of settings.now P.base P.mirror (P.facts clients.old.pods) (P.whole clients.old.pods)
         (P.pass clients.old.pods) (P.pass clients.new.pods))

@@ -12,7 +12,8 @@ ghost use Rattle.up_api.specs.Settings.{AreInRange};
 ghost use Rattle.sess_serve.specs.Ends.{UnlessReadFault, UnlessWriteFault, UnlessMemory, UnlessBroken};
 ghost use Rattle.sess_serve.specs.Serving as serving;
 ghost use Rattle.sess_serve.specs.Serving.{IsRound, IsStopped, OnNone, OrEnd};
-ghost use Rattle.sess_serve.specs.Session.{IsSession};
+ghost use Rattle.sess_serve.specs.Http.{http};
+ghost use Rattle.sess_serve.specs.Session.{IsSessionBy};
 
 use crate::answer::answer;
 use crate::ends::SessionEnd;
@@ -46,7 +47,7 @@ pub fn serve_session<C: Client, S: Source, K: Sink, T: Clock>(
         × (S.left source.old ≡ prepended taken (S.left source.new))
         × (K.written sink.new ≡ appended (K.written sink.old) written)
         × Noted (T.readings clock.old) (T.readings clock.new) readings
-        × IsSession (terms_of C.base C.mirror (C.facts client.old) settings.now) (C.whole client.old) (C.pass client.old)
+        × IsSessionBy http (terms_of C.base C.mirror (C.facts client.old) settings.now) (C.whole client.old) (C.pass client.old)
         (record {
           taken = taken;
           written = written;

@@ -2,8 +2,8 @@
 
 ghost use Rattle.std.specs.Prelude.{◌≡◌, IfOk};
 ghost use Rattle.std.specs.Bool.{MatchBool};
-ghost use Rattle.sess_serve.specs.Answers.{IsPlainOrUpgrade, FailsUpgrade};
-ghost use Rattle.sess_serve.specs.Texts as texts;
+ghost use Rattle.sess_serve.specs.Http.{IsPlainOrUpgrade, FailsUpgrade};
+ghost use Rattle.sess_serve.specs.Http as http;
 
 use http_read::{Req, Upgrade};
 use kube_meta::{Memory, Text};
@@ -24,7 +24,7 @@ pub fn is_plain_or_upgrade(req: &Req) -> bool
 
 /// How the stream that answers a request is shown.
 pub fn view_of(alloc: Global, req: &Req) -> Result<View, Memory>
-    ensures { IfOk result (λ view. view ≡ texts.view_of req.now) }
+    ensures { IfOk result (λ view. view ≡ http.view_of req.now) }
 {
     let framing = framing_of(alloc, &req.upgrade)?;
     Ok(View {
@@ -34,7 +34,7 @@ pub fn view_of(alloc: Global, req: &Req) -> Result<View, Memory>
 }
 
 fn framing_of(alloc: Global, upgrade: &Option<Upgrade>) -> Result<Framing, Memory>
-    ensures { IfOk result (λ framing. framing ≡ texts.framing_of upgrade.now) }
+    ensures { IfOk result (λ framing. framing ≡ http.framing_of upgrade.now) }
 {
     match upgrade {
         None => Ok(Framing::Chunks),

@@ -7,9 +7,9 @@ ghost use Rattle.route_req.specs.Asks.{IsRoute};
 ghost use Rattle.route_req.specs.declared.routing.Routed.TheVariants as routed;
 ghost use Rattle.sess_turns.specs.Streams.{outside_of};
 ghost use Rattle.sess_turns.specs.Terms.{terms_of};
-ghost use Rattle.sess_serve.specs.Answers.{IsPlainOrUpgrade};
+ghost use Rattle.sess_serve.specs.Http as http;
+ghost use Rattle.sess_serve.specs.Http.{IsPlainOrUpgrade};
 ghost use Rattle.sess_serve.specs.Serving.{Answered, UnlessMemory, sent_with};
-ghost use Rattle.sess_serve.specs.Texts as texts;
 
 use crate::refused::tell_refused;
 use crate::view::{is_plain_or_upgrade, view_of};
@@ -98,7 +98,7 @@ fn watch<C: Client, K: Sink, T: Clock>(
 ) -> Result<Option<WatchEnd>, Broken>
     requires route { IsRoute req.now (routed.Watch ask.now) }
     requires plain { IsPlainOrUpgrade req.now }
-    requires view { view.now ≡ texts.view_of req.now }
+    requires view { view.now ≡ http.view_of req.now }
     requires idle { (C.facts client.old).watching ≡ None }
     requires settings { AreInRange settings.now }
     ensures answered { Answered (terms_of C.base C.mirror (C.facts client.old) settings.now) (C.whole client.old) (C.pass client.old) req.now
