@@ -138,7 +138,7 @@ row_at_end log more resource key at end =
     ∙ ap (λ (o : Option RowData). fold (row_next resource key) o more) (sym (ap (fold (row_next resource key) base) (upto-end log (end_of log) (omega arith))))
 
 module _ (s : Selection) (m : Log) (old : List RowData) (at : ℕ) (rows : List RowData) (revisions : List RevisionData) (is : IsLog m) (state : IsStateAt m s.resource (end_of m) old)
-    (onward : end_of m ≤ at) (within : at ≤ 2 ^ 62) (stand : MayStand s at rows) (bridges : Bridges (end_of m) old at rows revisions) where
+    (onward : end_of m ≤ at) (within : at ≤ 2 ^ 62) (stand : MayStand s at rows) (bridges : Bridges Pods (end_of m) old at rows revisions) where
   all : List RevisionData
   all = filled (end_of m) revisions at
 
@@ -147,7 +147,7 @@ module _ (s : Selection) (m : Log) (old : List RowData) (at : ℕ) (rows : List 
 
   pods : AllByRecursion (ArePods s.resource) all
   unfolding all
-  pods = filled_pods (end_of m) revisions at (each_pods revisions (recursion_from_All (λ r. All (λ c. c.resource ≡ Pods) r.changes) revisions bridges.pods))
+  pods = filled_pods (end_of m) revisions at (each_pods revisions (recursion_from_All (λ r. All (λ c. c.resource ≡ Pods) r.changes) revisions bridges.alone))
 
   count : end_of m + length more ≡ at
   unfolding all more

@@ -184,7 +184,7 @@ module _ (case : BetweenData) (to at : ℕ) (gone : List LaterData) (old : List 
       let s : Selection = case.ask.selection in
       let led = bridges_lead s m old list.at list.rows can.revisions up.is
       (subst (λ (n : ℕ). IsStateAt m s.resource n old) (sym up.end) up.state) (omega (arith, up.end, onward)) within can.stand
-      (subst (λ (n : ℕ). Bridges n old list.at list.rows can.revisions) (sym up.end) can.bridges) in
+      (subst (λ (n : ℕ). Bridges Pods n old list.at list.rows can.revisions) (sym up.end) can.bridges) in
       let more : List RevisionData = led.0 in
       let to_it : LeadsUp s m list.at list.rows led.0 = led.1 in (
         grown m led.0,

@@ -103,7 +103,7 @@ AreHeld case to m (Bad place) = HasOther case m place
 pub record CanFollow (s : Selection) (from : ℕ) (old : List RowData) (list : LaterData) : Type 0 where
   pub stand : MayStand s list.at list.rows
   pub revisions : List RevisionData
-  pub bridges : Bridges from old list.at list.rows revisions
+  pub bridges : Bridges Pods from old list.at list.rows revisions
 
 -- it can't
 abbrev pub CannotFollow : Selection → ℕ → List RowData → LaterData → Type 0
@@ -134,7 +134,7 @@ pub record ReachesList (case : BetweenData) (to : ℕ) (gone : List LaterData) (
 
 -- revisions lead from the one list to the other, or none do
 abbrev pub IsBridged : ℕ → List RowData → ℕ → List RowData → Bool → Type 0
-IsBridged from old at rows true = (revisions : List RevisionData) × Bridges from old at rows revisions
+IsBridged from old at rows true = (revisions : List RevisionData) × Bridges Pods from old at rows revisions
 IsBridged from old at rows false = ¬ MayBeOfOneLog from old at rows
 
 -- a list may follow, or it can't

@@ -1,5 +1,6 @@
 -- Lists above where a body has come: which may follow what stands, and what then lies between.
 use Rattle.std.specs.Prelude.{◌≡◌, ◌↔◌, ℕ, ◌^◌, ◌≤◌, IsTrue, List, All}
+use Rattle.kube_meta.specs.declared.resources.Resource.TheVariants.{Pods}
 use Rattle.kube_meta.specs.Rows.{RowData, AreRising}
 use Rattle.rev_log.specs.Changes.{RevisionData}
 use Rattle.rev_log.specs.Logs.{Log, IsLog, grown, end_of}
@@ -27,4 +28,4 @@ pub record LeadsUp (s : Selection) (m : Log) (at : ℕ) (rows : List RowData) (m
 abbrev pub BridgesLead : Type 0
 BridgesLead =
     (s : Selection) (m : Log) (old : List RowData) (at : ℕ) (rows : List RowData) (revisions : List RevisionData) → IsLog m → IsStateAt m s.resource (end_of m) old →
-    end_of m ≤ at → at ≤ 2 ^ 62 → MayStand s at rows → Bridges (end_of m) old at rows revisions → (more : List RevisionData) × LeadsUp s m at rows more
+    end_of m ≤ at → at ≤ 2 ^ 62 → MayStand s at rows → Bridges Pods (end_of m) old at rows revisions → (more : List RevisionData) × LeadsUp s m at rows more

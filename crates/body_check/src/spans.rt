@@ -40,7 +40,7 @@ fn may_follow(alloc: Global, from: u64, old: &[Row], at: u64, rows: &[Row]) -> R
     requires within { All (λ row. row.rev ≤ at) rows.now }
     ensures { IfOk result (IsBridged from old.now at rows.now) }
 {
-    match bridge(alloc, from, old, at, rows) {
+    match bridge(alloc, Resource::Pods, from, old, at, rows) {
         Ok(_) => Ok(true),
         Err(BridgeNo::OtherLog) => Ok(false),
         Err(BridgeNo::Memory) => Err(Memory),

@@ -10,7 +10,6 @@ use Rattle.line_stream.specs.declared.asking.AskNo.{AskNo}
 use Rattle.line_stream.specs.declared.asking.AskNo.TheVariants as ask
 use Rattle.line_stream.specs.declared.refusal.LineNo.{LineNo}
 use Rattle.line_stream.specs.declared.refusal.LineNo.TheVariants as line
-use Rattle.kube_meta.specs.declared.resources.Resource.TheVariants.{Pods}
 use Rattle.rev_log.specs.Logs.{end_of}
 use Rattle.std.specs.Prelude.{option_map}
 use Rattle.mirror_log.specs.Faults.{event_fault, mark_fault}
@@ -19,6 +18,7 @@ use Rattle.mirror_log.specs.declared.take_refusal.TakeNo.{TakeNo}
 use Rattle.mirror_log.specs.declared.take_refusal.TakeNo.TheVariants as take
 use Rattle.watch_lines.specs.declared.peer_line.PeerLine.{PeerLine}
 use Rattle.watch_lines.specs.declared.peer_line.PeerLine.TheVariants as peer
+use Rattle.select_all.specs.declared.selection.Selection.{Selection}
 use Rattle.cluster_link.specs.Telling.{HearsTextOf, HearsTold, told_fault}
 use Rattle.cluster_link.specs.declared.heard.Heard.{Heard}
 use Rattle.cluster_link.specs.Counting.{CountsSource, IsRequested}
@@ -65,8 +65,8 @@ reply_written fault is = cc
 -- ---- the head of the stream
 
 -- it is asked for by the mirror as contracts see it
-pub stream_is : (m : ClusterData) (ns : Option (List ℕ)) (from : ℕ) → ns ≡ m.selection.ns → from ≡ end_of m.log → changes_request Pods ns from ≡ stream_request m
-stream_is m ns from ns_is from_is = ap (λ n. changes_request Pods n from) ns_is ∙ ap (changes_request Pods m.selection.ns) from_is
+pub stream_is : (m : ClusterData) (s : Selection) (from : ℕ) → s ≡ m.selection → from ≡ end_of m.log → changes_request s.resource s.ns from ≡ stream_request m
+stream_is m s from s_is from_is = ap (λ (t : Selection). changes_request t.resource t.ns from) s_is ∙ ap (changes_request m.selection.resource m.selection.ns) from_is
 
 module _ (old new : LinesData) (taken : List ℕ) (left : Option (List ℕ)) (fresh : old.at ≡ unread) where
   kept_is : old.at.kept ++ taken ≡ taken

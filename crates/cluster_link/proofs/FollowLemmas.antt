@@ -2,8 +2,6 @@
 use Rattle.std.proofs.Common.{◌≡◌, ℕ, List, [], ◌∷◌, ◌++◌, None, Some, refl, sym, ap, ◌∙◌, subst, arith}
 use Rattle.std.specs.Prelude.{IsTrue, not, ◌||◌}
 use Rattle.std.specs.List.{list_any}
-use Rattle.kube_meta.specs.declared.resources.Resource.{Resource}
-use Rattle.kube_meta.specs.declared.resources.Resource.TheVariants.{Pods}
 use Rattle.rev_log.specs.Changes.{RevisionData}
 use Rattle.rev_log.specs.Logs.{Log, end_of, grown}
 use Rattle.select_all.specs.Streams.{TransitionData}
@@ -28,8 +26,7 @@ use Rattle.cluster_link.specs.Telling.{told_fault, TakesWhole, TakesPart}
 -- the premises of a line, of which the text was read
 pub record Premises (log : Log) (ask : WatchAsk) (log_floor low b from : ℕ) (lines : List Line) (line : Line) (m : MirrorLogData) (text : List ℕ) : Type 0 where
   pub one : TextsTellOneLine
-  pub pods : m.selection.resource ≡ Pods
-  pub tells : TellsByValue Pods text (as_read line)
+  pub tells : TellsByValue m.selection.resource text (as_read line)
   pub cluster : IsCluster log m.selection.resource
   pub asked : AsksChanges m.selection ask from
   pub follows : Follows log m.selection b from (with_marks lines) m.log m.kept
@@ -75,11 +72,8 @@ module _ (log : Log) (ask : WatchAsk) (log_floor low b from : ℕ) (lines : List
       lawful_lines_are_taken log log_floor low b from m.selection ask (with_marks lines) m.log m.kept line h.cluster.log h.asked.selection h.follows (past line h) (next line h)
 
   -- the line that was heard is that
-  pub heard_line : (line heard : Line) → On line → TellsByValue Pods text (as_read heard) → told_fault m (Some (as_read heard)) ≡ None → heard ≡ line
-  heard_line line heard h tells good = same_line m line heard (taken_line line h) good (h.one Pods text (as_read heard) (as_read line) tells h.tells)
-
-  told_of : (line : Line) → On line → (told : List TransitionData) (more : List RevisionData) → AreToldBy Pods told (end_of m.log) more → AreToldBy m.selection.resource told (end_of m.log) more
-  told_of line h told more by = subst (λ (r : Resource). AreToldBy r told (end_of m.log) more) (sym h.pods) by
+  pub heard_line : (line heard : Line) → On line → TellsByValue m.selection.resource text (as_read heard) → told_fault m (Some (as_read heard)) ≡ None → heard ≡ line
+  heard_line line heard h tells good = same_line m line heard (taken_line line h) good (h.one m.selection.resource text (as_read heard) (as_read line) tells h.tells)
 
   -- the lines with it, and what is so by other names
   behind : (line : Line) (grew after : Log) (kept : List TransitionData) → after ≡ grew → kept ≡ [] → Follows log m.selection b from (with_marks lines ++ with_mark line) grew []
@@ -94,11 +88,11 @@ module _ (log : Log) (ask : WatchAsk) (log_floor low b from : ℕ) (lines : List
   whole_follows (Told t) h new takes good =
       behind (Told t) (grown m.log takes.grows.more) new.log new.kept takes.grows.log_is takes.kept
       (followings_hear_at_once log log_floor low b from m.selection ask (with_marks lines) m.log m.kept t takes.grows.more h.cluster h.asked h.follows (next (Told t) h) (taken_line (Told t) h).above
-      (told_of (Told t) h (m.kept ++ t ∷ []) takes.grows.more takes.grows.told_by) (sym (ap end_of takes.grows.log_is) ∙ takes.reached))
+      takes.grows.told_by (sym (ap end_of takes.grows.log_is) ∙ takes.reached))
   whole_follows (Bookmark at) h new takes good =
       behind (Bookmark at) (grown m.log takes.grows.more) new.log new.kept takes.grows.log_is takes.kept
       (followings_mark log log_floor low b from m.selection ask (with_marks lines) m.log m.kept at takes.grows.more h.cluster.log h.asked.selection h.follows (next (Bookmark at) h) (taken_line (Bookmark at) h).onward
-      (told_of (Bookmark at) h m.kept takes.grows.more takes.grows.told_by) (sym (ap end_of takes.grows.log_is) ∙ takes.reached))
+      takes.grows.told_by (sym (ap end_of takes.grows.log_is) ∙ takes.reached))
   whole_follows (Closing at) h new takes good = absurd (taken_line (Closing at) h)
   whole_follows (Lost at floor) h new takes good = absurd (cc)
 
@@ -107,10 +101,10 @@ module _ (log : Log) (ask : WatchAsk) (log_floor low b from : ℕ) (lines : List
   part_mirrors (Told t) h new takes good =
       subst (λ (l : Log). IsMirrorOf log m.selection b l) (sym takes.grows.log_is)
       (followings_commit_at_once log log_floor low b from m.selection ask (with_marks lines) m.log m.kept t takes.grows.more h.cluster h.asked h.follows (next (Told t) h) (taken_line (Told t) h).above
-      (told_of (Told t) h (m.kept ++ t ∷ []) takes.grows.more takes.grows.told_by) (omega (arith, ap end_of takes.grows.log_is, takes.within)))
+      takes.grows.told_by (omega (arith, ap end_of takes.grows.log_is, takes.within)))
   part_mirrors (Bookmark at) h new takes good =
       subst (λ (l : Log). IsMirrorOf log m.selection b l) (sym takes.grows.log_is)
       (followings_commit log log_floor low b from m.selection ask (with_marks lines) m.log m.kept (Bookmark at) takes.grows.more h.cluster.log h.asked.selection h.follows (next (Bookmark at) h) (taken_line (Bookmark at) h).onward
-      (told_of (Bookmark at) h m.kept takes.grows.more takes.grows.told_by) (omega (arith, ap end_of takes.grows.log_is, takes.within)))
+      takes.grows.told_by (omega (arith, ap end_of takes.grows.log_is, takes.within)))
   part_mirrors (Closing at) h new takes good = absurd (taken_line (Closing at) h)
   part_mirrors (Lost at floor) h new takes good = absurd (cc)

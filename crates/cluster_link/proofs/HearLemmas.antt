@@ -1,7 +1,6 @@
 -- What one call that heard leaves of a mirror of a cluster.
 use Rattle.std.proofs.Common.{◌≡◌, ℕ, List, [], ◌∷◌, ◌++◌, length, Option, None, Some, Result, Ok, Err, IfOk, refl, sym, ap, subst, inl, inr}
 use Rattle.std.specs.Prelude.{◌⊎◌}
-use Rattle.kube_meta.specs.declared.resources.Resource.TheVariants.{Pods}
 use Rattle.line_stream.specs.Answers.{Faults}
 use Rattle.line_stream.specs.Readers.{ReaderData, GoesOn, ReadsText, Spends}
 use Rattle.line_stream.specs.declared.refusal.LineNo.{LineNo}
@@ -36,25 +35,25 @@ goes_unbound old new bytes none goes = spent_none old.room new.room (length goes
 
 -- ---- following over a line
 
-module _ (old new : ClusterData) (text : List ℕ) (one : TextsTellOneLine) (pods : old.selection.resource ≡ Pods) (log : Log) (ask : WatchAsk) (log_floor low b from : ℕ) (lines : List Line) (line : Line)
+module _ (old new : ClusterData) (text : List ℕ) (one : TextsTellOneLine) (log : Log) (ask : WatchAsk) (log_floor low b from : ℕ) (lines : List Line) (line : Line)
     (on : Premises log ask log_floor low b from lines line (mirror_log old) text) where
   -- the line that was heard, by what the text tells
-  is_line : (found : Option PeerLine) (heard : Line) → ReadsByValue Pods text found → IsToldAs (mirror_log old) found heard → heard ≡ line
+  is_line : (found : Option PeerLine) (heard : Line) → ReadsByValue old.selection.resource text found → IsToldAs (mirror_log old) found heard → heard ≡ line
   is_line found heard reads is =
-      heard_line log ask log_floor low b from lines (mirror_log old) text line heard on (subst (ReadsByValue Pods text) is.is reads)
+      heard_line log ask log_floor low b from lines (mirror_log old) text line heard on (subst (ReadsByValue old.selection.resource text) is.is reads)
       (subst (λ (f : Option PeerLine). told_fault (mirror_log old) f ≡ None) is.is is.no_fault)
 
   good_line : (found : Option PeerLine) (heard : Line) → heard ≡ line → IsToldAs (mirror_log old) found heard → told_fault (mirror_log old) (Some (as_read line)) ≡ None
   good_line found heard same is =
       subst (λ (l : Line). told_fault (mirror_log old) (Some (as_read l)) ≡ None) same (subst (λ (f : Option PeerLine). told_fault (mirror_log old) f ≡ None) is.is is.no_fault)
 
-  heard_whole : (found : Option PeerLine) (heard : Line) → ReadsByValue Pods text found → IsToldAs (mirror_log old) found heard → TakesWhole (mirror_log old) heard (mirror_log new)
+  heard_whole : (found : Option PeerLine) (heard : Line) → ReadsByValue old.selection.resource text found → IsToldAs (mirror_log old) found heard → TakesWhole (mirror_log old) heard (mirror_log new)
       → Follows log old.selection b from (with_marks (lines ++ line ∷ [])) new.log new.kept
   heard_whole found heard reads is takes =
       let same : heard ≡ line = is_line found heard reads is in
       whole_follows log ask log_floor low b from lines (mirror_log old) text line on (mirror_log new) (subst (λ (l : Line). TakesWhole (mirror_log old) l (mirror_log new)) same takes) (good_line found heard same is)
 
-  heard_part : (found : Option PeerLine) → ReadsByValue Pods text found → ((heard : Line) × IsToldAs (mirror_log old) found heard × TakesPart (mirror_log old) heard (mirror_log new)) ⊎ (mirror_log new ≡ mirror_log old)
+  heard_part : (found : Option PeerLine) → ReadsByValue old.selection.resource text found → ((heard : Line) × IsToldAs (mirror_log old) found heard × TakesPart (mirror_log old) heard (mirror_log new)) ⊎ (mirror_log new ≡ mirror_log old)
       → IsMirrorOf log old.selection b new.log
   heard_part found reads (inl (heard, is, takes)) =
       let same : heard ≡ line = is_line found heard reads is in
@@ -102,8 +101,8 @@ module _ (log : MirrorLogData) (reading : ReaderData) (answer : Option (Result H
         text = text;
         read = read;
         follows = λ peer ask log_floor low b from lines line tells cluster asked follows begins.
-            follows_text before new text one mirror.all.pods peer ask log_floor low b from lines line
-            (record { one = one; pods = mirror.all.pods; tells = tells; cluster = cluster; asked = asked; follows = follows; begins = begins }) result heard;
+            follows_text before new text one peer ask log_floor low b from lines line
+            (record { one = one; tells = tells; cluster = cluster; asked = asked; follows = follows; begins = begins }) result heard;
       };
       hears = heard;
     }

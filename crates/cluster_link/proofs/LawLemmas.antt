@@ -2,7 +2,6 @@
 use Rattle.std.proofs.Common.{◌≡◌, ℕ, ◌+◌, ◌<◌, ◌^◌, List, Bool, true, false, Option, None, Some, refl, sym, ap, subst, arith}
 use Rattle.std.specs.Prelude.{option_map, if◌then◌else◌, nat_lt, nat_le, ◌||◌, not, is_some}
 use Rattle.std.proofs.lemmas.Bool.Decides.{nat_tests}
-use Rattle.kube_meta.specs.declared.resources.Resource.TheVariants.{Pods}
 use Rattle.rev_log.specs.Logs.{Log, end_of}
 use Rattle.select_all.specs.declared.selection.Selection.{Selection}
 use Rattle.select_all.specs.Selecting.{selects}
@@ -49,7 +48,7 @@ far last most rev is = let above : last + most < rev = grind (arith, nat_tests) 
 event_far : (s : Selection) (most : ℕ) (m : Log) (kept : List TransitionData) (t : TransitionData) (last got : ℕ) → event_fault s most m kept t ≡ Some (take.Gap last got) → most < t.rev
 event_far s most m kept t last got is =
     far (last_of (end_of m) kept) most t.rev
-    (event_tests (not (selects s t.obj)) (not (fits_kind t.kind (is_some (row_before m Pods kept t.rev t.obj.key)))) (is_full_at kept t.rev) (nat_le t.rev (end_of m) || is_repeated kept t.rev t.obj.key)
+    (event_tests (not (selects s t.obj)) (not (fits_kind t.kind (is_some (row_before m s.resource kept t.rev t.obj.key)))) (is_full_at kept t.rev) (nat_le t.rev (end_of m) || is_repeated kept t.rev t.obj.key)
     (nat_lt (last_of (end_of m) kept + most) t.rev) last got (last_of (end_of m) kept) t.rev is)
 
 mark_far : (most to : ℕ) (kept : List TransitionData) (at last got : ℕ) → mark_fault most to kept at false ≡ Some (take.Gap last got) → most < at
@@ -68,13 +67,13 @@ module _ (log : Log) (ask : WatchAsk) (log_floor low b from : ℕ) (lines : List
   reached line h =
       lines_are_reached log log_floor low b from m.selection ask (with_marks lines) m.log m.kept line h.cluster.log h.asked.selection h.follows (next log ask log_floor low b from lines m text line h)
 
-  found_as : (line : Line) (found : Option PeerLine) → Premises log ask log_floor low b from lines line m text → ReadsByValue Pods text found → found ≡ Some (as_read line)
+  found_as : (line : Line) (found : Option PeerLine) → Premises log ask log_floor low b from lines line m text → ReadsByValue m.selection.resource text found → found ≡ Some (as_read line)
   found_as line None h none = absurd (none (as_read line) h.tells)
-  found_as line (Some found) h read = ap Some (h.one Pods text found (as_read line) read h.tells)
+  found_as line (Some found) h read = ap Some (h.one m.selection.resource text found (as_read line) read h.tells)
 
   good : (line : Line) → Premises log ask log_floor low b from lines line m text → IsFaultless line (told_fault m (Some (as_read line)))
   good (Told t) h =
-      without (event_fault m.selection m.most_gap m.log m.kept t) (taken_events_fit m.selection m.most_gap m.log m.kept t h.pods (taken_line log ask log_floor low b from lines m text (Told t) h))
+      without (event_fault m.selection m.most_gap m.log m.kept t) (taken_events_fit m.selection m.most_gap m.log m.kept t (taken_line log ask log_floor low b from lines m text (Told t) h))
       (λ last got is. omega (arith, event_far m.selection m.most_gap m.log m.kept t last got is, reached (Told t) h, h.cluster.log.ends, any))
   good (Bookmark at) h =
       without (mark_fault m.most_gap (end_of m.log) m.kept at false) (taken_marks_fit m.most_gap m.log m.kept at (taken_line log ask log_floor low b from lines m text (Bookmark at) h))
@@ -82,5 +81,5 @@ module _ (log : Log) (ask : WatchAsk) (log_floor low b from : ℕ) (lines : List
   good (Closing at) h = absurd (taken_line log ask log_floor low b from lines m text (Closing at) h)
   good (Lost at floor) h = tt
 
-  pub faultless : (line : Line) (found : Option PeerLine) → Premises log ask log_floor low b from lines line m text → ReadsByValue Pods text found → IsFaultless line (told_fault m found)
+  pub faultless : (line : Line) (found : Option PeerLine) → Premises log ask log_floor low b from lines line m text → ReadsByValue m.selection.resource text found → IsFaultless line (told_fault m found)
   faultless line found h reads = subst (λ (f : Option PeerLine). IsFaultless line (told_fault m f)) (sym (found_as line found h reads)) (good line h)

@@ -2,7 +2,7 @@
 use Rattle.std.proofs.Common.{◌≡◌, ℕ, List, [], Bool, Option, None, Some, Result, Ok, Err, true, false, refl, sym, ap, ◌∙◌, inl, inr}
 use Rattle.std.specs.Prelude.{◌⊎◌, option_map, IfSome}
 use Rattle.std.proofs.lemmas.List.{append-nil}
-use Rattle.kube_meta.specs.declared.resources.Resource.TheVariants.{Pods}
+use Rattle.kube_meta.specs.declared.resources.Resource.{Resource}
 use Rattle.mirror_log.specs.declared.take_refusal.TakeNo.{TakeNo}
 use Rattle.mirror_log.specs.declared.take_refusal.TakeNo.TheVariants as take
 use Rattle.mirror_log.specs.Faults.{mark_fault}
@@ -25,11 +25,11 @@ use Rattle.cluster_link.specs.declared.refusal.ClusterNo.{ClusterNo}
 use Rattle.cluster_link.specs.declared.refusal.ClusterNo.TheVariants as no
 
 -- what is read of a text is within bounds
-pub in_bounds : WhatIsToldIsKept → (text : List ℕ) (found : Option PeerLine) → ReadsByValue Pods text found → IfSome found IsInBounds
-in_bounds kept text None reads = tt
-in_bounds kept text (Some (peer.Told kind obj rev)) reads = (kept Pods text (peer.Told kind obj rev) reads).1.1
-in_bounds kept text (Some (peer.Bookmark at closing)) reads = (kept Pods text (peer.Bookmark at closing) reads).1
-in_bounds kept text (Some (peer.Error code)) reads = tt
+pub in_bounds : (resource : Resource) → WhatIsToldIsKept → (text : List ℕ) (found : Option PeerLine) → ReadsByValue resource text found → IfSome found IsInBounds
+in_bounds resource kept text None reads = tt
+in_bounds resource kept text (Some (peer.Told kind obj rev)) reads = (kept resource text (peer.Told kind obj rev) reads).1.1
+in_bounds resource kept text (Some (peer.Bookmark at closing)) reads = (kept resource text (peer.Bookmark at closing) reads).1
+in_bounds resource kept text (Some (peer.Error code)) reads = tt
 
 -- the answer of a mirror's log, as a mirror's
 abbrev pub answer_as : ℕ → Result ℕ MirrorNo → Result ℕ ClusterNo

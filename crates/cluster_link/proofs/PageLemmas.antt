@@ -8,7 +8,7 @@ use Rattle.edge_io.specs.Sent.{Sent, IsWrittenOut, IsSentOn}
 use Rattle.edge_io.specs.Told.{prepended}
 use Rattle.edge_io.proofs.ToldLemmas.{prepended-prepended}
 use Rattle.edge_io.proofs.SentLemmas.{sent_of, written-behind, broken-behind, written-nothing}
-use Rattle.kube_meta.specs.declared.resources.Resource.TheVariants.{Pods}
+use Rattle.kube_meta.specs.declared.resources.Resource.{Resource}
 use Rattle.kube_meta.specs.Rows.{RowData}
 use Rattle.line_stream.specs.AskAnswers.{Asks}
 use Rattle.line_stream.specs.Bodies.{IsBody}
@@ -42,9 +42,9 @@ chain_push f g xs x first last next chain from to =
 -- ---- pages
 
 -- before the first
-pub pages_begin : ArePages [] no_pages [] []
-pages_begin = record {
-  read = All-nil IsPageRead;
+pub pages_begin : {resource : Resource} → ArePages resource [] no_pages [] []
+pages_begin {resource} = record {
+  read = All-nil (IsPageRead resource);
   revision = refl;
   one_revision = All-nil (λ page. None ≡ Some page.at);
   rows = refl;
@@ -62,8 +62,8 @@ of_one : (before : Option ℕ) (at : ℕ) (pages : List PageData) → IsOfRevisi
 of_one None at pages same all = All-weaker (λ (page : PageData). None ≡ Some page.at) (λ (page : PageData). Some at ≡ Some page.at) (λ page never. absurd (cc)) pages all
 of_one (Some before) at pages same all = subst (λ (n : ℕ). All (λ (page : PageData). Some n ≡ Some page.at) pages) same all
 
-module _ (pages : List PageData) (old : GatheredData) (taken kept : List ℕ) (are : ArePages pages old taken kept) (more : List ℕ) (page : PageData) (new : GatheredData) (beyond : List ℕ)
-    (next : IsNextPage old kept more page new beyond) where
+module _ {resource : Resource} (pages : List PageData) (old : GatheredData) (taken kept : List ℕ) (are : ArePages resource pages old taken kept) (more : List ℕ) (page : PageData) (new : GatheredData) (beyond : List ℕ)
+    (next : IsNextPage resource old kept more page new beyond) where
   token_is : page.token ≡ new.token
   token_is = sym (ap (λ (g : GatheredData). g.token) next.new_is)
 
@@ -79,9 +79,9 @@ module _ (pages : List PageData) (old : GatheredData) (taken kept : List ℕ) (a
   at_is = ap (λ (it : GatheredData). it.at) next.new_is
 
   -- one more
-  pub pages_go_on : ArePages (pages ++ page ∷ []) new (taken ++ more) beyond
+  pub pages_go_on : ArePages resource (pages ++ page ∷ []) new (taken ++ more) beyond
   pages_go_on = record {
-    read = All-push IsPageRead pages page are.read next.read;
+    read = All-push (IsPageRead resource) pages page are.read next.read;
     revision = at_is ∙ first_of page.at pages page all_one;
     one_revision = subst (λ (at : Option ℕ). All (λ (p : PageData). at ≡ Some p.at) (pages ++ page ∷ [])) (sym at_is) all_one;
     rows = rows_are;
@@ -92,9 +92,9 @@ module _ (pages : List PageData) (old : GatheredData) (taken kept : List ℕ) (a
   }
 
   -- its request stands behind theirs
-  pub requests_go_on : (ns : Option (List ℕ)) → page_requests ns pages ++ page_request Pods ns old.token ≡ page_requests ns (pages ++ page ∷ [])
+  pub requests_go_on : (ns : Option (List ℕ)) → page_requests resource ns pages ++ page_request resource ns old.token ≡ page_requests resource ns (pages ++ page ∷ [])
   requests_go_on ns =
-      ap (λ (token : List ℕ). page_requests ns pages ++ page_request Pods ns token) (sym next.asked) ∙ sym (flat_push (λ (p : PageData). page_request Pods ns p.asked) pages page)
+      ap (λ (token : List ℕ). page_requests resource ns pages ++ page_request resource ns token) (sym next.asked) ∙ sym (flat_push (λ (p : PageData). page_request resource ns p.asked) pages page)
 
 -- ---- what was sent
 
@@ -107,10 +107,10 @@ module _ (a b c : Option (List ℕ)) (s t u : Type 0) (f g h : ℕ) (first : Lis
   unsent_behind last ask.Memory is = subst (λ (l : List ℕ). IsWrittenOut l (sent_of a c s u f h)) (append-nil first) (written-behind a b c f g h first [] before is)
 
   -- a page is lacking behind others
-  pub lacks_behind : (gathered : GatheredData) (last kept taken : List ℕ) (left : Option (List ℕ)) (why : ClusterNo) → LacksPage gathered [] last kept taken left (sent_of b c t u g h) why
-      → LacksPage gathered first last kept taken left (sent_of a c s u f h) why
-  lacks_behind gathered last kept taken left why (inl (fault, why_is, unsent, nothing)) = inl (fault, why_is, unsent_behind last fault unsent, nothing)
-  lacks_behind gathered last kept taken left why (inr (sent, none)) = inr (sent_behind last sent, none)
+  pub lacks_behind : (resource : Resource) (gathered : GatheredData) (last kept taken : List ℕ) (left : Option (List ℕ)) (why : ClusterNo) → LacksPage resource gathered [] last kept taken left (sent_of b c t u g h) why
+      → LacksPage resource gathered first last kept taken left (sent_of a c s u f h) why
+  lacks_behind resource gathered last kept taken left why (inl (fault, why_is, unsent, nothing)) = inl (fault, why_is, unsent_behind last fault unsent, nothing)
+  lacks_behind resource gathered last kept taken left why (inr (sent, none)) = inr (sent_behind last sent, none)
 
 -- ---- one more page, by its text
 
@@ -120,23 +120,23 @@ unsent_of ask.WriteFault text sent is = is
 unsent_of ask.Memory text sent is = is
 
 -- what becomes of the text of a page
-pub takes_page : (old : GatheredData) (text : List ℕ) (rows : List RowData) (at : ℕ) (token : List ℕ) (result : Result Bool ClusterNo) (new : GatheredData) → IsPageText Pods text rows at token
-    → AddsPage old rows at token result new → TakesPage old text result new
-takes_page old text rows at token (Ok more) new page adds = (rows, at, token, page, adds)
-takes_page old text rows at token (Err why) new page (inl memory) = inl memory
-takes_page old text rows at token (Err why) new page (inr other) = inr (inr (other.0, (rows, at, token, page, other.1)))
+pub takes_page : (resource : Resource) (old : GatheredData) (text : List ℕ) (rows : List RowData) (at : ℕ) (token : List ℕ) (result : Result Bool ClusterNo) (new : GatheredData) → IsPageText resource text rows at token
+    → AddsPage old rows at token result new → TakesPage resource old text result new
+takes_page resource old text rows at token (Ok more) new page adds = (rows, at, token, page, adds)
+takes_page resource old text rows at token (Err why) new page (inl memory) = inl memory
+takes_page resource old text rows at token (Err why) new page (inr other) = inr (inr (other.0, (rows, at, token, page, other.1)))
 
 -- a body was read
-pub page_read : (ns : Option (List ℕ)) (old : GatheredData) (kept taken : List ℕ) (left : Option (List ℕ)) (sent : Sent) (text after : List ℕ) (result : Result Bool ClusterNo) (new : GatheredData)
-    → IsSentOn (page_request Pods ns old.token) sent → IsBody (kept ++ taken) text after → TakesPage old text result new → NextPage ns old kept taken left sent result new after
-page_read ns old kept taken left sent text after (Ok more) new sent_on body (rows, at, token, tells, (same, is, none)) =
+pub page_read : (resource : Resource) (ns : Option (List ℕ)) (old : GatheredData) (kept taken : List ℕ) (left : Option (List ℕ)) (sent : Sent) (text after : List ℕ) (result : Result Bool ClusterNo) (new : GatheredData)
+    → IsSentOn (page_request resource ns old.token) sent → IsBody (kept ++ taken) text after → TakesPage resource old text result new → NextPage resource ns old kept taken left sent result new after
+page_read resource ns old kept taken left sent text after (Ok more) new sent_on body (rows, at, token, tells, (same, is, none)) =
     let page : PageData = record { asked = old.token; before = kept; taken = taken; text = text; rows = rows; at = at; token = token; beyond = after } in (
       sent_on,
       page,
       record { asked = refl; before = refl; taken_is = refl; after = refl; read = record { body = body; tells = tells }; same = same; new_is = is },
       λ last. ap (λ (g : GatheredData). g.token) is ∙ none.0 last,
     )
-page_read ns old kept taken left sent text after (Err why) new sent_on body no_page = inr (sent_on, inr (text, after, body, no_page))
+page_read resource ns old kept taken left sent text after (Err why) new sent_on body no_page = inr (sent_on, inr (text, after, body, no_page))
 
 -- ---- all pages
 
@@ -153,26 +153,26 @@ nothing_asked s a t f left = record {
   lacks = inl (ask.Memory, refl, written-nothing a f, refl);
 }
 
-module _ (s : Selection) (pages : List PageData) (old : GatheredData) (taken kept : List ℕ) (are : ArePages pages old taken kept) (a b c : Option (List ℕ)) (t u v : Type 0) (f g h : ℕ)
-    (before : IsWrittenOut (page_requests s.ns pages) (sent_of a b t u f g)) (more : List ℕ) (left : Option (List ℕ)) (new : GatheredData) (beyond : List ℕ) where
+module _ (s : Selection) (pages : List PageData) (old : GatheredData) (taken kept : List ℕ) (are : ArePages s.resource pages old taken kept) (a b c : Option (List ℕ)) (t u v : Type 0) (f g h : ℕ)
+    (before : IsWrittenOut (page_requests s.resource s.ns pages) (sent_of a b t u f g)) (more : List ℕ) (left : Option (List ℕ)) (new : GatheredData) (beyond : List ℕ) where
   -- one more was read
-  pub one_more : (next : Bool) → NextPage s.ns old kept more left (sent_of b c u v g h) (Ok next) new beyond
-      → (later : List PageData) × ArePages later new (taken ++ more) beyond × IsSentOn (page_requests s.ns later) (sent_of a c t v f h)
+  pub one_more : (next : Bool) → NextPage s.resource s.ns old kept more left (sent_of b c u v g h) (Ok next) new beyond
+      → (later : List PageData) × ArePages s.resource later new (taken ++ more) beyond × IsSentOn (page_requests s.resource s.ns later) (sent_of a c t v f h)
   one_more next (sent, page, is, last) = (
     pages ++ page ∷ [],
     pages_go_on pages old taken kept are more page new beyond is,
     subst (λ (l : List ℕ). IsSentOn l (sent_of a c t v f h)) (requests_go_on pages old taken kept are more page new beyond is s.ns)
-        (sent_behind a b c t u v f g h (page_requests s.ns pages) before (page_request Pods s.ns old.token) sent),
+        (sent_behind a b c t u v f g h (page_requests s.resource s.ns pages) before (page_request s.resource s.ns old.token) sent),
   )
 
   -- it was the last
-  pub last_page : (next : Bool) → next ≡ false → NextPage s.ns old kept more left (sent_of b c u v g h) (Ok next) new beyond → HoldsPages s (taken ++ more) (sent_of a c t v f h) new
+  pub last_page : (next : Bool) → next ≡ false → NextPage s.resource s.ns old kept more left (sent_of b c u v g h) (Ok next) new beyond → HoldsPages s (taken ++ more) (sent_of a c t v f h) new
   last_page next last is =
       let on = one_more next is in
       record { pages = on.0; kept = beyond; are = on.1; last = is.3 last; requests = on.2 }
 
   -- it is lacking
-  pub no_page : (why : ClusterNo) → NextPage s.ns old kept more left (sent_of b c u v g h) (Err why) new beyond → LacksNext s (taken ++ more) left (sent_of a c t v f h) why
+  pub no_page : (why : ClusterNo) → NextPage s.resource s.ns old kept more left (sent_of b c u v g h) (Err why) new beyond → LacksNext s (taken ++ more) left (sent_of a c t v f h) why
   no_page why lacks = record {
     pages = pages;
     gathered = old;
@@ -181,7 +181,7 @@ module _ (s : Selection) (pages : List PageData) (old : GatheredData) (taken kep
     kept = kept;
     are = are;
     taken_are = refl;
-    lacks = lacks_behind a b c t u v f g h (page_requests s.ns pages) before old (page_request Pods s.ns old.token) kept more left why lacks;
+    lacks = lacks_behind a b c t u v f g h (page_requests s.resource s.ns pages) before s.resource old (page_request s.resource s.ns old.token) kept more left why lacks;
   }
 
 -- what the pages come to, as a list
@@ -195,7 +195,7 @@ list_read s taken left sent gathered (Ok list) holds (selection, rows, at) =
       selection = selection;
       pages = holds.pages;
       kept = holds.kept;
-      are = subst (λ (it : GatheredData). ArePages holds.pages it taken holds.kept) same holds.are;
+      are = subst (λ (it : GatheredData). ArePages s.resource holds.pages it taken holds.kept) same holds.are;
       requests = holds.requests;
     }
 list_read s taken left sent gathered (Err why) holds (why_is, none) =

@@ -2,14 +2,12 @@
 use Rattle.std.proofs.Common.{◌≡◌, ℕ, List, [], Option, Some, Result, Ok, Err, refl, sym, ap, ◌∙◌, subst, inl, inr}
 use Rattle.std.specs.Prelude.{OnOk}
 use Rattle.edge_io.specs.Sent.{Sent}
-use Rattle.kube_meta.specs.declared.resources.Resource.{Resource}
-use Rattle.kube_meta.specs.declared.resources.Resource.TheVariants.{Pods}
 use Rattle.kube_meta.specs.Rows.{RowData}
 use Rattle.line_stream.specs.Readers.{ReaderData}
 use Rattle.mirror_law.specs.Following.{Follows}
-use Rattle.mirror_law.specs.Mirrors.{IsMirrorBy, IsMirrorOf, opened_log}
+use Rattle.mirror_law.specs.Mirrors.{IsMirrorOf}
 use Rattle.mirror_law.proofs.FollowLemmas.{followings_resume}
-use Rattle.mirror_law.proofs.MirrorLemmas.{mirrors_begin, mirrors_begin_anew}
+use Rattle.mirror_law.proofs.MirrorLemmas.{mirrors_begin_anew}
 use Rattle.mirror_log.specs.MirrorLogs.{MirrorLogData, Rests}
 use Rattle.mirror_log.specs.Rebasing.{IsRebased, Rebases}
 use Rattle.mirror_log.specs.declared.refusal.RebaseNo.{RebaseNo}
@@ -17,7 +15,6 @@ use Rattle.mirror_log.specs.declared.refusal.RebaseNo.TheVariants as rebase
 use Rattle.rev_log.specs.Logs.{Log, IsLog, end_of}
 use Rattle.rev_log.specs.States.{IsStateAt}
 use Rattle.select_all.specs.declared.selection.Selection.{Selection}
-use Rattle.select_all.specs.Listings.{IsListingBy}
 use Rattle.select_all.specs.Selecting.{selects}
 use Rattle.select_all.specs.Streams.{TransitionData}
 use Rattle.cluster_link.specs.Counting.{CountsSource}
@@ -31,25 +28,13 @@ use Rattle.cluster_link.specs.declared.refusal.ClusterNo.{ClusterNo}
 use Rattle.cluster_link.specs.declared.refusal.ClusterNo.TheVariants.{ReadFault}
 use Rattle.cluster_link.proofs.AnswerLemmas.{quiet}
 use Rattle.cluster_link.proofs.HearLemmas.{view_of}
-use Rattle.cluster_link.proofs.ListLemmas.{none_younger}
 
 -- ---- a list's log is a mirror of the cluster's
 
--- a new one
-pub begun_mirrors : (list : ListData) (m : Log) → IsClusterList list → m ≡ opened_log list.at list.rows → MirrorsList list m
-begun_mirrors list m lawful is peer cluster listing reached =
-    let pods : list.selection.resource ≡ Pods = lawful.all.pods in
-    let listing_of : IsListingBy (selects list.selection) peer Pods list.at list.rows =
-    subst (λ (r : Resource). IsListingBy (selects list.selection) peer r list.at list.rows) pods listing in
-    subst (λ (l : Log). IsMirrorBy (selects list.selection) peer list.selection.resource list.at l) (sym is)
-    (subst (λ (r : Resource). IsMirrorBy (selects list.selection) peer r list.at (opened_log list.at list.rows)) (sym pods)
-    (mirrors_begin (selects list.selection) peer list.at list.rows cluster.log reached listing_of (none_younger list.selection list.at list.rows lawful.rows)))
-
 -- one that was taken to its rows
-pub anew_mirrors : (list : ListData) (m : Log) → IsClusterList list → IsLog m → end_of m ≡ list.at → IsStateAt m Pods list.at list.rows → MirrorsList list m
+pub anew_mirrors : (list : ListData) (m : Log) → IsClusterList list → IsLog m → end_of m ≡ list.at → IsStateAt m list.selection.resource list.at list.rows → MirrorsList list m
 anew_mirrors list m lawful is end state peer cluster listing reached =
-    mirrors_begin_anew (selects list.selection) peer list.selection.resource list.at m list.rows cluster.log is end reached
-    (subst (λ (r : Resource). IsStateAt m r list.at list.rows) (sym lawful.all.pods) state) listing
+    mirrors_begin_anew (selects list.selection) peer list.selection.resource list.at m list.rows cluster.log is end reached state listing
 
 -- ---- taking a list
 
@@ -85,12 +70,13 @@ anew_mirror log after reading later answer given rows at mirror rebased is = rec
 
 module _ (log : MirrorLogData) (reading : ReaderData) (answer : Option (Result Heard ClusterNo)) (old : ClusterData) (is : view_of log reading answer ≡ old) where
   -- it goes on from a list
-  pub listed_anew : (list : ListData) (after : MirrorLogData) (later : ReaderData) (given : Option (Result Heard ClusterNo)) (rows : List RowData) (at : ℕ) → IsClusterList list → rows ≡ list.rows → at ≡ list.at → later ≡ unread
+  pub listed_anew : (list : ListData) (after : MirrorLogData) (later : ReaderData) (given : Option (Result Heard ClusterNo)) (rows : List RowData) (at : ℕ) → IsClusterList list → list.selection ≡ log.selection → rows ≡ list.rows → at ≡ list.at → later ≡ unread
       → given ≡ Some (Ok (Ended at)) → IsLog after.log → IsRebased log rows at after → IsListedAnew old list (view_of after later given)
-  listed_anew list after later given rows at lawful rows_are at_is later_is given_is a_log rebased =
+  listed_anew list after later given rows at lawful of rows_are at_is later_is given_is a_log rebased =
       let end : end_of after.log ≡ list.at = rebased.end ∙ at_is in
-      let state : IsStateAt after.log Pods list.at list.rows =
-      subst (λ (l : List RowData). IsStateAt after.log Pods list.at l) rows_are (subst (λ (n : ℕ). IsStateAt after.log Pods n rows) at_is rebased.state) in
+      let state : IsStateAt after.log list.selection.resource list.at list.rows =
+      subst (λ (s : Selection). IsStateAt after.log s.resource list.at list.rows) (sym of)
+      (subst (λ (l : List RowData). IsStateAt after.log log.selection.resource list.at l) rows_are (subst (λ (n : ℕ). IsStateAt after.log log.selection.resource n rows) at_is rebased.state)) in
       subst (λ (m : ClusterData). IsListedAnew m list (view_of after later given)) is
       (record {
         selection = rebased.selection;
@@ -151,10 +137,6 @@ pub taken_quietly : (old : ClusterData) (list : ListData) (result : Result (Unit
 taken_quietly old list (Ok u) new before after takes same = same
 taken_quietly old list (Err why) new before after (stays, untaken) same =
     quiet (Unit {0}) why before after (named_quietly untaken.between list.rows (end_of old.log) list.at untaken.fault why (mirror_log new) untaken.named) same
-
--- a log that begins with the parts of a list begins with it
-pub opened_as : (log : Log) (from at : ℕ) (items rows : List RowData) → log ≡ opened_log from items → from ≡ at → items ≡ rows → log ≡ opened_log at rows
-opened_as log from at items rows is at_is rows_are = is ∙ ap (λ n. opened_log n items) at_is ∙ ap (opened_log at) rows_are
 
 -- ---- following anew
 

@@ -1,6 +1,5 @@
 -- Laws of mirrors of clusters over the bytes of their cluster.
 use Rattle.std.specs.Prelude.{◌≡◌, ℕ, List, [], ◌∷◌, ◌++◌, Option, None}
-use Rattle.kube_meta.specs.declared.resources.Resource.TheVariants.{Pods}
 use Rattle.rev_log.specs.Logs.{Log}
 use Rattle.watch_rules.specs.declared.ask.WatchAsk.{WatchAsk}
 use Rattle.watch_rules.specs.Bodies.{Line, Told, Bookmark, Closing, Lost, BeginsBody}
@@ -23,5 +22,5 @@ IsFaultless (Lost at floor) fault = Unit {0}
 abbrev pub ClusterLinesAreHeard : Type 0
 ClusterLinesAreHeard =
     (peer : Log) (ask : WatchAsk) (log_floor low b from : ℕ) (lines : List Line) (line : Line) (m : ClusterData) (text : List ℕ) (found : Option PeerLine) →
-    IsClusterMirror m → TellsByValue Pods text (as_read line) → ReadsByValue Pods text found → IsCluster peer m.selection.resource → AsksChanges m.selection ask from →
+    IsClusterMirror m → TellsByValue m.selection.resource text (as_read line) → ReadsByValue m.selection.resource text found → IsCluster peer m.selection.resource → AsksChanges m.selection ask from →
     FollowsCluster peer b from lines m → BeginsBody peer log_floor low ask from (lines ++ line ∷ []) → IsFaultless line (told_fault (mirror_log m) found)

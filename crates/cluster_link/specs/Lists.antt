@@ -2,7 +2,6 @@
 use Rattle.std.specs.Prelude.{◌≡◌, ◌⊎◌, ℕ, ◌≤◌, ◌^◌, IsTrue, List, [], ◌++◌, All, Option, Some, Result, Ok, Err, IfSome}
 use Rattle.edge_io.specs.Sent.{Sent, IsWrittenOut, IsSentOn}
 use Rattle.kube_meta.specs.Names.{IsNamespace}
-use Rattle.kube_meta.specs.declared.resources.Resource.TheVariants.{Pods}
 use Rattle.kube_meta.specs.Rows.{RowData, AreRising}
 use Rattle.line_stream.specs.ClusterRequests.{page_request}
 use Rattle.select_all.specs.declared.selection.Selection.{Selection}
@@ -18,10 +17,9 @@ pub record ListData : Type 0 where
   pub rows : List RowData
   pub at : ℕ
 
--- all pods, or those of a namespace
+-- all objects of a resource, or those of a namespace
 pub record IsOfAll (s : Selection) : Type 0 where
-  pub pods : s.resource ≡ Pods
-  pub read : IsRead Pods s.ns [] [] s
+  pub read : IsRead s.resource s.ns [] [] s
   pub namespace : IfSome s.ns IsNamespace
 
 -- a row of a list at a revision: its object is selected, and it isn't younger
@@ -52,8 +50,8 @@ pub record HasList (s : Selection) (taken : List ℕ) (sent : Sent) (list : List
   pub selection : list.selection ≡ s
   pub pages : List PageData
   pub kept : List ℕ
-  pub are : ArePages pages (record { rows = list.rows; at = Some list.at; token = [] }) taken kept
-  pub requests : IsSentOn (page_requests s.ns pages) sent
+  pub are : ArePages s.resource pages (record { rows = list.rows; at = Some list.at; token = [] }) taken kept
+  pub requests : IsSentOn (page_requests s.resource s.ns pages) sent
 
 -- behind some pages one more was asked for, and wasn't to be had
 pub record LacksNext (s : Selection) (taken : List ℕ) (left : Option (List ℕ)) (sent : Sent) (why : ClusterNo) : Type 0 where
@@ -62,17 +60,17 @@ pub record LacksNext (s : Selection) (taken : List ℕ) (left : Option (List ℕ
   pub first : List ℕ
   pub last : List ℕ
   pub kept : List ℕ
-  pub are : ArePages pages gathered first kept
+  pub are : ArePages s.resource pages gathered first kept
   pub taken_are : taken ≡ first ++ last
-  pub lacks : LacksPage gathered (page_requests s.ns pages) (page_request Pods s.ns gathered.token) kept last left sent why
+  pub lacks : LacksPage s.resource gathered (page_requests s.resource s.ns pages) (page_request s.resource s.ns gathered.token) kept last left sent why
 
 -- the pages were read, and aren't those of a list: their rows aren't such rows, or there are too many
 pub record LacksRows (s : Selection) (taken : List ℕ) (sent : Sent) (why : ClusterNo) : Type 0 where
   pub pages : List PageData
   pub gathered : GatheredData
   pub kept : List ℕ
-  pub are : ArePages pages gathered taken kept
-  pub requests : IsWrittenOut (page_requests s.ns pages) sent
+  pub are : ArePages s.resource pages gathered taken kept
+  pub requests : IsWrittenOut (page_requests s.resource s.ns pages) sent
   pub fault : ((why ≡ no.BadLine) × (gathered.token ≡ []) × ¬ (IsGathered s gathered)) ⊎ (why ≡ no.TooLong)
 
 -- what the reading of a list answers that took these bytes
@@ -84,9 +82,9 @@ AnswersList s taken left sent (Err why) = LacksNext s taken left sent why ⊎ La
 pub record HoldsPages (s : Selection) (taken : List ℕ) (sent : Sent) (gathered : GatheredData) : Type 0 where
   pub pages : List PageData
   pub kept : List ℕ
-  pub are : ArePages pages gathered taken kept
+  pub are : ArePages s.resource pages gathered taken kept
   pub last : gathered.token ≡ []
-  pub requests : IsSentOn (page_requests s.ns pages) sent
+  pub requests : IsSentOn (page_requests s.resource s.ns pages) sent
 
 abbrev pub AnswersPages : Selection → List ℕ → Option (List ℕ) → Sent → Result (Unit {0}) ClusterNo → GatheredData → Type 0
 AnswersPages s taken left sent (Ok u) gathered = HoldsPages s taken sent gathered

@@ -1,4 +1,4 @@
--- Mirrors of a cluster's pods, as contracts see them.
+-- Mirrors of a resource of a cluster, as contracts see them.
 use Rattle.std.specs.Prelude.{◌≡◌, ℕ, ◌^◌, ◌≤◌, List, [], Option, None, Some, Result, Ok}
 use Rattle.line_stream.specs.Readers.{ReaderData}
 use Rattle.line_stream.specs.declared.place.Place.TheVariants.{AtSize}
@@ -11,11 +11,10 @@ use Rattle.select_all.specs.Streams.{TransitionData}
 use Rattle.watch_rules.specs.Bodies.{Line}
 use Rattle.mirror_law.specs.Clusters.{IsCluster, with_marks}
 use Rattle.mirror_law.specs.Following.{Follows}
-use Rattle.mirror_law.specs.Mirrors.{IsMirrorOf, opened_log}
+use Rattle.mirror_law.specs.Mirrors.{IsMirrorOf}
 use Rattle.mirror_log.specs.MirrorLogs.{MirrorLogData}
 use Rattle.cluster_link.specs.Lists.{ListData, IsOfAll}
 use Rattle.cluster_link.specs.declared.heard.Heard.{Heard}
-use Rattle.cluster_link.specs.declared.heard.Heard.TheVariants.{Ended}
 use Rattle.cluster_link.specs.declared.refusal.ClusterNo.{ClusterNo}
 
 -- whose it is, how many revisions without a line may lie before one, what its pass knows of its store, its log, the
@@ -38,8 +37,8 @@ most_told = 16777216
 abbrev pub unread : ReaderData
 unread = record { kept = []; place = AtSize; part = []; room = None; most = most_told }
 
--- what holds of each: it is of all pods, or of those of a namespace; any number of revisions may lie before a line; and
--- its reading has no bound
+-- what holds of each: it is of all objects, or of those of a namespace; any number of revisions may lie before a line;
+-- and its reading has no bound
 pub record IsClusterMirror (m : ClusterData) : Type 0 where
   pub all : IsOfAll m.selection
   pub any_gap : m.most_gap ≡ 2 ^ 62
@@ -60,13 +59,3 @@ abbrev pub MirrorsList : ListData → Log → Type 0
 MirrorsList list m =
     (peer : Log) → IsCluster peer list.selection.resource → IsListing peer list.selection list.at list.rows → list.at ≤ end_of peer →
     IsMirrorOf peer list.selection list.at m
-
--- ---- a mirror that begins with a list
-
--- its rows at its revision are the log; nothing is kept, nothing was read, and no stream was asked for yet
-pub record IsBegunWith (list : ListData) (m : ClusterData) : Type 0 where
-  pub selection : m.selection ≡ list.selection
-  pub log : m.log ≡ opened_log list.at list.rows
-  pub kept : m.kept ≡ []
-  pub reading : m.reading ≡ unread
-  pub answer : m.answer ≡ Some (Ok (Ended list.at))

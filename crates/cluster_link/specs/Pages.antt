@@ -2,7 +2,7 @@
 use Rattle.std.specs.Prelude.{◌≡◌, ◌≢◌, ◌⊎◌, ◌↔◌, ℕ, List, [], ◌∷◌, ◌++◌, map, All, Option, Some, None, Result, Ok, Err, Bool, false}
 use Rattle.std.specs.List.{flat_map}
 use Rattle.edge_io.specs.Sent.{Sent, IsWrittenOut, IsSentOn, IsBrokenOff}
-use Rattle.kube_meta.specs.declared.resources.Resource.TheVariants.{Pods}
+use Rattle.kube_meta.specs.declared.resources.Resource.{Resource}
 use Rattle.kube_meta.specs.Rows.{RowData}
 use Rattle.line_stream.specs.Bodies.{IsBody, ReadsBody}
 use Rattle.line_stream.specs.ClusterRequests.{page_request}
@@ -31,9 +31,9 @@ pub record PageData : Type 0 where
   pub beyond : List ℕ
 
 -- it is the body of a reply, and its text tells that
-pub record IsPageRead (page : PageData) : Type 0 where
+pub record IsPageRead (resource : Resource) (page : PageData) : Type 0 where
   pub body : IsBody (page.before ++ page.taken) page.text page.beyond
-  pub tells : IsPageText Pods page.text page.rows page.at page.token
+  pub tells : IsPageText resource page.text page.rows page.at page.token
 
 -- what pages come to: their rows, their revision, which there is none of before the first, and the token of what
 -- follows
@@ -46,9 +46,9 @@ pub record GatheredData : Type 0 where
 abbrev pub no_pages : GatheredData
 no_pages = record { rows = []; at = None; token = [] }
 
--- the requests for pages of a namespace, or of all
-abbrev pub page_requests : Option (List ℕ) → List PageData → List ℕ
-page_requests ns pages = flat_map (λ page. page_request Pods ns page.asked) pages
+-- the requests for pages of a resource, of a namespace or of all
+abbrev pub page_requests : Resource → Option (List ℕ) → List PageData → List ℕ
+page_requests resource ns pages = flat_map (λ page. page_request resource ns page.asked) pages
 
 -- the revision of pages: that of the first, if there is one
 abbrev pub revision_of_pages : List PageData → Option ℕ
@@ -58,8 +58,8 @@ revision_of_pages (page ∷ pages) = Some page.at
 -- These pages were read over a new connection. They are of one revision; each was asked for by the token of the one
 -- before, the first by none; each stands behind what was read with the one before; these bytes were taken for them, and
 -- `kept` was read beyond them.
-pub record ArePages (pages : List PageData) (gathered : GatheredData) (taken kept : List ℕ) : Type 0 where
-  pub read : All IsPageRead pages
+pub record ArePages (resource : Resource) (pages : List PageData) (gathered : GatheredData) (taken kept : List ℕ) : Type 0 where
+  pub read : All (IsPageRead resource) pages
   pub revision : gathered.at ≡ revision_of_pages pages
   pub one_revision : All (λ page. gathered.at ≡ Some page.at) pages
   pub rows : gathered.rows ≡ flat_map (λ page. page.rows) pages
@@ -89,22 +89,22 @@ AddsPage old rows at token (Ok more) new = IsOfRevision old.at at × (new ≡ wi
 AddsPage old rows at token (Err why) new = (why ≡ no.Memory) ⊎ ((why ≡ no.MixedPages) × IsOfOtherRevision old.at at)
 
 -- the text is a page that isn't added, or it is none
-abbrev pub IsNoPage : GatheredData → List ℕ → ClusterNo → Type 0
-IsNoPage gathered text why =
+abbrev pub IsNoPage : Resource → GatheredData → List ℕ → ClusterNo → Type 0
+IsNoPage resource gathered text why =
     (why ≡ no.Memory)
-    ⊎ (((why ≡ no.BadLine) × ((rows : List RowData) (at : ℕ) (token : List ℕ) → ¬ (IsPageText Pods text rows at token)))
-    ⊎ ((why ≡ no.MixedPages) × ((rows : List RowData) × (at : ℕ) × (token : List ℕ) × IsPageText Pods text rows at token × IsOfOtherRevision gathered.at at)))
+    ⊎ (((why ≡ no.BadLine) × ((rows : List RowData) (at : ℕ) (token : List ℕ) → ¬ (IsPageText resource text rows at token)))
+    ⊎ ((why ≡ no.MixedPages) × ((rows : List RowData) × (at : ℕ) × (token : List ℕ) × IsPageText resource text rows at token × IsOfOtherRevision gathered.at at)))
 
 -- what becomes of a body's text
-abbrev pub TakesPage : GatheredData → List ℕ → Result Bool ClusterNo → GatheredData → Type 0
-TakesPage old text (Ok more) new = (rows : List RowData) × (at : ℕ) × (token : List ℕ) × IsPageText Pods text rows at token × AddsPage old rows at token (Ok more) new
-TakesPage old text (Err why) new = IsNoPage old text why
+abbrev pub TakesPage : Resource → GatheredData → List ℕ → Result Bool ClusterNo → GatheredData → Type 0
+TakesPage resource old text (Ok more) new = (rows : List RowData) × (at : ℕ) × (token : List ℕ) × IsPageText resource text rows at token × AddsPage old rows at token (Ok more) new
+TakesPage resource old text (Err why) new = IsNoPage resource old text why
 
 -- no page stands in the bytes that were kept and taken: there is no body, or its text isn't one
-abbrev pub HasNoPage : GatheredData → List ℕ → Option (List ℕ) → ClusterNo → Type 0
-HasNoPage gathered bytes left why =
+abbrev pub HasNoPage : Resource → GatheredData → List ℕ → Option (List ℕ) → ClusterNo → Type 0
+HasNoPage resource gathered bytes left why =
     ((fault : LineNo) × (kept : List ℕ) × (why ≡ reply_refusal fault) × ReadsBody most_page bytes kept left (Err fault))
-    ⊎ ((text : List ℕ) × (after : List ℕ) × IsBody bytes text after × IsNoPage gathered text why)
+    ⊎ ((text : List ℕ) × (after : List ℕ) × IsBody bytes text after × IsNoPage resource gathered text why)
 
 -- the last of two requests wasn't sent on: it was broken off, or there was no memory for it and nothing of it was
 -- written
@@ -114,23 +114,23 @@ IsLeftUnsent first last ask.Memory sent = IsWrittenOut first sent
 
 -- behind some requests a page was asked for and wasn't to be had: its request wasn't sent on, and nothing was taken; or
 -- none stands in the bytes
-abbrev pub LacksPage : GatheredData → List ℕ → List ℕ → List ℕ → List ℕ → Option (List ℕ) → Sent → ClusterNo → Type 0
-LacksPage gathered first last kept taken left sent why =
+abbrev pub LacksPage : Resource → GatheredData → List ℕ → List ℕ → List ℕ → List ℕ → Option (List ℕ) → Sent → ClusterNo → Type 0
+LacksPage resource gathered first last kept taken left sent why =
     ((fault : AskNo) × (why ≡ request_refusal fault) × IsLeftUnsent first last fault sent × (taken ≡ []))
-    ⊎ (IsSentOn (first ++ last) sent × HasNoPage gathered (kept ++ taken) left why)
+    ⊎ (IsSentOn (first ++ last) sent × HasNoPage resource gathered (kept ++ taken) left why)
 
 -- the page that was read behind what was gathered
-pub record IsNextPage (old : GatheredData) (kept taken : List ℕ) (page : PageData) (new : GatheredData) (beyond : List ℕ) : Type 0 where
+pub record IsNextPage (resource : Resource) (old : GatheredData) (kept taken : List ℕ) (page : PageData) (new : GatheredData) (beyond : List ℕ) : Type 0 where
   pub asked : page.asked ≡ old.token
   pub before : page.before ≡ kept
   pub taken_is : page.taken ≡ taken
   pub after : page.beyond ≡ beyond
-  pub read : IsPageRead page
+  pub read : IsPageRead resource page
   pub same : IsOfRevision old.at page.at
   pub new_is : new ≡ with_page old page.rows page.at page.token
 
 -- what asking for one more page answers: it was read, and more are to come or not; or why it wasn't to be had
-abbrev pub NextPage : Option (List ℕ) → GatheredData → List ℕ → List ℕ → Option (List ℕ) → Sent → Result Bool ClusterNo → GatheredData → List ℕ → Type 0
-NextPage ns old kept taken left sent (Ok more) new beyond =
-    IsSentOn (page_request Pods ns old.token) sent × (page : PageData) × IsNextPage old kept taken page new beyond × ((more ≡ false) → new.token ≡ [])
-NextPage ns old kept taken left sent (Err why) new beyond = LacksPage old [] (page_request Pods ns old.token) kept taken left sent why
+abbrev pub NextPage : Resource → Option (List ℕ) → GatheredData → List ℕ → List ℕ → Option (List ℕ) → Sent → Result Bool ClusterNo → GatheredData → List ℕ → Type 0
+NextPage resource ns old kept taken left sent (Ok more) new beyond =
+    IsSentOn (page_request resource ns old.token) sent × (page : PageData) × IsNextPage resource old kept taken page new beyond × ((more ≡ false) → new.token ≡ [])
+NextPage resource ns old kept taken left sent (Err why) new beyond = LacksPage resource old [] (page_request resource ns old.token) kept taken left sent why

@@ -1,11 +1,11 @@
 -- How a mirror of a cluster begins anew: from a list that isn't behind its own end.
 use Rattle.std.specs.Prelude.{◌≡◌, ◌⊎◌, ℕ, List, [], Option, Some, Result, Ok, Err}
 use Rattle.edge_io.specs.Sent.{Sent}
-use Rattle.kube_meta.specs.declared.resources.Resource.TheVariants.{Pods}
 use Rattle.rev_log.specs.Changes.{RevisionData}
 use Rattle.rev_log.specs.Logs.{end_of, grown}
 use Rattle.rev_log.specs.States.{IsStateAt}
 use Rattle.kube_meta.specs.Rows.{RowData}
+use Rattle.mirror_law.specs.Mirrors.{opened_log}
 use Rattle.mirror_log.specs.MirrorLogs.{MirrorLogData}
 use Rattle.mirror_log.specs.Rebasing.{Rebases, IsDifferentAt, IsNowhereDifferent, IsStoreRefusal}
 use Rattle.mirror_log.specs.declared.refusal.RebaseNo.{RebaseNo}
@@ -15,7 +15,7 @@ use Rattle.cluster_link.specs.Mirroring.{ClusterData, MirrorsList, mirror_log, u
 use Rattle.cluster_link.specs.Refusals.{anew_refusal}
 use Rattle.cluster_link.specs.declared.heard.Heard.TheVariants.{Ended}
 use Rattle.cluster_link.specs.declared.refusal.ClusterNo.{ClusterNo}
-use Rattle.cluster_link.specs.declared.refusal.ClusterNo.TheVariants.{OtherValue, OtherLog}
+use Rattle.cluster_link.specs.declared.refusal.ClusterNo.TheVariants.{Memory, OtherValue, OtherLog}
 
 -- Its log grew up to the list's revision, where it has the list's rows, and mirrors the cluster's from there; its store
 -- serves nothing below; nothing is kept, nothing was read, and no stream was asked for yet.
@@ -24,7 +24,7 @@ pub record IsListedAnew (old : ClusterData) (list : ListData) (new : ClusterData
   pub more : List RevisionData
   pub log : new.log ≡ grown old.log more
   pub end : end_of new.log ≡ list.at
-  pub state : IsStateAt new.log Pods list.at list.rows
+  pub state : IsStateAt new.log list.selection.resource list.at list.rows
   pub floor : new.told.floor ≡ list.at
   pub kept : new.kept ≡ []
   pub reading : new.reading ≡ unread
@@ -58,6 +58,26 @@ pub record IsNotRelisted (old : ClusterData) (list : ListData) (why : ClusterNo)
   pub between : MirrorLogData
   pub refused : Rebases (mirror_log old) list.rows list.at (Err fault) between
   pub named : NamesRefusal between list.rows (end_of old.log) list.at fault why (mirror_log new)
+
+-- ---- a mirror that begins with a list
+
+-- one of an empty log, whose first revision is 1
+pub record IsEmptyFor (list : ListData) (m : ClusterData) : Type 0 where
+  pub selection : m.selection ≡ list.selection
+  pub log : m.log ≡ opened_log 1 []
+
+-- is taken to the list
+pub record IsBegunWith (list : ListData) (m : ClusterData) : Type 0 where
+  pub before : ClusterData
+  pub empty : IsEmptyFor list before
+  pub listed : IsListedAnew before list m
+
+-- or isn't, or there was no memory
+abbrev pub IsNotBegun : ListData → ClusterNo → Type 0
+IsNotBegun list why =
+    (why ≡ Memory) ⊎ ((before : ClusterData) × (after : ClusterData) × IsEmptyFor list before × IsNotRelisted before list why after)
+
+-- ---- a call
 
 -- what it makes of a list of its selection
 abbrev pub TakesList : ClusterData → ListData → Result (Unit {0}) ClusterNo → ClusterData → Type 0

@@ -1,6 +1,5 @@
 -- How a mirror of a cluster asks for what comes behind its log.
 use Rattle.std.specs.Prelude.{◌≡◌, ◌⊎◌, ℕ, List, [], Option, Result, Ok, Err}
-use Rattle.kube_meta.specs.declared.resources.Resource.TheVariants.{Pods}
 use Rattle.line_stream.specs.ClusterRequests.{changes_request}
 use Rattle.line_stream.specs.Heads.{BeginsChunks, RefusesResponse}
 use Rattle.line_stream.specs.Readers.{ReaderData}
@@ -11,9 +10,9 @@ use Rattle.cluster_link.specs.Refusals.{reply_refusal}
 use Rattle.cluster_link.specs.declared.refusal.ClusterNo.{ClusterNo}
 use Rattle.cluster_link.specs.declared.refusal.ClusterNo.TheVariants.{WriteFault, Memory}
 
--- a watch of its pods from the end of its log
+-- a watch of its objects from the end of its log
 abbrev pub stream_request : ClusterData → List ℕ
-stream_request m = changes_request Pods m.selection.ns (end_of m.log)
+stream_request m = changes_request m.selection.resource m.selection.ns (end_of m.log)
 
 -- what its reading is then: at the beginning of a chunked body; or the bytes begin none, for this reason, or it wasn't
 -- asked for and nothing was taken

@@ -1,6 +1,5 @@
 -- What a mirror of a cluster hears over its connection, and what that leaves of it.
 use Rattle.std.specs.Prelude.{◌≡◌, ◌⊎◌, ℕ, ◌^◌, ◌<◌, ◌≤◌, List, [], ◌∷◌, ◌++◌, Option, Some, None, Result, Ok, Err, IfOk, option_map}
-use Rattle.kube_meta.specs.declared.resources.Resource.TheVariants.{Pods}
 use Rattle.rev_log.specs.Changes.{RevisionData}
 use Rattle.rev_log.specs.Logs.{Log, end_of, grown}
 use Rattle.select_all.specs.Streams.{TransitionData}
@@ -59,7 +58,7 @@ told_with kept (Lost at floor) = kept
 pub record GrowsBy (old : MirrorLogData) (line : Line) (log : Log) : Type 0 where
   pub more : List RevisionData
   pub log_is : log ≡ grown old.log more
-  pub told_by : AreToldBy Pods (told_with old.kept line) (end_of old.log) more
+  pub told_by : AreToldBy old.selection.resource (told_with old.kept line) (end_of old.log) more
 
 -- A line was taken whole: all revisions are committed up to which it says that all was told, and nothing is kept.
 pub record TakesWhole (old : MirrorLogData) (line : Line) (new : MirrorLogData) : Type 0 where
@@ -91,10 +90,10 @@ HearsTold old found (Err why) new = (told_fault old found ≡ Some why) × (new 
 
 -- and to its text
 abbrev pub HearsTextOf : MirrorLogData → List ℕ → Result Heard ClusterNo → MirrorLogData → Type 0
-HearsTextOf old text (Ok (heard.Line to)) new = (found : Option PeerLine) × ReadsByValue Pods text found × HearsTold old found (Ok to) new
+HearsTextOf old text (Ok (heard.Line to)) new = (found : Option PeerLine) × ReadsByValue old.selection.resource text found × HearsTold old found (Ok to) new
 HearsTextOf old text (Ok (heard.Ended to)) new = ⊥
 HearsTextOf old text (Err why) new =
-    ((why ≡ no.Memory) × (new ≡ old)) ⊎ ((found : Option PeerLine) × ReadsByValue Pods text found × HearsTold old found (Err why) new)
+    ((why ≡ no.Memory) × (new ≡ old)) ⊎ ((found : Option PeerLine) × ReadsByValue old.selection.resource text found × HearsTold old found (Err why) new)
 
 -- ---- what a mirror makes of a line
 
@@ -105,7 +104,7 @@ pub record ReadsTold (old : ClusterData) (taken : List ℕ) (result : Result Hea
   pub text : List ℕ
   pub read : ReadsText old.reading (old.reading.kept ++ taken) text new.reading
   pub follows : (peer : Log) (ask : WatchAsk) (log_floor low b from : ℕ) (lines : List Line) (line : Line) →
-      TellsByValue Pods text (as_read line) → IsCluster peer old.selection.resource → AsksChanges old.selection ask from → FollowsCluster peer b from lines old →
+      TellsByValue old.selection.resource text (as_read line) → IsCluster peer old.selection.resource → AsksChanges old.selection ask from → FollowsCluster peer b from lines old →
       BeginsBody peer log_floor low ask from (lines ++ line ∷ []) →
       IsMirrorOf peer old.selection b new.log × IfOk result (λ heard. FollowsCluster peer b from (lines ++ line ∷ []) new)
 

@@ -14,8 +14,8 @@ pub enum Finding {
 }
 
 /// Notes why a text is no line or no page.
-pub(crate) fn find(alloc: Global, text: &[u8], finding: &mut Option<Finding>) {
-    match trouble_of(alloc, Resource::Pods, text) {
+pub(crate) fn find(alloc: Global, resource: Resource, text: &[u8], finding: &mut Option<Finding>) {
+    match trouble_of(alloc, resource, text) {
         Ok(bad) => *finding = Some(Finding::Text(bad)),
         Err(_) => {}
     }

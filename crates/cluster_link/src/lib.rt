@@ -1,5 +1,5 @@
-//! A cluster's pods, followed: all of them at a revision, listed in pages, and a mirror whose log follows the
-//! cluster's watch from there. The cluster is a Kubernetes API server, which isn't asked for what only a server of
+//! A resource of a cluster, followed: all of its objects at a revision, listed in pages, and a mirror whose log follows
+//! the cluster's watch from there. The cluster is a Kubernetes API server, which isn't asked for what only a server of
 //! ours answers, and whose texts are read by their values.
 #![tactic(auto)]
 

@@ -7,7 +7,7 @@ ghost use Rattle.cluster_link.specs.Telling.{HearsTold, HearsTextOf, IsInBounds}
 
 use crate::refusals::log_refusal;
 use crate::{ClusterNo, Heard};
-use kube_meta::{Obj, Resource};
+use kube_meta::Obj;
 use mirror_log::MirrorLog;
 use select_all::Kind;
 use std::alloc::Global;
@@ -75,7 +75,7 @@ pub(crate) fn hear_text<N: LogFacts, R: Wait + Copy>(
     ensures hears { HearsTextOf log.old text.now result log.new }
 {
     what_is_told_is_kept();
-    let found = match tell_line(alloc, Resource::Pods, text) {
+    let found = match tell_line(alloc, log.selection().resource, text) {
         Ok(found) => found,
         Err(_) => return Err(ClusterNo::Memory),
     };

@@ -16,7 +16,7 @@ use select_all::Selection;
 use std::alloc::Global;
 use std::marker::Model;
 
-/// All pods of a cluster, or those of a namespace, at a revision. Contracts see them.
+/// All objects of a resource of a cluster, or those of a namespace, at a revision. Contracts see them.
 #[derive(Debug, Drop)]
 pub struct ClusterList {
     selection: Selection,
@@ -87,8 +87,8 @@ fn list_of(selection: Selection, gathered: Gathered) -> Result<ClusterList, Clus
 }
 
 impl ClusterList {
-    /// Asks a cluster for all pods, or those of a namespace, page by page, over a new connection. Where a page isn't
-    /// one, what is found in it is noted.
+    /// Asks a cluster for all objects of a resource, or those of a namespace, page by page, over a new connection.
+    /// Where a page isn't one, what is found in it is noted.
     pub fn read<S: Source, K: Sink>(
         alloc: Global,
         selection: Selection,
@@ -123,16 +123,11 @@ impl ClusterList {
         &self.rows
     }
 
-    /// Whose they are, and its rows.
-    pub(crate) fn into_parts(self) -> (Selection, Vec<Row>)
-        ensures parts { (result.0 ≡ self.selection) × (result.1.items ≡ self.rows) }
-        ensures lawful { IsClusterList self }
+    /// Whose they are.
+    pub(crate) fn selection(&self) -> &Selection
+        ensures answer { result.now ≡ self.now.selection }
+        ensures lawful { IsClusterList self.now }
     {
-        let ClusterList {
-            selection,
-            rows,
-            at: _,
-        } = self;
-        (selection, rows)
+        &self.selection
     }
 }

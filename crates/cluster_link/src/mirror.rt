@@ -1,6 +1,6 @@
 //! Mirrors of clusters.
 
-ghost use Rattle.std.specs.Prelude.{◌≡◌, ◌++◌, ◌≤◌, ℕ, List, [], IsNone, IfOk, IfSome, OnOk, true};
+ghost use Rattle.std.specs.Prelude.{◌≡◌, ◌++◌, ◌≤◌, ℕ, List, [], IsNone, IfOk, IfSome, MatchResult, OnOk, true};
 ghost use Rattle.edge_io.specs.Sent.{sent_through};
 ghost use Rattle.edge_io.specs.Told.{prepended};
 ghost use Rattle.line_stream.specs.AskAnswers.{Asks};
@@ -11,9 +11,9 @@ ghost use Rattle.rev_log.specs.Logs.{IsLog, Log, end_of, grown};
 ghost use Rattle.up_api.specs.Sections.{Learns, log_upto};
 ghost use Rattle.cluster_link.specs.Counting.{CountsSource, IsRequested};
 ghost use Rattle.cluster_link.specs.Lists.{AnswersList, IsClusterList};
-ghost use Rattle.cluster_link.specs.Mirroring.{FollowsCluster, IsBegunWith, MirrorsList, unread};
+ghost use Rattle.cluster_link.specs.Mirroring.{FollowsCluster, unread};
 ghost use Rattle.cluster_link.specs.Refusals as refusals;
-ghost use Rattle.cluster_link.specs.Relisting.{Relists, TakesList};
+ghost use Rattle.cluster_link.specs.Relisting.{IsBegunWith, IsEmptyFor, IsNotBegun, Relists, TakesList};
 ghost use Rattle.cluster_link.specs.Resuming.{BeginsStream, stream_request};
 ghost use Rattle.cluster_link.specs.Telling.{HearsCluster, HearsOnward};
 
@@ -24,7 +24,7 @@ use crate::readers::new_reader;
 use crate::refusals::{reply_refusal, request_refusal, resumed_answer, standing_answer};
 use crate::{ClusterList, ClusterNo, Heard};
 use edge_io::{Sink, Source};
-use kube_meta::{Memory, Resource};
+use kube_meta::Memory;
 use line_stream::{AskNo, LineReader, Step, ask_changes};
 use mirror_log::MirrorLog;
 use rev_front::Blank;
@@ -39,7 +39,10 @@ use watch_lines::texts_tell_one_line;
 /// The most revisions without a line before one: as many as there are.
 const MOST_GAP: u64 = 4_611_686_018_427_387_904;
 
-/// A mirror of a cluster's pods: a store of its own, whose log is what the cluster's lists and watches tell.
+/// The first revision of its log.
+const FIRST: u64 = 1;
+
+/// A mirror of a resource of a cluster: a store of its own, whose log is what the cluster's lists and watches tell.
 #[derive(Drop)]
 pub struct ClusterMirror<N: LogFacts, R: Wait + Copy> {
     alloc: Global,
@@ -76,31 +79,54 @@ impl<N: LogFacts, R: Wait + Copy> Model for ClusterMirror<N, R> {
 }
 
 impl<N: LogFacts, R: Wait + Copy> ClusterMirror<N, R> {
-    /// A mirror that begins with a list. Its store keeps `history` revisions at least. No stream was asked for yet:
-    /// that is for [`ClusterMirror::resume`].
+    /// A mirror that begins with a list: its log is empty at revision 1, and is taken to the list. Its store keeps
+    /// `history` revisions at least. No stream was asked for yet: that is for [`ClusterMirror::resume`].
     pub fn new(
         rt: R,
         alloc: Global,
-        list: ClusterList,
+        list: &ClusterList,
+        blank: Blank<Revision>,
+        history: u64,
+    ) -> Result<ClusterMirror<N, R>, ClusterNo>
+        requires name { blank ≡ N.log }
+        requires first { blank.first ≡ 1 }
+        requires base { N.base ≡ [] }
+        requires mirror { N.mirror ≡ true }
+        requires history { 1 ≤ history }
+        ensures { MatchResult result (IsBegunWith list.now) (IsNotBegun list.now) }
+    {
+        let Ok(mut mirror) = ClusterMirror::<N, R>::empty(rt, alloc, list, blank, history) else {
+            return Err(ClusterNo::Memory);
+        };
+        match mirror.take(list) {
+            Ok(()) => Ok(mirror),
+            Err(why) => Err(why),
+        }
+    }
+
+    // One of an empty log.
+    fn empty(
+        rt: R,
+        alloc: Global,
+        list: &ClusterList,
         blank: Blank<Revision>,
         history: u64,
     ) -> Result<ClusterMirror<N, R>, Memory>
         requires name { blank ≡ N.log }
-        requires first { blank.first ≡ list.at }
-        requires base { N.base ≡ list.rows }
+        requires first { blank.first ≡ 1 }
+        requires base { N.base ≡ [] }
         requires mirror { N.mirror ≡ true }
         requires history { 1 ≤ history }
-        ensures begins { IfOk result (IsBegunWith list) }
-        ensures mirrors { IfOk result (λ m. MirrorsList list m.log) }
+        ensures { IfOk result (IsEmptyFor list.now) }
     {
-        let at = list.at();
-        let (selection, rows) = list.into_parts();
-        let log = MirrorLog::new(rt, alloc, selection, rows, at, blank, history, MOST_GAP)?;
+        let selection = list.selection().copy(alloc)?;
+        let rows = Vec::new(alloc);
+        let log = MirrorLog::new(rt, alloc, selection, rows, FIRST, blank, history, MOST_GAP)?;
         Ok(ClusterMirror {
             alloc,
             log,
             reader: new_reader(alloc),
-            answer: Some(Ok(Heard::Ended { to: at })),
+            answer: Some(Ok(Heard::Ended { to: FIRST })),
             finding: None,
         })
     }
@@ -145,7 +171,10 @@ impl<N: LogFacts, R: Wait + Copy> ClusterMirror<N, R> {
         ensures { self.new ≡ self.old }
     {
         match heard {
-            Err(ClusterNo::BadLine) => find(self.alloc, self.reader.line(), &mut self.finding),
+            Err(ClusterNo::BadLine) => {
+                let resource = self.log.selection().resource;
+                find(self.alloc, resource, self.reader.line(), &mut self.finding);
+            }
             _ => {}
         }
     }
@@ -174,10 +203,11 @@ impl<N: LogFacts, R: Wait + Copy> ClusterMirror<N, R> {
     fn send_request<K: Sink>(&self, sink: &mut K) -> Result<(), AskNo>
         ensures { Asks result (stream_request self.now) (sent_through K.written K.settled K.faults sink.old sink.new) }
     {
+        let selection = self.log.selection();
         ask_changes(
             self.alloc,
-            Resource::Pods,
-            &self.log.selection().ns,
+            selection.resource,
+            &selection.ns,
             self.log.to(),
             sink,
         )
@@ -275,7 +305,7 @@ impl<N: LogFacts, R: Wait + Copy> ClusterMirror<N, R> {
         }
     }
 
-    /// Begins anew: asks the cluster for its pods as they are now, over a new connection, and takes the log to them
+    /// Begins anew: asks the cluster for its objects as they are now, over a new connection, and takes the log to them
     /// in one step. What the log has in between was never served, and nothing below the list's revision is any more.
     /// No stream was asked for then: that is for [`ClusterMirror::resume`]. A list that is behind the log's end is
     /// refused, and so is one that doesn't fit what stands there.

@@ -14,7 +14,7 @@ use crate::finding::{Finding, find};
 use crate::readers::new_reader;
 use crate::refusals::{reply_refusal, request_refusal};
 use edge_io::{Sink, Source};
-use kube_meta::{Resource, Row, Text};
+use kube_meta::{Resource, Row};
 use line_stream::{LineReader, ask_page};
 use select_all::Selection;
 use std::alloc::Global;
@@ -105,17 +105,18 @@ impl Gathered {
 // Takes the text of a page, and answers whether more are to come.
 fn take_page(
     alloc: Global,
+    resource: Resource,
     gathered: &mut Gathered,
     text: &[u8],
     finding: &mut Option<Finding>,
 ) -> Result<bool, ClusterNo>
-    ensures { TakesPage gathered.old text.now result gathered.new }
+    ensures { TakesPage resource gathered.old text.now result gathered.new }
 {
     pages_are_kept();
-    match tell_page(alloc, Resource::Pods, text) {
+    match tell_page(alloc, resource, text) {
         Ok(Some(page)) => gathered.add(page),
         Ok(None) => {
-            find(alloc, text, finding);
+            find(alloc, resource, text, finding);
             Err(ClusterNo::BadLine)
         }
         Err(_) => Err(ClusterNo::Memory),
@@ -125,7 +126,7 @@ fn take_page(
 // Asks for one more page, reads and takes it, and answers whether more are to come.
 fn next_page<S: Source, K: Sink>(
     alloc: Global,
-    ns: &Option<Text>,
+    selection: &Selection,
     gathered: &mut Gathered,
     reader: &mut LineReader,
     source: &mut S,
@@ -133,16 +134,23 @@ fn next_page<S: Source, K: Sink>(
     finding: &mut Option<Finding>,
 ) -> Result<bool, ClusterNo>
     ensures reads { (taken : List ℕ) × (S.left source.old ≡ prepended taken (S.left source.new))
-        × NextPage ns.now gathered.old reader.old.at.kept taken (S.left source.new) (sent_through K.written K.settled K.faults sink.old sink.new)
+        × NextPage selection.now.resource selection.now.ns gathered.old reader.old.at.kept taken (S.left source.new) (sent_through K.written K.settled K.faults sink.old sink.new)
         result gathered.new reader.new.at.kept }
     ensures counted { CountsSource result (S.faults source.old) (S.faults source.new) }
 {
-    match ask_page(alloc, Resource::Pods, ns, gathered.token.as_str(), sink) {
+    let token = gathered.token.as_str();
+    match ask_page(alloc, selection.resource, &selection.ns, token, sink) {
         Ok(()) => {}
         Err(fault) => return Err(request_refusal(fault)),
     }
     match reader.read_body(source, MOST_PAGE) {
-        Ok(text) => take_page(alloc, gathered, text.as_slice(), finding),
+        Ok(text) => take_page(
+            alloc,
+            selection.resource,
+            gathered,
+            text.as_slice(),
+            finding,
+        ),
         Err(fault) => Err(reply_refusal(fault)),
     }
 }
@@ -165,7 +173,7 @@ pub(crate) fn read_pages<S: Source, K: Sink>(
     for _ in 0..MOST_PAGES {
         match next_page(
             alloc,
-            &selection.ns,
+            selection,
             gathered,
             &mut reader,
             source,

@@ -114,7 +114,7 @@ module _ (log : Log) (ask : WatchAsk) (log_floor low b from : ℕ) (lines : List
   pub lawful_fault : (line : Line) (found : Option PeerLine) → On line → ReadsPeerLine Pods text found → (g : ℕ) (p : Pass RevisionData) → IsLawfulFault line (line_fault (record { selection = s; most_gap = g; told = p; log = m; kept = kept }) found)
   lawful_fault (Told t) found h reads g p =
       let at : MirrorLogData = record { selection = s; most_gap = g; told = p; log = m; kept = kept } in
-      let fits : IsAtMostGap (line_fault at (Some (as_read (Told t)))) = at_most (event_fault s g m kept t) (taken_events_fit s g m kept t h.pods (taken (Told t) h)) in
+      let fits : IsAtMostGap (line_fault at (Some (as_read (Told t)))) = at_most (event_fault s g m kept t) (taken_events_fit s g m kept t (taken (Told t) h)) in
       subst (λ (f : Option PeerLine). IsAtMostGap (line_fault at f)) (sym (found_as (Told t) found h (event_told t h) reads)) fits
   lawful_fault (Bookmark to) found h reads g p =
       let at : MirrorLogData = record { selection = s; most_gap = g; told = p; log = m; kept = kept } in
@@ -142,25 +142,23 @@ module _ (log : Log) (ask : WatchAsk) (log_floor low b from : ℕ) (lines : List
     abbrev pub this : TransitionData
     this = record { kind = kind; obj = obj; rev = rev }
 
-    pub event_follows : (line : Line) → On line → IsPeerLine Pods text (peer.Told kind obj rev) → AreToldBy Pods kept (end_of m) more → end_of (grown m more) ≡ rev - 1
+    pub event_follows : (line : Line) → On line → IsPeerLine Pods text (peer.Told kind obj rev) → AreToldBy s.resource kept (end_of m) more → end_of (grown m more) ≡ rev - 1
         → Follows log s b from (lines ++ line ∷ []) (grown m more) (kept_after kept (Told this))
     event_follows (Told t) h read told end =
         let same : t ≡ this = one t kind obj rev (told_as t (peer.Told kind obj rev) h read) in
-        let told_s : AreToldBy s.resource kept (end_of m) more = subst (λ (r : Resource). AreToldBy r kept (end_of m) more) (sym h.pods) told in
         let end_t : end_of (grown m more) ≡ upto_of (Told t) = end ∙ ap (λ (u : TransitionData). u.rev - 1) (sym same) in
         subst (λ (u : TransitionData). Follows log s b from (lines ++ Told t ∷ []) (grown m more) (kept_after kept (Told u))) same
-        (followings_hear log log_floor low b from s ask lines m kept t more h.good.log h.asked.selection h.follows h.begins (taken (Told t) h).above told_s end_t)
+        (followings_hear log log_floor low b from s ask lines m kept t more h.good.log h.asked.selection h.follows h.begins (taken (Told t) h).above told end_t)
     event_follows (Bookmark at) h read told end = let same = mark_as at (peer.Told kind obj rev) h read in absurd (cc)
     event_follows (Closing at) h read told end = absurd (taken (Closing at) h)
     event_follows (Lost at floor) h read told end = absurd (lost_no_event at floor kind obj rev h read)
 
-    pub event_mirrors : (line : Line) → On line → IsPeerLine Pods text (peer.Told kind obj rev) → AreToldBy Pods kept (end_of m) more → end_of (grown m more) ≤ rev - 1
+    pub event_mirrors : (line : Line) → On line → IsPeerLine Pods text (peer.Told kind obj rev) → AreToldBy s.resource kept (end_of m) more → end_of (grown m more) ≤ rev - 1
         → IsMirrorOf log s b (grown m more)
     event_mirrors (Told t) h read told end =
         let same : t ≡ this = one t kind obj rev (told_as t (peer.Told kind obj rev) h read) in
-        let told_s : AreToldBy s.resource kept (end_of m) more = subst (λ (r : Resource). AreToldBy r kept (end_of m) more) (sym h.pods) told in
         let rev_is : t.rev ≡ rev = ap (λ (u : TransitionData). u.rev) same in
-        followings_commit log log_floor low b from s ask lines m kept (Told t) more h.good.log h.asked.selection h.follows h.begins (taken (Told t) h).above told_s (omega (arith, end, rev_is))
+        followings_commit log log_floor low b from s ask lines m kept (Told t) more h.good.log h.asked.selection h.follows h.begins (taken (Told t) h).above told (omega (arith, end, rev_is))
     event_mirrors (Bookmark at) h read told end = let same = mark_as at (peer.Told kind obj rev) h read in absurd (cc)
     event_mirrors (Closing at) h read told end = absurd (taken (Closing at) h)
     event_mirrors (Lost at floor) h read told end = absurd (lost_no_event at floor kind obj rev h read)
@@ -168,24 +166,22 @@ module _ (log : Log) (ask : WatchAsk) (log_floor low b from : ℕ) (lines : List
   -- ---- a bookmark
 
   module _ (mark : ℕ) (more : List RevisionData) where
-    pub mark_follows : (line : Line) → On line → IsPeerLine Pods text (peer.Bookmark mark false) → AreToldBy Pods kept (end_of m) more → end_of (grown m more) ≡ mark
+    pub mark_follows : (line : Line) → On line → IsPeerLine Pods text (peer.Bookmark mark false) → AreToldBy s.resource kept (end_of m) more → end_of (grown m more) ≡ mark
         → Follows log s b from (lines ++ line ∷ []) (grown m more) (kept_after kept (Bookmark mark))
     mark_follows (Told t) h read told end = let same = told_as t (peer.Bookmark mark false) h read in absurd (cc)
     mark_follows (Bookmark at) h read told end =
         let same : peer.Bookmark mark false ≡ peer.Bookmark at false = mark_as at (peer.Bookmark mark false) h read in
         let at_is : mark ≡ at = cc in
-        let told_s : AreToldBy s.resource kept (end_of m) more = subst (λ (r : Resource). AreToldBy r kept (end_of m) more) (sym h.pods) told in
-        followings_mark log log_floor low b from s ask lines m kept at more h.good.log h.asked.selection h.follows h.begins (taken (Bookmark at) h).onward told_s (end ∙ at_is)
+        followings_mark log log_floor low b from s ask lines m kept at more h.good.log h.asked.selection h.follows h.begins (taken (Bookmark at) h).onward told (end ∙ at_is)
     mark_follows (Closing at) h read told end = absurd (taken (Closing at) h)
     mark_follows (Lost at floor) h read told end = absurd (lost_no_mark at floor mark h read)
 
-    pub mark_mirrors : (line : Line) → On line → IsPeerLine Pods text (peer.Bookmark mark false) → AreToldBy Pods kept (end_of m) more → end_of (grown m more) ≤ mark
+    pub mark_mirrors : (line : Line) → On line → IsPeerLine Pods text (peer.Bookmark mark false) → AreToldBy s.resource kept (end_of m) more → end_of (grown m more) ≤ mark
         → IsMirrorOf log s b (grown m more)
     mark_mirrors (Told t) h read told end = let same = told_as t (peer.Bookmark mark false) h read in absurd (cc)
     mark_mirrors (Bookmark at) h read told end =
         let same : peer.Bookmark mark false ≡ peer.Bookmark at false = mark_as at (peer.Bookmark mark false) h read in
         let at_is : mark ≡ at = cc in
-        let told_s : AreToldBy s.resource kept (end_of m) more = subst (λ (r : Resource). AreToldBy r kept (end_of m) more) (sym h.pods) told in
-        followings_commit log log_floor low b from s ask lines m kept (Bookmark at) more h.good.log h.asked.selection h.follows h.begins (taken (Bookmark at) h).onward told_s (omega (arith, end, at_is))
+        followings_commit log log_floor low b from s ask lines m kept (Bookmark at) more h.good.log h.asked.selection h.follows h.begins (taken (Bookmark at) h).onward told (omega (arith, end, at_is))
     mark_mirrors (Closing at) h read told end = absurd (taken (Closing at) h)
     mark_mirrors (Lost at floor) h read told end = absurd (lost_no_mark at floor mark h read)

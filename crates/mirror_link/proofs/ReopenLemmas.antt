@@ -65,7 +65,8 @@ module _ (label field : List ℕ) (log : MirrorLogData) (reading : ReaderData) (
   taken_anew opening rows base after later mirror rows_are base_is reading_is lawful rebased =
       let end : end_of after.log ≡ opening.base = rebased.end ∙ base_is in
       let state : IsStateAt after.log Pods opening.base opening.rows =
-      subst (λ (l : List RowData). IsStateAt after.log Pods opening.base l) rows_are (subst (λ (n : ℕ). IsStateAt after.log Pods n rows) base_is rebased.state) in
+      subst (λ (l : List RowData). IsStateAt after.log Pods opening.base l) rows_are (subst (λ (n : ℕ). IsStateAt after.log Pods n rows) base_is
+      (subst (λ (r : Resource). IsStateAt after.log r base rows) mirror.pods rebased.state)) in
       let state_of : IsStateAt after.log log.selection.resource opening.base opening.rows =
       subst (λ (r : Resource). IsStateAt after.log r opening.base opening.rows) (sym mirror.pods) state in
       subst (λ (m : MirrorData). IsAnew m opening (view label field after later None)) is

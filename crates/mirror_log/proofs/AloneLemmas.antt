@@ -3,10 +3,11 @@ use Rattle.std.proofs.Common.{◌≡◌, ℕ, ◌+◌, ◌<◌, ◌≤◌, false
 use Rattle.std.specs.Prelude.{Result}
 use Rattle.std.proofs.lemmas.Bool.{cases_Bool, ne_eqb, eqb-true, le-ltb}
 use Rattle.std.proofs.lemmas.List.Elements.{filter-append}
-use Rattle.kube_meta.specs.declared.resources.Resource.TheVariants.{Pods}
+use Rattle.kube_meta.specs.declared.resources.Resource.{Resource}
 use Rattle.rev_front.proofs.Beginnings.{fit_push}
 use Rattle.rev_log.specs.Changes.{RevisionData}
 use Rattle.rev_log.specs.Logs.{Log, end_of, grown}
+use Rattle.select_all.specs.declared.selection.Selection.{Selection}
 use Rattle.select_all.specs.Streams.{TransitionData}
 use Rattle.watch_rules.specs.Bodies.{Told, Bookmark}
 use Rattle.mirror_law.specs.Mirrors.{AreToldBy, IsRevisionTold, of_revision}
@@ -40,49 +41,50 @@ of_own kept t =
     ∙ sym (filter-append (λ u. eqb u.rev t.rev) kept (t ∷ []))
 
 -- revisions before it are told with it as without
-told_before : (kept : List TransitionData) (t : TransitionData) (from : ℕ) (more : List RevisionData) → AreToldBy Pods kept from more → from + length more < t.rev → AreToldBy Pods (kept ++ t ∷ []) from more
-told_before kept t from more told before i r at =
+told_before : (resource : Resource) (kept : List TransitionData) (t : TransitionData) (from : ℕ) (more : List RevisionData) → AreToldBy resource kept from more → from + length more < t.rev → AreToldBy resource (kept ++ t ∷ []) from more
+told_before resource kept t from more told before i r at =
     let inside : i < length more = inside_of more i r at in
-    subst (λ (l : List TransitionData). IsRevisionTold Pods (from + 1 + i) l r) (sym (of_other (from + 1 + i) kept t (omega (arith, inside, before)))) (told i r at)
+    subst (λ (l : List TransitionData). IsRevisionTold resource (from + 1 + i) l r) (sym (of_other (from + 1 + i) kept t (omega (arith, inside, before)))) (told i r at)
 
 module _ (old : MirrorLogData) (t : TransitionData) (above : end_of old.log < t.rev) where
   grows_before : (log : Log) → Grows old log → end_of log < t.rev → GrowsWith old t log
   grows_before log grows before = record {
     more = grows.more;
     log_is = grows.log_is;
-    told_by = told_before old.kept t (end_of old.log) grows.more grows.told_by (omega (arith, ap end_of grows.log_is, length-append old.log.revisions grows.more, before));
+    told_by = told_before old.selection.resource old.kept t (end_of old.log) grows.more grows.told_by (omega (arith, ap end_of grows.log_is, length-append old.log.revisions grows.more, before));
   }
 
   -- ---- its line, and then its revision
 
   module _ (mid : MirrorLogData) (first : Takes old (Told t) mid) where
-    grows_on : (more : List RevisionData) (log : Log) → log ≡ grown mid.log more → AreToldBy Pods mid.kept (end_of mid.log) more → end_of log ≤ t.rev → GrowsWith old t log
+    grows_on : (more : List RevisionData) (log : Log) → log ≡ grown mid.log more → AreToldBy old.selection.resource mid.kept (end_of mid.log) more → end_of log ≤ t.rev → GrowsWith old t log
     grows_on [] log is told within =
         let same : log ≡ mid.log = is ∙ ap (λ (revisions : List RevisionData). let l : Log = record mid.log { revisions = revisions } in l) (append-nil mid.log.revisions) in
         subst (GrowsWith old t) (sym same) (grows_before mid.log first.grows (omega (arith, first.reached, above)))
     grows_on (r ∷ []) log is told within =
         let end : end_of mid.log ≡ end_of old.log + length first.grows.more = omega (arith, ap end_of first.grows.log_is, length-append old.log.revisions first.grows.more) in
         let number : end_of mid.log + 1 ≡ t.rev = omega (arith, first.reached, above) in
-        let here : IsRevisionTold Pods (end_of mid.log + 1) (of_revision (end_of mid.log + 1) mid.kept) r =
-        subst (λ (n : ℕ). IsRevisionTold Pods n (of_revision n mid.kept) r) (omega arith) (told 0 r refl) in
+        let here : IsRevisionTold old.selection.resource (end_of mid.log + 1) (of_revision (end_of mid.log + 1) mid.kept) r =
+        subst (λ (n : ℕ). IsRevisionTold old.selection.resource n (of_revision n mid.kept) r) (omega arith) (told 0 r refl) in
         let own : of_revision (end_of mid.log + 1) mid.kept ≡ of_revision (end_of mid.log + 1) (old.kept ++ t ∷ []) =
         ap (λ (l : List TransitionData). of_revision (end_of mid.log + 1) l) first.kept
         ∙ subst (λ (n : ℕ). of_revision n (of_revision t.rev old.kept ++ t ∷ []) ≡ of_revision n (old.kept ++ t ∷ [])) (sym number) (of_own old.kept t) in
-        let with_it : IsRevisionTold Pods (end_of mid.log + 1) (of_revision (end_of mid.log + 1) (old.kept ++ t ∷ [])) r =
-        subst (λ (l : List TransitionData). IsRevisionTold Pods (end_of mid.log + 1) l r) own here in
+        let with_it : IsRevisionTold old.selection.resource (end_of mid.log + 1) (of_revision (end_of mid.log + 1) (old.kept ++ t ∷ [])) r =
+        subst (λ (l : List TransitionData). IsRevisionTold old.selection.resource (end_of mid.log + 1) l r) own here in
         record {
           more = first.grows.more ++ r ∷ [];
           log_is = is ∙ ap (λ (l : Log). grown l (r ∷ [])) first.grows.log_is
               ∙ ap (λ (revisions : List RevisionData). let l : Log = record old.log { revisions = revisions } in l) (append_assoc old.log.revisions first.grows.more (r ∷ []));
-          told_by = fit_push (λ at revision. IsRevisionTold Pods at (of_revision at (old.kept ++ t ∷ [])) revision) (end_of old.log) first.grows.more r
-              (told_before old.kept t (end_of old.log) first.grows.more first.grows.told_by (omega (arith, end, first.reached, above)))
-              (subst (λ (n : ℕ). IsRevisionTold Pods n (of_revision n (old.kept ++ t ∷ [])) r) (omega (arith, end)) with_it);
+          told_by = fit_push (λ at revision. IsRevisionTold old.selection.resource at (of_revision at (old.kept ++ t ∷ [])) revision) (end_of old.log) first.grows.more r
+              (told_before old.selection.resource old.kept t (end_of old.log) first.grows.more first.grows.told_by (omega (arith, end, first.reached, above)))
+              (subst (λ (n : ℕ). IsRevisionTold old.selection.resource n (of_revision n (old.kept ++ t ∷ [])) r) (omega (arith, end)) with_it);
         }
     grows_on (r ∷ s ∷ more) log is told within =
         absurd (omega (arith, ap end_of is, length-append mid.log.revisions (r ∷ s ∷ more), within, first.reached, above))
 
     grows_both : (log : Log) → Grows mid log → end_of log ≤ t.rev → GrowsWith old t log
-    grows_both log grows within = grows_on grows.more log grows.log_is grows.told_by within
+    grows_both log grows within =
+        grows_on grows.more log grows.log_is (subst (λ (s : Selection). AreToldBy s.resource mid.kept (end_of mid.log) grows.more) first.selection grows.told_by) within
 
     some_both : (new : MirrorLogData) → TakesSome mid (Bookmark t.rev) new → TakesSomeAlone old t new
     some_both new second = record {

@@ -13,6 +13,7 @@ use Rattle.std.proofs.lemmas.Slice.Eq.{bytes_eq-Decides}
 use Rattle.kube_meta.specs.Resources.{same_resource}
 use Rattle.kube_meta.specs.Rows.{RowData, key_of, row_with, AreRising}
 use Rattle.kube_meta.proofs.RowLemmas.{rising, are_rising, rising_kept}
+use Rattle.kube_meta.specs.declared.resources.Resource.{Resource}
 use Rattle.rev_log.specs.Changes.{ChangeData, same_object, AreOfDistinctObjects}
 use Rattle.rev_log.specs.Laws.{row_of}
 use Rattle.select_all.proofs.ListingLaws.{before_self}
@@ -83,47 +84,47 @@ first_missing x rows key none = elim (cases_Bool (bytes_eq key (key_of x))) [
     there : ◌≡◌ {A = Option RowData} (Some x) None → ⊥
     there e = cc
 
-above_puts : (from : ℕ) (x : RowData) (rows : List RowData) → AllByRecursion (λ k. slice_cmp nat_cmp (key_of x) k ≡ Less) (map key_of rows) → AllByRecursion (λ b. same_object (put_of x) b ≡ false) (puts from rows)
-above_puts from x [] less = tt
-above_puts from x (y ∷ rows) less = elim (cases_Bool (ltb from y.rev)) [
-  | inl young ↦ rw young (two (put_of x) (put_of y) (text_apart (key_of x) (key_of y) less.0), above_puts from x rows less.1)
-  | inr old ↦ rw old (above_puts from x rows less.1)
+above_puts : (resource : Resource) (from : ℕ) (x : RowData) (rows : List RowData) → AllByRecursion (λ k. slice_cmp nat_cmp (key_of x) k ≡ Less) (map key_of rows) → AllByRecursion (λ b. same_object (put_of resource x) b ≡ false) (puts resource from rows)
+above_puts resource from x [] less = tt
+above_puts resource from x (y ∷ rows) less = elim (cases_Bool (ltb from y.rev)) [
+  | inl young ↦ rw young (two (put_of resource x) (put_of resource y) (text_apart (key_of x) (key_of y) less.0), above_puts resource from x rows less.1)
+  | inr old ↦ rw old (above_puts resource from x rows less.1)
 ]
 
-apart_removed : (x : RowData) (rows : List RowData) (removed : List ChangeData) → AllByRecursion (λ c. row_with (x ∷ rows) c.key ≡ None) removed → AllByRecursion (λ b. same_object (put_of x) b ≡ false) removed
-apart_removed x rows [] missing = tt
-apart_removed x rows (c ∷ removed) missing = (two (put_of x) c (turn (key_of x) c.key ∙ (first_missing x rows c.key missing.0).0), apart_removed x rows removed missing.1)
+apart_removed : (resource : Resource) (x : RowData) (rows : List RowData) (removed : List ChangeData) → AllByRecursion (λ c. row_with (x ∷ rows) c.key ≡ None) removed → AllByRecursion (λ b. same_object (put_of resource x) b ≡ false) removed
+apart_removed resource x rows [] missing = tt
+apart_removed resource x rows (c ∷ removed) missing = (two (put_of resource x) c (turn (key_of x) c.key ∙ (first_missing x rows c.key missing.0).0), apart_removed resource x rows removed missing.1)
 
-pub distinct_all : (from : ℕ) (rows : List RowData) (removed : List ChangeData) → AreRising rows → AreOfDistinctObjects removed → AllByRecursion (λ c. row_with rows c.key ≡ None) removed → AreOfDistinctObjects (puts from rows ++ removed)
+pub distinct_all : (resource : Resource) (from : ℕ) (rows : List RowData) (removed : List ChangeData) → AreRising rows → AreOfDistinctObjects removed → AllByRecursion (λ c. row_with rows c.key ≡ None) removed → AreOfDistinctObjects (puts resource from rows ++ removed)
 unfolding IsStrictlySortedBy
-distinct_all from [] removed up distinct missing = distinct
-distinct_all from (x ∷ rows) removed up distinct missing =
-    let rest = distinct_all from rows removed up.1 distinct (each (λ c. row_with (x ∷ rows) c.key ≡ None) (λ c. row_with rows c.key ≡ None) (λ c none. (first_missing x rows c.key none).1) removed missing) in
+distinct_all resource from [] removed up distinct missing = distinct
+distinct_all resource from (x ∷ rows) removed up distinct missing =
+    let rest = distinct_all resource from rows removed up.1 distinct (each (λ c. row_with (x ∷ rows) c.key ≡ None) (λ c. row_with rows c.key ≡ None) (λ c none. (first_missing x rows c.key none).1) removed missing) in
     elim (cases_Bool (ltb from x.rev)) [
-      | inl young ↦ rw young (AllPairs-cons (λ a b. same_object a b ≡ false) (put_of x) (puts from rows ++ removed)
-          (All-from_recursion (λ b. same_object (put_of x) b ≡ false) (puts from rows ++ removed)
-          (both_parts (λ b. same_object (put_of x) b ≡ false) (puts from rows) removed (above_puts from x rows up.0) (apart_removed x rows removed missing))) rest)
+      | inl young ↦ rw young (AllPairs-cons (λ a b. same_object a b ≡ false) (put_of resource x) (puts resource from rows ++ removed)
+          (All-from_recursion (λ b. same_object (put_of resource x) b ≡ false) (puts resource from rows ++ removed)
+          (both_parts (λ b. same_object (put_of resource x) b ≡ false) (puts resource from rows) removed (above_puts resource from x rows up.0) (apart_removed resource x rows removed missing))) rest)
       | inr old ↦ rw old rest
     ]
 
 -- ---- each change aims at what stands then
 
-module _ (key : List ℕ) (rows : List RowData) where
-  aim_put : (x : RowData) → row_with rows (key_of x) ≡ Some x → Aims key (row_with rows key) (put_of x)
-  aim_put x at = record { pod = refl; leaves = λ is. sym at ∙ ap (row_with rows) ((bytes_eq-Decides (key_of x) key).0 is) }
+module _ (resource : Resource) (key : List ℕ) (rows : List RowData) where
+  aim_put : (x : RowData) → row_with rows (key_of x) ≡ Some x → Aims resource key (row_with rows key) (put_of resource x)
+  aim_put x at = record { alone = refl; leaves = λ is. sym at ∙ ap (row_with rows) ((bytes_eq-Decides (key_of x) key).0 is) }
 
-  pub aim_puts : (from : ℕ) (others : List RowData) → AllByRecursion (λ row. row_with rows (key_of row) ≡ Some row) others → AllByRecursion (Aims key (row_with rows key)) (puts from others)
+  pub aim_puts : (from : ℕ) (others : List RowData) → AllByRecursion (λ row. row_with rows (key_of row) ≡ Some row) others → AllByRecursion (Aims resource key (row_with rows key)) (puts resource from others)
   aim_puts from [] at = tt
   aim_puts from (x ∷ others) at = elim (cases_Bool (ltb from x.rev)) [
     | inl young ↦ rw young (aim_put x at.0, aim_puts from others at.1)
     | inr old ↦ rw old (aim_puts from others at.1)
   ]
 
-  pub aim_removed : (from n : ℕ) (removed : List ChangeData) → AllByRecursion (IsRemoval from n) removed → AllByRecursion (λ c. row_with rows c.key ≡ None) removed → AllByRecursion (Aims key (row_with rows key)) removed
+  pub aim_removed : (from n : ℕ) (removed : List ChangeData) → AllByRecursion (IsRemoval resource from n) removed → AllByRecursion (λ c. row_with rows c.key ≡ None) removed → AllByRecursion (Aims resource key (row_with rows key)) removed
   aim_removed from n [] removals missing = tt
   aim_removed from n (c ∷ removed) removals missing = (
     record {
-      pod = removals.0.pod;
+      alone = removals.0.alone;
       leaves = λ is. leaves_none c removals.0.none ∙ sym (missing.0) ∙ ap (row_with rows) ((bytes_eq-Decides c.key key).0 is);
     },
     aim_removed from n removed removals.1 missing.1,
@@ -137,23 +138,23 @@ module _ (key : List ℕ) (rows : List RowData) where
 same_some : {x y : RowData} → Some x ≡ Some y → x ≡ y
 same_some e = cc
 
-kept_row : (from : ℕ) (old : List RowData) (key : List ℕ) (row : RowData) (others : List RowData) → AllByRecursion (λ x. x.rev ≤ from → IsKept old x) others → list_any (is_of key) (puts from others) ≡ false
+kept_row : (resource : Resource) (from : ℕ) (old : List RowData) (key : List ℕ) (row : RowData) (others : List RowData) → AllByRecursion (λ x. x.rev ≤ from → IsKept old x) others → list_any (is_of key) (puts resource from others) ≡ false
     → row_with others key ≡ Some row → row_with old key ≡ Some row
-kept_row from old key row [] kept none at = absurd (nothing at)
+kept_row resource from old key row [] kept none at = absurd (nothing at)
   where
     nothing : ◌≡◌ {A = Option RowData} None (Some row) → ⊥
     nothing e = cc
-kept_row from old key row (x ∷ others) kept none at = elim (cases_Bool (ltb from x.rev)) [
+kept_row resource from old key row (x ∷ others) kept none at = elim (cases_Bool (ltb from x.rev)) [
   | inl young ↦
-      let two_parts : (is_of key (put_of x) ≡ false) × (list_any (is_of key) (puts from others) ≡ false) = or_parts (is_of key (put_of x)) (list_any (is_of key) (puts from others)) (rw young at none) in
+      let two_parts : (is_of key (put_of resource x) ≡ false) × (list_any (is_of key) (puts resource from others) ≡ false) = or_parts (is_of key (put_of resource x)) (list_any (is_of key) (puts resource from others)) (rw young at none) in
       let isnt : bytes_eq key (key_of x) ≡ false = turn key (key_of x) ∙ two_parts.0 in
-      kept_row from old key row others kept.1 two_parts.1 (rw isnt at at)
+      kept_row resource from old key row others kept.1 two_parts.1 (rw isnt at at)
   | inr older ↦ elim (cases_Bool (bytes_eq key (key_of x))) [
     | inl is ↦
         let same : x ≡ row = same_some (rw is at at) in
         let stands : row_with old (key_of x) ≡ Some x = kept.0 (ltb-false from x.rev older) in
         ap (row_with old) ((bytes_eq-Decides key (key_of x)).0 is) ∙ stands ∙ ap Some same
-    | inr isnt ↦ kept_row from old key row others kept.1 (rw older at none) (rw isnt at at)
+    | inr isnt ↦ kept_row resource from old key row others kept.1 (rw older at none) (rw isnt at at)
   ]
 ]
 
@@ -179,24 +180,24 @@ gone_row rows key (x ∷ old) lacks none = elim (cases_Bool (bytes_eq key (key_o
         by None e = (or_parts (bytes_eq (key_of x) key) (list_any (λ k. bytes_eq k key) (map key_of (gone old rows))) (rw e at h)).1
         by (Some y) e = rw e at h
 
-pub unchanged : (from : ℕ) (old rows : List RowData) (removed : List ChangeData) (key : List ℕ) → AllByRecursion (λ x. x.rev ≤ from → IsKept old x) rows → map (λ c. c.key) removed ≡ map key_of (gone old rows)
-    → list_any (is_of key) (puts from rows ++ removed) ≡ false → row_with old key ≡ row_with rows key
-unchanged from old rows removed key kept keys lacks = by (row_with rows key) refl
+pub unchanged : (resource : Resource) (from : ℕ) (old rows : List RowData) (removed : List ChangeData) (key : List ℕ) → AllByRecursion (λ x. x.rev ≤ from → IsKept old x) rows → map (λ c. c.key) removed ≡ map key_of (gone old rows)
+    → list_any (is_of key) (puts resource from rows ++ removed) ≡ false → row_with old key ≡ row_with rows key
+unchanged resource from old rows removed key kept keys lacks = by (row_with rows key) refl
   where
-    parts : (list_any (is_of key) (puts from rows) ≡ false) × (list_any (is_of key) removed ≡ false)
-    parts = or_parts (list_any (is_of key) (puts from rows)) (list_any (is_of key) removed) (sym (list_any-append (is_of key) (puts from rows) removed) ∙ lacks)
+    parts : (list_any (is_of key) (puts resource from rows) ≡ false) × (list_any (is_of key) removed ≡ false)
+    parts = or_parts (list_any (is_of key) (puts resource from rows)) (list_any (is_of key) removed) (sym (list_any-append (is_of key) (puts resource from rows) removed) ∙ lacks)
 
     by : (o : Option RowData) → row_with rows key ≡ o → row_with old key ≡ o
     by None e = gone_row rows key old (ap (list_any (λ k. bytes_eq k key)) (sym keys) ∙ any_keys key removed ∙ parts.1) e
-    by (Some row) e = kept_row from old key row rows kept parts.0 e
+    by (Some row) e = kept_row resource from old key row rows kept parts.0 e
 
 -- ---- all changes are of the revisions between
 
-pub put_bounds : (from to : ℕ) (rows : List RowData) → AllByRecursion (λ row. row.rev ≤ to) rows → AllByRecursion (λ c. (from < c.rev) × (c.rev ≤ to)) (puts from rows)
-put_bounds from to [] within = tt
-put_bounds from to (x ∷ rows) within = elim (cases_Bool (ltb from x.rev)) [
-  | inl young ↦ rw young ((ltb-true from x.rev young, within.0), put_bounds from to rows within.1)
-  | inr old ↦ rw old (put_bounds from to rows within.1)
+pub put_bounds : (resource : Resource) (from to : ℕ) (rows : List RowData) → AllByRecursion (λ row. row.rev ≤ to) rows → AllByRecursion (λ c. (from < c.rev) × (c.rev ≤ to)) (puts resource from rows)
+put_bounds resource from to [] within = tt
+put_bounds resource from to (x ∷ rows) within = elim (cases_Bool (ltb from x.rev)) [
+  | inl young ↦ rw young ((ltb-true from x.rev young, within.0), put_bounds resource from to rows within.1)
+  | inr old ↦ rw old (put_bounds resource from to rows within.1)
 ]
 
 pub some_within : (key : List ℕ) (low high : ℕ) (given : List ChangeData) → AllByRecursion (λ c. (low < c.rev) × (c.rev ≤ high)) given → list_any (is_of key) given ≡ true → IsWithin key low high given

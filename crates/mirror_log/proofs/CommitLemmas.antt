@@ -1,11 +1,11 @@
 -- All revisions up to one are committed in one section.
 use Rattle.std.proofs.Common.{◌≡◌, ℕ, zero, suc, ◌+◌, ◌-◌, ◌^◌, ◌<◌, ◌≤◌, Bool, List, [], ◌∷◌, ◌++◌, length, Err, All, refl, sym, ap, ◌∙◌, subst, append_assoc, arith, length-append}
 use Rattle.std.proofs.lemmas.List.{append-nil}
-use Rattle.kube_meta.specs.declared.resources.Resource.TheVariants.{Pods}
 use Rattle.kube_meta.specs.Rows.{RowData}
 use Rattle.rev_front.specs.Passes.{Pass, IsPass, Extends, quiets}
 use Rattle.rev_log.specs.Changes.{RevisionData}
 use Rattle.rev_log.specs.Logs.{Log, IsLog, Fits, end_of, grown, quiet_at}
+use Rattle.select_all.specs.declared.selection.Selection.{Selection}
 use Rattle.up_api.specs.Sections.{log_upto}
 use Rattle.up_store.specs.Hearing.{AreHeard, IsFollowReply, filled}
 use Rattle.up_store.specs.declared.hearing.HearNo.{HearNo}
@@ -33,7 +33,7 @@ quiet_logs (suc n) log is within =
     (quiet_logs n (grown log (quiet ∷ [])) (logs_go_on log quiet is (quiet-fits (end_of log + 1)).1 refl (omega (arith, within))) (omega (arith, end, within)))
 
 module _ (base : List RowData) (mirror : Bool) (p q : Pass RevisionData) (i : IntakeData) (pass : IsPass Fits p) (on : Extends p q) (holds : Holds base mirror p i)
-    (old : MirrorLogData) (is : view base p i ≡ old) (upto : ℕ) (above : end_of old.log < upto) (revision : RevisionData) (told : IsRevisionTold Pods (i.to + 1) i.kept revision) where
+    (old : MirrorLogData) (is : view base p i ≡ old) (upto : ℕ) (above : end_of old.log < upto) (revision : RevisionData) (told : IsRevisionTold i.selection.resource (i.to + 1) i.kept revision) where
   to_is : i.to ≡ end_of old.log
   to_is = holds.at.end ∙ ap (λ (m : MirrorLogData). end_of m.log) is
 
@@ -83,7 +83,7 @@ module _ (base : List RowData) (mirror : Bool) (p q : Pass RevisionData) (i : In
         ap (λ (n : ℕ). grown here (revision ∷ quiets quiet_at n count)) end
         ∙ ap (λ (l : List RevisionData). record here { revisions = l }) (sym (append_assoc here.revisions (revision ∷ []) (quiets quiet_at (end_of (grown here (revision ∷ []))) count)))
 
-    pub holds_past : upto ≤ 2 ^ 62 → IsAtEnd j (grown here (revision ∷ quiets quiet_at (i.to + 1) count)) → Holds base mirror q j
+    pub holds_past : upto ≤ 2 ^ 62 → IsAtEnd i.selection.resource j (grown here (revision ∷ quiets quiet_at (i.to + 1) count)) → Holds base mirror q j
     holds_past last at =
         let one : IsLog (grown here (revision ∷ [])) = logs_go_on here revision holds.log told.is (told.number ∙ ap (λ (n : ℕ). n + 1) holds.at.end) (omega (arith, holds.at.end, to_is, above, last)) in
         let end : end_of (grown here (revision ∷ [])) ≡ end_of here + 1 = omega (arith, length-append here.revisions (revision ∷ [])) in
@@ -95,7 +95,7 @@ module _ (base : List RowData) (mirror : Bool) (p q : Pass RevisionData) (i : In
           seen = omega (arith, cleared.to_is, long, added_to base p q (filled i.to (revision ∷ []) upto) i.to heard.before pass on holds.seen heard.shown (sym heard.follow) heard.committed);
           log = subst IsLog (sym (next_log ∙ in_two)) log;
           lawful = clear i j upto holds.lawful cleared last;
-          at = subst (IsAtEnd j) (sym next_log) at;
+          at = subst (λ (s : Selection). IsAtEnd s.resource j (log_upto base q j.to)) (sym cleared.selection) (subst (IsAtEnd i.selection.resource j) (sym next_log) at);
         }
 
     pub moves_past : Moves old (view base q j)

@@ -3,6 +3,7 @@ use Rattle.std.proofs.Common.{◌≡◌, ℕ, zero, suc, ◌+◌, ◌*◌, ◌<�
 use Rattle.std.specs.List.{AllByRecursion}
 use Rattle.std.proofs.lemmas.Bool.{cases_Bool, cases_lt, cases_eq, le-leb, lt-leb, lt-ltb, eq-eqb, ne_eqb}
 use Rattle.kube_meta.specs.Rows.{RowData}
+use Rattle.kube_meta.specs.declared.resources.Resource.{Resource}
 use Rattle.rev_log.specs.Changes.{ChangeData}
 use Rattle.mirror_log.specs.Bridges.{written_at}
 use Rattle.mirror_log.specs.Slots.{of_rev, puts}
@@ -85,18 +86,18 @@ few from n changes each above within =
 -- ---- rows
 
 -- of a revision as many rows are put as were written at it
-pub count_puts : (from rev : ℕ) (rows : List RowData) → from < rev → length (of_rev rev (puts from rows)) ≡ length (written_at rev rows)
-count_puts from rev [] above = refl
-count_puts from rev (row ∷ rows) above = elim (cases_eq row.rev rev) [
+pub count_puts : (resource : Resource) (from rev : ℕ) (rows : List RowData) → from < rev → length (of_rev rev (puts resource from rows)) ≡ length (written_at rev rows)
+count_puts resource from rev [] above = refl
+count_puts resource from rev (row ∷ rows) above = elim (cases_eq row.rev rev) [
   | inl at ↦
       let is : eqb row.rev rev ≡ true = eq-eqb row.rev rev at in
       let young : ltb from row.rev ≡ true = lt-ltb from row.rev (omega (arith, above, at)) in
-      rw (young, is) (ap suc (count_puts from rev rows above))
+      rw (young, is) (ap suc (count_puts resource from rev rows above))
   | inr other ↦
       let isnt : eqb row.rev rev ≡ false = ne_eqb row.rev rev other in
       elim (cases_Bool (ltb from row.rev)) [
-        | inl young ↦ rw (young, isnt) (count_puts from rev rows above)
-        | inr old ↦ rw (old, isnt) (count_puts from rev rows above)
+        | inl young ↦ rw (young, isnt) (count_puts resource from rev rows above)
+        | inr old ↦ rw (old, isnt) (count_puts resource from rev rows above)
       ]
 ]
 

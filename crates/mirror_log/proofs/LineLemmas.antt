@@ -4,12 +4,12 @@ use Rattle.std.specs.List.{AllByRecursion}
 use Rattle.std.proofs.Math.Seq.{take-nil}
 use Rattle.std.proofs.lemmas.Bool.{cases_Bool}
 use Rattle.std.proofs.lemmas.List.Elements.{All-nil, recursion_from_All}
-use Rattle.kube_meta.specs.declared.resources.Resource.TheVariants.{Pods}
 use Rattle.kube_meta.specs.Rows.{RowData, AreRising}
 use Rattle.rev_front.specs.Passes.{Pass, Whole, empty_log, pass_from}
 use Rattle.rev_log.specs.Changes.{RevisionData, IsRevision}
 use Rattle.rev_log.specs.Logs.{Log, IsLog, end_of}
 use Rattle.rev_log.specs.States.{row_at}
+use Rattle.select_all.specs.declared.selection.Selection.{Selection}
 use Rattle.select_all.specs.Streams.{TransitionData}
 use Rattle.up_api.specs.Sections.{log_upto}
 use Rattle.watch_rules.specs.Bodies.{Told}
@@ -30,7 +30,7 @@ next_of base mirror p i old holds is =
     subst (λ (m : MirrorLogData). All (λ t. t.rev ≡ end_of m.log + 1) m.kept) is (subst (λ (n : ℕ). All (λ t. t.rev ≡ n + 1) i.kept) holds.at.end holds.lawful.next)
 
 pub event_good : (base : List RowData) (mirror : Bool) (p : Pass RevisionData) (i : IntakeData) (old : MirrorLogData) (t : TransitionData) → Holds base mirror p i → view base p i ≡ old
-    → event_fault i.selection i.most_gap (log_upto base p i.to) i.kept t ≡ None → (event_fault old.selection old.most_gap old.log old.kept t ≡ None) × IsGood old.log old.kept t
+    → event_fault i.selection i.most_gap (log_upto base p i.to) i.kept t ≡ None → (event_fault old.selection old.most_gap old.log old.kept t ≡ None) × IsGood old.selection.resource old.log old.kept t
 event_good base mirror p i old t holds is none =
     let here : event_fault old.selection old.most_gap old.log old.kept t ≡ None = ap (λ (m : MirrorLogData). event_fault m.selection m.most_gap m.log m.kept t) (sym is) ∙ none in
     (here, good old.selection old.most_gap old.log old.kept t here)
@@ -65,7 +65,7 @@ same_repeats rev key (t ∷ kept) = elim (cases_Bool (eqb t.rev rev)) [
 ]
 
 module _ (base : List RowData) (mirror : Bool) (q : Pass RevisionData) (old mid : MirrorLogData) (i : IntakeData) (t : TransitionData)
-    (next : All (λ u. u.rev ≡ end_of old.log + 1) old.kept) (fine : IsGood old.log old.kept t) (moves : Moves old mid) (end : end_of mid.log ≡ t.rev - 1)
+    (next : All (λ u. u.rev ≡ end_of old.log + 1) old.kept) (fine : IsGood old.selection.resource old.log old.kept t) (moves : Moves old mid) (end : end_of mid.log ≡ t.rev - 1)
     (holds : Holds base mirror q i) (is : view base q i ≡ mid) where
   pub number : t.rev ≡ i.to + 1
   number = omega (arith, fine.above, end, ap (λ (m : MirrorLogData). end_of m.log) is, holds.at.end)
@@ -79,12 +79,13 @@ module _ (base : List RowData) (mirror : Bool) (q : Pass RevisionData) (old mid 
   pub new_key : is_repeated i.kept t.rev t.obj.key ≡ false
   new_key = ap (λ (l : List TransitionData). is_repeated l t.rev t.obj.key) own ∙ same_repeats t.rev t.obj.key old.kept ∙ fine.new
 
-  fits : fits_kind t.kind (is_some (row_at (log_upto base q i.to) Pods (end_of (log_upto base q i.to)) t.obj.key)) ≡ true
+  fits : fits_kind t.kind (is_some (row_at (log_upto base q i.to) i.selection.resource (end_of (log_upto base q i.to)) t.obj.key)) ≡ true
   fits =
       let log : Log = log_upto base q i.to in
-      let here : is_some (row_at log Pods (end_of log) t.obj.key) ≡ is_some (row_before old.log Pods old.kept t.rev t.obj.key) =
+      let here : is_some (row_at log i.selection.resource (end_of log) t.obj.key) ≡ is_some (row_before old.log old.selection.resource old.kept t.rev t.obj.key) =
       stood_here i holds.lawful log holds.at t.obj.key t.rev (omega (arith, number))
-      ∙ ap (λ (m : MirrorLogData). is_some (row_before m.log Pods m.kept t.rev t.obj.key)) is
+      ∙ ap (λ (m : MirrorLogData). is_some (row_before m.log m.selection.resource m.kept t.rev t.obj.key)) is
+      ∙ ap (λ (s : Selection). is_some (row_before mid.log s.resource mid.kept t.rev t.obj.key)) moves.selection
       ∙ moves.stands t.rev t.obj.key (omega (arith, end, fine.above)) in
       ap (fits_kind t.kind) here ∙ fine.fits
 
@@ -92,14 +93,14 @@ module _ (base : List RowData) (mirror : Bool) (q : Pass RevisionData) (old mid 
     kept_log : log_upto base q j.to ≡ log_upto base q i.to
     kept_log = ap (log_upto base q) keeps.to
 
-    pub holds_kept : ((log : Log) → IsAtEnd i log → fits_kind t.kind (is_some (row_at log Pods (end_of log) t.obj.key)) ≡ true → IsAtEnd j log) → Holds base mirror q j
+    pub holds_kept : ((log : Log) → IsAtEnd i.selection.resource i log → fits_kind t.kind (is_some (row_at log i.selection.resource (end_of log) t.obj.key)) ≡ true → IsAtEnd i.selection.resource j log) → Holds base mirror q j
     holds_kept at = record {
       a_mirror = holds.a_mirror;
       begun = omega (arith, holds.begun, keeps.to);
       seen = omega (arith, holds.seen, keeps.to);
       log = subst IsLog (sym kept_log) holds.log;
       lawful = one_more i j t holds.lawful number few new_key keeps.most_gap keeps.to keeps.kept;
-      at = subst (IsAtEnd j) (sym kept_log) (at (log_upto base q i.to) holds.at fits);
+      at = subst (λ (s : Selection). IsAtEnd s.resource j (log_upto base q j.to)) (sym keeps.selection) (subst (IsAtEnd i.selection.resource j) (sym kept_log) (at (log_upto base q i.to) holds.at fits));
     }
 
     pub takes : Takes old (Told t) (view base q j)
@@ -123,7 +124,7 @@ none_kept old at (t ∷ kept) next last same = absurd (omega (arith, next.0, las
 
 pub opens : (base rows : List RowData) (mirror : Bool) (p : Pass RevisionData) (i : IntakeData) (first : ℕ) (w : Whole RevisionData)
     → base ≡ rows → mirror ≡ true → AreRising rows → All (λ row. row.rev ≤ first) rows → first ≤ 2 ^ 62 → p ≡ pass_from w p.seat → w ≡ empty_log first
-    → i.to ≡ first → IsIntake i → IsAtEnd i (opened_log first rows) → Holds base mirror p i
+    → i.to ≡ first → IsIntake i → IsAtEnd i.selection.resource i (opened_log first rows) → Holds base mirror p i
 opens base rows mirror p i first w same a_mirror rising old within pass none to lawful at =
     let begins : p.first ≡ first = ap (λ (r : Pass RevisionData). r.first) pass ∙ ap (λ (v : Whole RevisionData). v.first) none in
     let sees : p.seen ≡ [] = ap (λ (r : Pass RevisionData). r.seen) pass ∙ ap (λ (v : Whole RevisionData). v.log) none in
@@ -138,5 +139,5 @@ opens base rows mirror p i first w same a_mirror rising old within pass none to 
       seen = omega (arith, begins, to, ap (λ (l : List RevisionData). length l) sees);
       log = subst IsLog (sym log_is) (record { base_rising = rising; base_old = old; numbered = tt; revisions = All-nil IsRevision; ends = omega (arith, within) });
       lawful = lawful;
-      at = subst (IsAtEnd i) (sym log_is) at;
+      at = subst (IsAtEnd i.selection.resource i) (sym log_is) at;
     }

@@ -4,13 +4,13 @@ use Rattle.std.specs.List.{AllByRecursion, slice_get}
 use Rattle.std.proofs.lemmas.Bool.{cases_lt, eq-eqb, ne_eqb}
 use Rattle.std.proofs.lemmas.List.Elements.{recursion_from_All}
 use Rattle.std.proofs.lemmas.List.Sorted.{IsPermutation-refl}
-use Rattle.kube_meta.specs.declared.resources.Resource.TheVariants.{Pods}
 use Rattle.kube_meta.specs.Rows.{RowData}
 use Rattle.rev_front.specs.Passes.{quiets}
 use Rattle.rev_front.proofs.Beginnings.{fit_push}
 use Rattle.rev_log.specs.Changes.{RevisionData}
 use Rattle.rev_log.specs.Logs.{Log, end_of, grown, quiet_at}
 use Rattle.rev_log.specs.States.{row_at}
+use Rattle.select_all.specs.declared.selection.Selection.{Selection}
 use Rattle.select_all.specs.Streams.{TransitionData}
 use Rattle.up_store.proofs.ChangedLemmas.{quiet-fits}
 use Rattle.mirror_law.specs.Mirrors.{IsRevisionTold, of_revision}
@@ -58,9 +58,10 @@ module _ (a b c : MirrorLogData) (next : All (λ t. t.rev ≡ end_of a.log + 1) 
     more = before.grows.more ++ step.revision ∷ [];
     log_is = step.log_is ∙ ap (λ (log : Log). grown log (step.revision ∷ [])) before.grows.log_is
         ∙ ap (λ (revisions : List RevisionData). let log : Log = record a.log { revisions = revisions } in log) (append_assoc a.log.revisions before.grows.more (step.revision ∷ []));
-    told_by = fit_push (λ at revision. IsRevisionTold Pods at (of_revision at a.kept) revision) (end_of a.log) before.grows.more step.revision before.grows.told_by
-        (subst (λ (n : ℕ). IsRevisionTold Pods n (of_revision n a.kept) step.revision) (omega (arith, upto_b))
-        (subst (λ (kept : List TransitionData). IsRevisionTold Pods (end_of b.log + 1) kept step.revision) (sym own) step.told_by));
+    told_by = fit_push (λ at revision. IsRevisionTold a.selection.resource at (of_revision at a.kept) revision) (end_of a.log) before.grows.more step.revision before.grows.told_by
+        (subst (λ (n : ℕ). IsRevisionTold a.selection.resource n (of_revision n a.kept) step.revision) (omega (arith, upto_b))
+        (subst (λ (kept : List TransitionData). IsRevisionTold a.selection.resource (end_of b.log + 1) kept step.revision) (sym own)
+        (subst (λ (s : Selection). IsRevisionTold s.resource (end_of b.log + 1) b.kept step.revision) before.selection step.told_by)));
   }
 
   -- one step more
@@ -70,7 +71,9 @@ module _ (a b c : MirrorLogData) (next : All (λ t. t.rev ≡ end_of a.log + 1) 
     most_gap = step.most_gap ∙ before.most_gap;
     grows = grows;
     kept = step.kept ∙ sym (rw (ne_eqb (end_of c.log) (end_of a.log) (λ same. absurd (omega (arith, same, upto_c, upto_b)))) refl);
-    stands = λ rev key above. step.stands rev key above ∙ before.stands rev key (omega (arith, above, upto_c));
+    stands = λ rev key above.
+        subst (λ (s : Selection). is_some (row_before c.log s.resource c.kept rev key) ≡ is_some (row_before b.log s.resource b.kept rev key)) before.selection (step.stands rev key above)
+        ∙ before.stands rev key (omega (arith, above, upto_c));
   }
 
 -- ---- where nothing was told
@@ -98,17 +101,17 @@ quiet_step b none = record {
   selection = refl;
   most_gap = refl;
   revision = quiet_at (end_of b.log + 1);
-  told_by = subst (λ (l : List TransitionData). IsRevisionTold Pods (end_of b.log + 1) l (quiet_at (end_of b.log + 1))) (sym none)
+  told_by = subst (λ (l : List TransitionData). IsRevisionTold b.selection.resource (end_of b.log + 1) l (quiet_at (end_of b.log + 1))) (sym none)
       (record { number = refl; is = (quiet-fits (end_of b.log + 1)).1; changes = IsPermutation-refl [] });
   log_is = refl;
   kept = none;
   stands = λ rev key above.
       let next : Log = grown b.log (quiet_at (end_of b.log + 1) ∷ []) in
       let end : end_of next ≡ end_of b.log + 1 = omega (arith, length-append b.log.revisions (quiet_at (end_of b.log + 1) ∷ [])) in
-      ap (λ (l : List TransitionData). is_some (row_before next Pods l rev key)) none
-      ∙ ap (λ (n : ℕ). is_some (row_at next Pods n key)) end
-      ∙ ap (λ (r : Option RowData). is_some r) (quiet_row b.log key 1)
-      ∙ ap (λ (l : List TransitionData). is_some (row_before b.log Pods l rev key)) (sym none);
+      ap (λ (l : List TransitionData). is_some (row_before next b.selection.resource l rev key)) none
+      ∙ ap (λ (n : ℕ). is_some (row_at next b.selection.resource n key)) end
+      ∙ ap (λ (r : Option RowData). is_some r) (quiet_row b.selection.resource b.log key 1)
+      ∙ ap (λ (l : List TransitionData). is_some (row_before b.log b.selection.resource l rev key)) (sym none);
 }
 
 -- and so many of them

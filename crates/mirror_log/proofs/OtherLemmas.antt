@@ -3,7 +3,6 @@ use Rattle.std.proofs.Common.{◌≡◌, ℕ, zero, suc, ◌+◌, ◌<◌, ◌�
 use Rattle.std.proofs.lemmas.List.{take_more}
 use Rattle.std.proofs.lemmas.List.Elements.{All-push}
 use Rattle.kube_meta.specs.Rows.{RowData, key_of}
-use Rattle.kube_meta.specs.declared.resources.Resource.TheVariants.{Pods}
 use Rattle.rev_log.specs.Logs.{end_of}
 use Rattle.rev_log.specs.States.{IsStateAt}
 use Rattle.mirror_log.specs.Bridges.{AreKept, IsFirstOther, IsKept}
@@ -25,7 +24,7 @@ first_is from old rows k row inside is before written differs =
     record { before = take k rows; behind = drop (suc k) rows; rows_are = parted rows k row inside is; same = before; written = written; differs = differs }
 
 -- so the rows differ from those of a log's end at its key
-pub found_other : (old : MirrorLogData) (rows state : List RowData) (to : ℕ) (row : RowData) (key : List ℕ) → IsStateAt old.log Pods (end_of old.log) state → to ≡ end_of old.log → IsFirstOther to state rows row → key ≡ key_of row
+pub found_other : (old : MirrorLogData) (rows state : List RowData) (to : ℕ) (row : RowData) (key : List ℕ) → IsStateAt old.log old.selection.resource (end_of old.log) state → to ≡ end_of old.log → IsFirstOther to state rows row → key ≡ key_of row
     → IsDifferentAt old rows key
 found_other old rows state to row key is_state end first key_is =
     record { state = state; is_state = is_state; row = row; first = subst (λ (n : ℕ). IsFirstOther n state rows row) end first; key_is = key_is }

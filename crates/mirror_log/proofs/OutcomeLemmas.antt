@@ -5,7 +5,8 @@ use Rattle.std.specs.List.Sorted.{IsPermutation}
 use Rattle.std.proofs.lemmas.Bool.{cases_Bool, eqb-true, eq-eqb, true≢false, or_parts}
 use Rattle.std.proofs.lemmas.List.Elements.{All-from_recursion, recursion_from_All}
 use Rattle.std.proofs.lemmas.List.Sorted.{All-permutation, list_any-IsPermutation}
-use Rattle.kube_meta.specs.declared.resources.Resource.TheVariants.{Pods}
+use Rattle.kube_meta.specs.declared.resources.Resource.{Resource}
+use Rattle.kube_meta.specs.Resources.{place_of, same_resource}
 use Rattle.kube_meta.specs.Rows.{RowData}
 use Rattle.rev_front.specs.Passes.{FitFrom}
 use Rattle.rev_log.specs.Changes.{ChangeData, RevisionData, IsRevision}
@@ -17,47 +18,50 @@ use Rattle.mirror_log.specs.Slots.{of_rev}
 abbrev pub is_of : List ℕ → ChangeData → Bool
 is_of key c = bytes_eq c.key key
 
--- a change of pods that leaves this at the key, if it is one of it
-pub record Aims (key : List ℕ) (aim : Option RowData) (c : ChangeData) : Type 0 where
-  pub pod : c.resource ≡ Pods
+-- a change of the resource that leaves this at the key, if it is one of it
+pub record Aims (resource : Resource) (key : List ℕ) (aim : Option RowData) (c : ChangeData) : Type 0 where
+  pub alone : c.resource ≡ resource
   pub leaves : is_of key c ≡ true → row_of c ≡ aim
 
 -- the same, at a revision
-record AimsAt (key : List ℕ) (aim : Option RowData) (rev : ℕ) (c : ChangeData) : Type 0 where
-  is : Aims key aim c
+record AimsAt (resource : Resource) (key : List ℕ) (aim : Option RowData) (rev : ℕ) (c : ChangeData) : Type 0 where
+  is : Aims resource key aim c
   number : c.rev ≡ rev
 
 -- ---- one change
 
-module _ (key : List ℕ) (aim : Option RowData) (rev : ℕ) where
-  other : (row : Option RowData) (c : ChangeData) → AimsAt key aim rev c → is_of key c ≡ false → row_after Pods key rev row c ≡ row
-  other row c aims isnt = rw (aims.is.pod, isnt) refl
+module _ (resource : Resource) (key : List ℕ) (aim : Option RowData) (rev : ℕ) where
+  same : same_resource resource resource ≡ true
+  same = eq-eqb (place_of resource) (place_of resource) refl
 
-  this : (row : Option RowData) (c : ChangeData) → AimsAt key aim rev c → is_of key c ≡ true → row_after Pods key rev row c ≡ aim
-  this row c aims is = rw (aims.is.pod, is, ← aims.number) (aims.is.leaves is)
+  other : (row : Option RowData) (c : ChangeData) → AimsAt resource key aim rev c → is_of key c ≡ false → row_after resource key rev row c ≡ row
+  other row c aims isnt = rw (aims.is.alone, same, isnt) refl
+
+  this : (row : Option RowData) (c : ChangeData) → AimsAt resource key aim rev c → is_of key c ≡ true → row_after resource key rev row c ≡ aim
+  this row c aims is = rw (aims.is.alone, same, is, ← aims.number) (aims.is.leaves is)
 
   -- ---- changes
 
-  none : (row : Option RowData) (cs : List ChangeData) → AllByRecursion (AimsAt key aim rev) cs → list_any (is_of key) cs ≡ false → fold (row_after Pods key rev) row cs ≡ row
+  none : (row : Option RowData) (cs : List ChangeData) → AllByRecursion (AimsAt resource key aim rev) cs → list_any (is_of key) cs ≡ false → fold (row_after resource key rev) row cs ≡ row
   none row [] aims lacks = refl
   none row (c ∷ cs) aims lacks =
       let both = or_parts (is_of key c) (list_any (is_of key) cs) lacks in
-      ap (λ (r : Option RowData). fold (row_after Pods key rev) r cs) (other row c aims.0 both.0) ∙ none row cs aims.1 both.1
+      ap (λ (r : Option RowData). fold (row_after resource key rev) r cs) (other row c aims.0 both.0) ∙ none row cs aims.1 both.1
 
-  keep : (row : Option RowData) (cs : List ChangeData) → AllByRecursion (AimsAt key aim rev) cs → row ≡ aim → fold (row_after Pods key rev) row cs ≡ aim
+  keep : (row : Option RowData) (cs : List ChangeData) → AllByRecursion (AimsAt resource key aim rev) cs → row ≡ aim → fold (row_after resource key rev) row cs ≡ aim
   keep row [] aims at = at
   keep row (c ∷ cs) aims at = elim (cases_Bool (is_of key c)) [
-    | inl is ↦ keep (row_after Pods key rev row c) cs aims.1 (this row c aims.0 is)
-    | inr isnt ↦ keep (row_after Pods key rev row c) cs aims.1 (other row c aims.0 isnt ∙ at)
+    | inl is ↦ keep (row_after resource key rev row c) cs aims.1 (this row c aims.0 is)
+    | inr isnt ↦ keep (row_after resource key rev row c) cs aims.1 (other row c aims.0 isnt ∙ at)
   ]
 
-  hit : (row : Option RowData) (cs : List ChangeData) → AllByRecursion (AimsAt key aim rev) cs → list_any (is_of key) cs ≡ true → fold (row_after Pods key rev) row cs ≡ aim
+  hit : (row : Option RowData) (cs : List ChangeData) → AllByRecursion (AimsAt resource key aim rev) cs → list_any (is_of key) cs ≡ true → fold (row_after resource key rev) row cs ≡ aim
   hit row [] aims some = absurd (true≢false (sym some))
   hit row (c ∷ cs) aims some = elim (cases_Bool (is_of key c)) [
-    | inl is ↦ keep (row_after Pods key rev row c) cs aims.1 (this row c aims.0 is)
+    | inl is ↦ keep (row_after resource key rev row c) cs aims.1 (this row c aims.0 is)
     | inr isnt ↦
         let rest : list_any (is_of key) cs ≡ true = rw isnt at some in
-        hit (row_after Pods key rev row c) cs aims.1 rest
+        hit (row_after resource key rev row c) cs aims.1 rest
   ]
 
 -- ---- revisions
@@ -68,31 +72,31 @@ pub record IsMade (given : List ChangeData) (at : ℕ) (revision : RevisionData)
   pub is : IsRevision revision
   pub changes : IsPermutation (of_rev at given) revision.changes
 
-numbered : (key : List ℕ) (aim : Option RowData) (at : ℕ) (given : List ChangeData) → AllByRecursion (Aims key aim) given → AllByRecursion (AimsAt key aim at) (of_rev at given)
-numbered key aim at [] aims = tt
-numbered key aim at (c ∷ given) aims = elim (cases_Bool (eqb c.rev at)) [
-  | inl is ↦ rw is (record { is = aims.0; number = eqb-true c.rev at is }, numbered key aim at given aims.1)
-  | inr isnt ↦ rw isnt (numbered key aim at given aims.1)
+numbered : (resource : Resource) (key : List ℕ) (aim : Option RowData) (at : ℕ) (given : List ChangeData) → AllByRecursion (Aims resource key aim) given → AllByRecursion (AimsAt resource key aim at) (of_rev at given)
+numbered resource key aim at [] aims = tt
+numbered resource key aim at (c ∷ given) aims = elim (cases_Bool (eqb c.rev at)) [
+  | inl is ↦ rw is (record { is = aims.0; number = eqb-true c.rev at is }, numbered resource key aim at given aims.1)
+  | inr isnt ↦ rw isnt (numbered resource key aim at given aims.1)
 ]
 
-module _ (key : List ℕ) (aim : Option RowData) (given : List ChangeData) (aims : AllByRecursion (Aims key aim) given) where
-  of_made : (at : ℕ) (revision : RevisionData) → IsMade given at revision → AllByRecursion (AimsAt key aim revision.rev) revision.changes
+module _ (resource : Resource) (key : List ℕ) (aim : Option RowData) (given : List ChangeData) (aims : AllByRecursion (Aims resource key aim) given) where
+  of_made : (at : ℕ) (revision : RevisionData) → IsMade given at revision → AllByRecursion (AimsAt resource key aim revision.rev) revision.changes
   of_made at revision made =
-      let here = All-from_recursion (AimsAt key aim at) (of_rev at given) (numbered key aim at given aims) in
-      let there = All-permutation (AimsAt key aim at) (of_rev at given) revision.changes made.changes here in
-      subst (λ n. AllByRecursion (AimsAt key aim n) revision.changes) (sym made.number) (recursion_from_All (AimsAt key aim at) revision.changes there)
+      let here = All-from_recursion (AimsAt resource key aim at) (of_rev at given) (numbered resource key aim at given aims) in
+      let there = All-permutation (AimsAt resource key aim at) (of_rev at given) revision.changes made.changes here in
+      subst (λ n. AllByRecursion (AimsAt resource key aim n) revision.changes) (sym made.number) (recursion_from_All (AimsAt resource key aim at) revision.changes there)
 
   same_any : (at : ℕ) (revision : RevisionData) → IsMade given at revision → list_any (is_of key) revision.changes ≡ list_any (is_of key) (of_rev at given)
   same_any at revision made = sym (list_any-IsPermutation (is_of key) (of_rev at given) revision.changes made.changes)
 
-  next_none : (at : ℕ) (row : Option RowData) (revision : RevisionData) → IsMade given at revision → list_any (is_of key) (of_rev at given) ≡ false → row_next Pods key row revision ≡ row
-  next_none at row revision made lacks = none key aim revision.rev row revision.changes (of_made at revision made) (same_any at revision made ∙ lacks)
+  next_none : (at : ℕ) (row : Option RowData) (revision : RevisionData) → IsMade given at revision → list_any (is_of key) (of_rev at given) ≡ false → row_next resource key row revision ≡ row
+  next_none at row revision made lacks = none resource key aim revision.rev row revision.changes (of_made at revision made) (same_any at revision made ∙ lacks)
 
-  next_hit : (at : ℕ) (row : Option RowData) (revision : RevisionData) → IsMade given at revision → list_any (is_of key) (of_rev at given) ≡ true → row_next Pods key row revision ≡ aim
-  next_hit at row revision made some = hit key aim revision.rev row revision.changes (of_made at revision made) (same_any at revision made ∙ some)
+  next_hit : (at : ℕ) (row : Option RowData) (revision : RevisionData) → IsMade given at revision → list_any (is_of key) (of_rev at given) ≡ true → row_next resource key row revision ≡ aim
+  next_hit at row revision made some = hit resource key aim revision.rev row revision.changes (of_made at revision made) (same_any at revision made ∙ some)
 
-  next_keep : (at : ℕ) (row : Option RowData) (revision : RevisionData) → IsMade given at revision → row ≡ aim → row_next Pods key row revision ≡ aim
-  next_keep at row revision made is = keep key aim revision.rev row revision.changes (of_made at revision made) is
+  next_keep : (at : ℕ) (row : Option RowData) (revision : RevisionData) → IsMade given at revision → row ≡ aim → row_next resource key row revision ≡ aim
+  next_keep at row revision made is = keep resource key aim revision.rev row revision.changes (of_made at revision made) is
 
 pub rest : (given : List ChangeData) (from : ℕ) (revision : RevisionData) (more : List RevisionData) → FitFrom (IsMade given) from (revision ∷ more) → FitFrom (IsMade given) (from + 1) more
 rest given from revision more fit i found at = subst (λ n. IsMade given n found) (omega arith) (fit (suc i) found at)
@@ -137,28 +141,28 @@ none_left key low [] within = within
 none_left key low (c ∷ given) (inl here) = absurd (omega (arith, here.1, here.2))
 none_left key low (c ∷ given) (inr there) = none_left key low given there
 
-module _ (key : List ℕ) (aim : Option RowData) (given : List ChangeData) (aims : AllByRecursion (Aims key aim) given) where
+module _ (resource : Resource) (key : List ℕ) (aim : Option RowData) (given : List ChangeData) (aims : AllByRecursion (Aims resource key aim) given) where
   -- a key of which there is no change keeps its row
-  pub stays : (from : ℕ) (row : Option RowData) (revisions : List RevisionData) → FitFrom (IsMade given) from revisions → list_any (is_of key) given ≡ false → fold (row_next Pods key) row revisions ≡ row
+  pub stays : (from : ℕ) (row : Option RowData) (revisions : List RevisionData) → FitFrom (IsMade given) from revisions → list_any (is_of key) given ≡ false → fold (row_next resource key) row revisions ≡ row
   stays from row [] made lacks = refl
   stays from row (r ∷ revisions) made lacks =
-      ap (λ (o : Option RowData). fold (row_next Pods key) o revisions) (next_none key aim given aims (from + 1) row r (first given from r revisions made) (no_part key (from + 1) given lacks))
+      ap (λ (o : Option RowData). fold (row_next resource key) o revisions) (next_none resource key aim given aims (from + 1) row r (first given from r revisions made) (no_part key (from + 1) given lacks))
       ∙ stays (from + 1) row revisions (rest given from r revisions made) lacks
 
-  aimed : (from : ℕ) (row : Option RowData) (revisions : List RevisionData) → FitFrom (IsMade given) from revisions → row ≡ aim → fold (row_next Pods key) row revisions ≡ aim
+  aimed : (from : ℕ) (row : Option RowData) (revisions : List RevisionData) → FitFrom (IsMade given) from revisions → row ≡ aim → fold (row_next resource key) row revisions ≡ aim
   aimed from row [] made is = is
   aimed from row (r ∷ revisions) made is =
-      aimed (from + 1) (row_next Pods key row r) revisions (rest given from r revisions made) (next_keep key aim given aims (from + 1) row r (first given from r revisions made) is)
+      aimed (from + 1) (row_next resource key row r) revisions (rest given from r revisions made) (next_keep resource key aim given aims (from + 1) row r (first given from r revisions made) is)
 
   -- one of which there is one has the row that is aimed at
-  pub reached : (from : ℕ) (row : Option RowData) (revisions : List RevisionData) → FitFrom (IsMade given) from revisions → IsWithin key from (from + length revisions) given → fold (row_next Pods key) row revisions ≡ aim
+  pub reached : (from : ℕ) (row : Option RowData) (revisions : List RevisionData) → FitFrom (IsMade given) from revisions → IsWithin key from (from + length revisions) given → fold (row_next resource key) row revisions ≡ aim
   reached from row [] made within =
       let end : from + 0 ≡ from = omega arith in
       absurd (none_left key from given (subst (λ n. IsWithin key from n given) end within))
   reached from row (r ∷ revisions) made within = elim (cases_Bool (list_any (is_of key) (of_rev (from + 1) given))) [
-    | inl some ↦ aimed (from + 1) (row_next Pods key row r) revisions (rest given from r revisions made) (next_hit key aim given aims (from + 1) row r (first given from r revisions made) some)
+    | inl some ↦ aimed (from + 1) (row_next resource key row r) revisions (rest given from r revisions made) (next_hit resource key aim given aims (from + 1) row r (first given from r revisions made) some)
     | inr lacks ↦
         let end : from + length (r ∷ revisions) ≡ (from + 1) + length revisions = omega arith in
-        reached (from + 1) (row_next Pods key row r) revisions (rest given from r revisions made)
+        reached (from + 1) (row_next resource key row r) revisions (rest given from r revisions made)
         (subst (λ n. IsWithin key (from + 1) n given) end (not_yet key from (from + length (r ∷ revisions)) given within lacks))
   ]

@@ -4,12 +4,12 @@ use Rattle.std.specs.BTreeSet.{BTreeSet}
 use Rattle.std.specs.Prelude.{Bool, Result}
 use Rattle.std.proofs.lemmas.List.{append-nil}
 use Rattle.kube_meta.specs.Rows.{RowData, row_with}
-use Rattle.kube_meta.specs.declared.resources.Resource.TheVariants.{Pods}
 use Rattle.rev_front.specs.Passes.{Pass, IsPass, Extends, FitFrom}
 use Rattle.rev_log.specs.Changes.{RevisionData}
 use Rattle.rev_log.specs.Logs.{Log, IsLog, Fits, end_of, grown, upto}
 use Rattle.rev_log.specs.States.{IsStateAt, row_at, row_next, row_in_base}
 use Rattle.rev_log.proofs.GrowthLemmas.{upto-end}
+use Rattle.select_all.specs.declared.selection.Selection.{Selection}
 use Rattle.up_api.specs.Sections.{log_of, log_upto}
 use Rattle.up_store.specs.Hearing.{AreAscending, AreHeard, filled}
 use Rattle.up_store.proofs.HearLemmas.{ascending-end, filled-end}
@@ -44,17 +44,18 @@ module _ (base : List RowData) (mirror : Bool) (p q : Pass RevisionData) (i : In
   end_is = holds.at.end ∙ ap (λ (m : MirrorLogData). end_of m.log) is
 
   -- a state of the store at the log's end is one of the log
-  pub state_at_end : (rows : List RowData) → IsStateAt (log_of base q) Pods i.to rows → IsStateAt old.log Pods (end_of old.log) rows
+  pub state_at_end : (rows : List RowData) → IsStateAt (log_of base q) i.selection.resource i.to rows → IsStateAt old.log old.selection.resource (end_of old.log) rows
   state_at_end rows state =
       let cut : Log = log_upto base q i.to in
       let short : end_of cut ≤ i.to = omega (arith, length-take (i.to - q.first) q.seen, on.log_is, holds.begun) in
       let all : upto cut i.to ≡ upto (log_of base q) i.to = upto-end cut i.to short in
-      let here : IsStateAt cut Pods i.to rows = record {
+      let here : IsStateAt cut i.selection.resource i.to rows = record {
         rising = state.rising;
-        exact = λ key. state.exact key ∙ sym (ap (fold (row_next Pods key) (row_in_base base Pods key)) all);
+        exact = λ key. state.exact key ∙ sym (ap (fold (row_next i.selection.resource key) (row_in_base base i.selection.resource key)) all);
       } in
       let log : cut ≡ old.log = same_log base mirror p q i on holds ∙ ap (λ (m : MirrorLogData). m.log) is in
-      subst (λ (n : ℕ). IsStateAt old.log Pods n rows) end_is (subst (λ (l : Log). IsStateAt l Pods i.to rows) log here)
+      subst (λ (s : Selection). IsStateAt old.log s.resource (end_of old.log) rows) (ap (λ (m : MirrorLogData). m.selection) is)
+      (subst (λ (n : ℕ). IsStateAt old.log i.selection.resource n rows) end_is (subst (λ (l : Log). IsStateAt l i.selection.resource i.to rows) log here))
 
   -- ---- revisions are added
 
@@ -76,7 +77,7 @@ module _ (base : List RowData) (mirror : Bool) (p q : Pass RevisionData) (i : In
     pub added_end : to ≡ end_of (grown old.log (filled (end_of old.log) revisions to))
     added_end = omega (arith, filled-end (end_of old.log) revisions to up, length-append old.log.revisions (filled (end_of old.log) revisions to))
 
-    pub holds_added : to ≤ 2 ^ 62 → IsAtEnd j (grown old.log (filled (end_of old.log) revisions to)) → Holds base mirror q j
+    pub holds_added : to ≤ 2 ^ 62 → IsAtEnd old.selection.resource j (grown old.log (filled (end_of old.log) revisions to)) → Holds base mirror q j
     holds_added within at =
         let log : IsLog old.log = subst (λ (m : MirrorLogData). IsLog m.log) is holds.log in
         record {
@@ -91,7 +92,7 @@ module _ (base : List RowData) (mirror : Bool) (p q : Pass RevisionData) (i : In
           log = subst IsLog (sym log_is)
               (logs_go_on_all old.log (filled (end_of old.log) revisions to) log (filled_fits (end_of old.log) revisions to up) (omega (arith, filled-end (end_of old.log) revisions to up, within)));
           lawful = clear i j to holds.lawful cleared within;
-          at = subst (IsAtEnd j) (sym log_is) at;
+          at = subst (λ (s : Selection). IsAtEnd s.resource j (log_upto base q j.to)) (sym (cleared.selection ∙ ap (λ (m : MirrorLogData). m.selection) is)) (subst (IsAtEnd old.selection.resource j) (sym log_is) at);
         }
 
     pub has_added : HasAdded old revisions to (view base q j)
@@ -108,15 +109,16 @@ module _ (base : List RowData) (mirror : Bool) (p q : Pass RevisionData) (i : In
 
 module _ (old mid new : MirrorLogData) (rows : List RowData) (base : ℕ) (still : Rests old mid) where
   -- the keys of the rows are those that stand once the revisions are added
-  pub keys_stand : (state : List RowData) (revisions : List RevisionData) (keys : BTreeSet (List ℕ)) → IsStateAt old.log Pods (end_of old.log) state → Bridges (end_of old.log) state base rows revisions
+  pub keys_stand : (state : List RowData) (revisions : List RevisionData) (keys : BTreeSet (List ℕ)) → IsStateAt old.log old.selection.resource (end_of old.log) state → Bridges old.selection.resource (end_of old.log) state base rows revisions
       → ((key : List ℕ) → has keys key ≡ is_some (row_with rows key))
-      → (let log : Log = grown mid.log (filled (end_of mid.log) revisions base) in (key : List ℕ) → has keys key ≡ is_some (row_at log Pods (end_of log) key))
+      → (let log : Log = grown mid.log (filled (end_of mid.log) revisions base) in (key : List ℕ) → has keys key ≡ is_some (row_at log mid.selection.resource (end_of log) key))
   keys_stand state revisions keys is bridges know key =
       let all : List RevisionData = filled (end_of old.log) revisions base in
       let end : base ≡ end_of (grown old.log all) = omega (arith, filled-end (end_of old.log) revisions base bridges.rise, length-append old.log.revisions all) in
       know key
-      ∙ ap (λ row. is_some row) ((bridges.leads old.log refl is).exact key ∙ ap (λ (n : ℕ). row_at (grown old.log all) Pods n key) end)
-      ∙ ap (λ (l : Log). let log : Log = grown l (filled (end_of l) revisions base) in is_some (row_at log Pods (end_of log) key)) (sym still.log)
+      ∙ ap (λ row. is_some row) ((bridges.leads old.log refl is).exact key ∙ ap (λ (n : ℕ). row_at (grown old.log all) old.selection.resource n key) end)
+      ∙ ap (λ (l : Log). let log : Log = grown l (filled (end_of l) revisions base) in is_some (row_at log old.selection.resource (end_of log) key)) (sym still.log)
+      ∙ ap (λ (s : Selection). let log : Log = grown mid.log (filled (end_of mid.log) revisions base) in is_some (row_at log s.resource (end_of log) key)) (sym still.selection)
 
   pub rests_on : Rests mid new → Rests old new
   rests_on then = record { selection = then.selection ∙ still.selection; most_gap = then.most_gap ∙ still.most_gap; log = then.log ∙ still.log; kept = then.kept ∙ still.kept }
@@ -133,7 +135,7 @@ module _ (old mid new : MirrorLogData) (rows : List RowData) (base : ℕ) (still
   moved (Passed at) is = (omega (arith, is.0, ap end_of still.log), is.1)
   moved Memory is = is
 
-  pub rebases : (state : List RowData) (revisions : List RevisionData) (answer : Result ℕ RebaseNo) → IsStateAt old.log Pods (end_of old.log) state → Bridges (end_of old.log) state base rows revisions
+  pub rebases : (state : List RowData) (revisions : List RevisionData) (answer : Result ℕ RebaseNo) → IsStateAt old.log old.selection.resource (end_of old.log) state → Bridges old.selection.resource (end_of old.log) state base rows revisions
       → CommitsAll mid revisions base answer new → Rebases old rows base answer new
   rebases state revisions (Ok to) is bridges has =
       let log : new.log ≡ grown old.log (filled (end_of old.log) revisions base) =
@@ -145,7 +147,7 @@ module _ (old mid new : MirrorLogData) (rows : List RowData) (base : ℕ) (still
           more = filled (end_of old.log) revisions base;
           log = log;
           end = has.0.end;
-          state = subst (λ (l : Log). IsStateAt l Pods base rows) (sym log) (bridges.leads old.log refl is);
+          state = subst (λ (l : Log). IsStateAt l old.selection.resource base rows) (sym log) (bridges.leads old.log refl is);
           floor = has.0.floor;
         },
         has.1,

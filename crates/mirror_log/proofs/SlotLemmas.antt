@@ -8,6 +8,7 @@ use Rattle.std.proofs.lemmas.List.{take_more}
 use Rattle.std.proofs.lemmas.List.Elements.{filter-append, All-push, All-from_recursion}
 use Rattle.std.proofs.lemmas.List.Kept.{AllPairs-filter}
 use Rattle.kube_meta.specs.Rows.{RowData, key_of}
+use Rattle.kube_meta.specs.declared.resources.Resource.{Resource}
 use Rattle.rev_log.specs.Changes.{ChangeData, RevisionData, same_object, AreOfDistinctObjects}
 use Rattle.rev_log.proofs.MapLemmas.{take_all}
 use Rattle.mirror_log.specs.Bridges.{written_at}
@@ -80,45 +81,45 @@ module _ (old new : SlotsData) (given : List ChangeData) (c : ChangeData) (hold 
 
 -- ---- rows are put
 
-pub put_young : (from : ℕ) (rows : List RowData) (k : ℕ) (row : RowData) → k < length rows → row ≡ get_or rows k row → from < row.rev → puts from (take (k + 1) rows) ≡ puts from (take k rows) ++ put_of row ∷ []
-put_young from rows k row inside is young =
+pub put_young : (resource : Resource) (from : ℕ) (rows : List RowData) (k : ℕ) (row : RowData) → k < length rows → row ≡ get_or rows k row → from < row.rev → puts resource from (take (k + 1) rows) ≡ puts resource from (take k rows) ++ put_of resource row ∷ []
+put_young resource from rows k row inside is young =
     let next : take (k + 1) rows ≡ take k rows ++ row ∷ [] = take_more rows k row inside ∙ ap (λ r. take k rows ++ r ∷ []) (sym is) in
     let pass : ltb from row.rev ≡ true = lt-ltb from row.rev young in
-    ap (puts from) next ∙ push (take k rows) pass
+    ap (puts resource from) next ∙ push (take k rows) pass
   where
-    push : (xs : List RowData) → ltb from row.rev ≡ true → puts from (xs ++ row ∷ []) ≡ puts from xs ++ put_of row ∷ []
+    push : (xs : List RowData) → ltb from row.rev ≡ true → puts resource from (xs ++ row ∷ []) ≡ puts resource from xs ++ put_of resource row ∷ []
     push [] pass = rw pass refl
     push (x ∷ xs) pass = elim (cases_Bool (ltb from x.rev)) [
-      | inl y ↦ rw y (ap (λ rest. put_of x ∷ rest) (push xs pass))
+      | inl y ↦ rw y (ap (λ rest. put_of resource x ∷ rest) (push xs pass))
       | inr o ↦ rw o (push xs pass)
     ]
 
-pub put_old : (from : ℕ) (rows : List RowData) (k : ℕ) (row : RowData) → k < length rows → row ≡ get_or rows k row → row.rev ≤ from → puts from (take (k + 1) rows) ≡ puts from (take k rows)
-put_old from rows k row inside is old =
+pub put_old : (resource : Resource) (from : ℕ) (rows : List RowData) (k : ℕ) (row : RowData) → k < length rows → row ≡ get_or rows k row → row.rev ≤ from → puts resource from (take (k + 1) rows) ≡ puts resource from (take k rows)
+put_old resource from rows k row inside is old =
     let next : take (k + 1) rows ≡ take k rows ++ row ∷ [] = take_more rows k row inside ∙ ap (λ r. take k rows ++ r ∷ []) (sym is) in
     let fail : ltb from row.rev ≡ false = le-ltb from row.rev old in
-    ap (puts from) next ∙ push (take k rows) fail
+    ap (puts resource from) next ∙ push (take k rows) fail
   where
-    push : (xs : List RowData) → ltb from row.rev ≡ false → puts from (xs ++ row ∷ []) ≡ puts from xs
+    push : (xs : List RowData) → ltb from row.rev ≡ false → puts resource from (xs ++ row ∷ []) ≡ puts resource from xs
     push [] fail = rw fail refl
     push (x ∷ xs) fail = elim (cases_Bool (ltb from x.rev)) [
-      | inl y ↦ rw y (ap (λ rest. put_of x ∷ rest) (push xs fail))
+      | inl y ↦ rw y (ap (λ rest. put_of resource x ∷ rest) (push xs fail))
       | inr o ↦ rw o (push xs fail)
     ]
 
 -- the next row is put
-pub put_step : (from : ℕ) (rows : List RowData) (k : ℕ) (row : RowData) (c : ChangeData) (old new : SlotsData) → k < length rows → row ≡ get_or rows k row → from < row.rev → c ≡ put_of row
-    → Hold old (puts from (take k rows)) → Adds old c new → Hold new (puts from (take (k + 1) rows))
-put_step from rows k row c old new inside is young change hold adds =
-    subst (Hold new) (sym (put_young from rows k row inside is young)) (added old new (puts from (take k rows)) (put_of row) hold (subst (λ x. Adds old x new) change adds))
+pub put_step : (resource : Resource) (from : ℕ) (rows : List RowData) (k : ℕ) (row : RowData) (c : ChangeData) (old new : SlotsData) → k < length rows → row ≡ get_or rows k row → from < row.rev → c ≡ put_of resource row
+    → Hold old (puts resource from (take k rows)) → Adds old c new → Hold new (puts resource from (take (k + 1) rows))
+put_step resource from rows k row c old new inside is young change hold adds =
+    subst (Hold new) (sym (put_young resource from rows k row inside is young)) (added old new (puts resource from (take k rows)) (put_of resource row) hold (subst (λ x. Adds old x new) change adds))
 
 -- where its revision has no room, that has too many
-pub put_full : (from : ℕ) (rows : List RowData) (k : ℕ) (row : RowData) (c : ChangeData) (old : SlotsData) → k < length rows → row ≡ get_or rows k row → from < row.rev → c ≡ put_of row
-    → Hold old (puts from (take k rows)) → 64 ≤ length (slot_at old c.rev) → (rev : ℕ) × (from < rev) × (64 < length (written_at rev rows))
-put_full from rows k row c old inside is young change hold full =
+pub put_full : (resource : Resource) (from : ℕ) (rows : List RowData) (k : ℕ) (row : RowData) (c : ChangeData) (old : SlotsData) → k < length rows → row ≡ get_or rows k row → from < row.rev → c ≡ put_of resource row
+    → Hold old (puts resource from (take k rows)) → 64 ≤ length (slot_at old c.rev) → (rev : ℕ) × (from < rev) × (64 < length (written_at rev rows))
+put_full resource from rows k row c old inside is young change hold full =
     let number : c.rev ≡ row.rev = ap (λ (x : ChangeData). x.rev) change in
-    let holds : slot_at old c.rev ≡ of_rev row.rev (puts from (take k rows)) = ap (slot_at old) number ∙ hold.has row.rev in
-    let so_far : length (of_rev row.rev (puts from (take k rows))) ≡ length (written_at row.rev (take k rows)) = count_puts from row.rev (take k rows) young in
+    let holds : slot_at old c.rev ≡ of_rev row.rev (puts resource from (take k rows)) = ap (slot_at old) number ∙ hold.has row.rev in
+    let so_far : length (of_rev row.rev (puts resource from (take k rows))) ≡ length (written_at row.rev (take k rows)) = count_puts resource from row.rev (take k rows) young in
     let one : length (written_at row.rev (take k rows)) < length (written_at row.rev rows) = one_of (λ r. eqb r.rev row.rev) rows k row inside is (eq-eqb row.rev row.rev refl) in
     (row.rev, young, omega (arith, ap length holds, so_far, one, full))
 
@@ -132,15 +133,15 @@ keys-push : (xs : List ChangeData) (x : ChangeData) → map (λ c. c.key) (xs ++
 keys-push [] x = refl
 keys-push (y ∷ xs) x = ap (λ rest. y.key ∷ rest) (keys-push xs x)
 
-pub one_removed : (from to : ℕ) (changes : List ChangeData) (rows : List RowData) (k : ℕ) (row : RowData) (old new : SlotsData) (rev : ℕ)
-    → k < length rows → row ≡ get_or rows k row → Remove from to changes (take k rows) old → Adds old (removal_of row rev) new → from < rev → rev ≤ to → Remove from to changes (take (k + 1) rows) new
-one_removed from to changes rows k row old new rev inside is before adds above within =
+pub one_removed : {resource : Resource} (from to : ℕ) (changes : List ChangeData) (rows : List RowData) (k : ℕ) (row : RowData) (old new : SlotsData) (rev : ℕ)
+    → k < length rows → row ≡ get_or rows k row → Remove resource from to changes (take k rows) old → Adds old (removal_of resource row rev) new → from < rev → rev ≤ to → Remove resource from to changes (take (k + 1) rows) new
+one_removed {resource} from to changes rows k row old new rev inside is before adds above within =
     let next : take (k + 1) rows ≡ take k rows ++ row ∷ [] = take_more rows k row inside ∙ ap (λ r. take k rows ++ r ∷ []) (sym is) in
     record {
-      removed = before.removed ++ removal_of row rev ∷ [];
-      hold = subst (Hold new) (append_assoc changes before.removed (removal_of row rev ∷ [])) (added old new (changes ++ before.removed) (removal_of row rev) before.hold adds);
-      keys = keys-push before.removed (removal_of row rev) ∙ ap (λ (l : List (List ℕ)). l ++ key_of row ∷ []) before.keys ∙ sym (map-push key_of (take k rows) row) ∙ ap (map key_of) (sym next);
-      removals = All-push (IsRemoval from to) before.removed (removal_of row rev) before.removals (record { pod = refl; none = refl; above = above; within = within });
+      removed = before.removed ++ removal_of resource row rev ∷ [];
+      hold = subst (Hold new) (append_assoc changes before.removed (removal_of resource row rev ∷ [])) (added old new (changes ++ before.removed) (removal_of resource row rev) before.hold adds);
+      keys = keys-push before.removed (removal_of resource row rev) ∙ ap (λ (l : List (List ℕ)). l ++ key_of row ∷ []) before.keys ∙ sym (map-push key_of (take k rows) row) ∙ ap (map key_of) (sym next);
+      removals = All-push (IsRemoval resource from to) before.removed (removal_of resource row rev) before.removals (record { alone = refl; none = refl; above = above; within = within });
     }
 
 -- the revisions before the one that is added to have no room still
@@ -172,9 +173,9 @@ length-take [] (suc k) inside = absurd (omega (arith, inside))
 length-take (x ∷ rows) (suc k) inside = ap suc (length-take rows k (omega (arith, inside)))
 
 -- where no revision between has room there is none for all removals
-pub no_room : (from to : ℕ) (changes : List ChangeData) (rows : List RowData) (k : ℕ) (slots : SlotsData) → from ≤ to → k < length rows → Remove from to changes (take k rows) slots
+pub no_room : {resource : Resource} (from to : ℕ) (changes : List ChangeData) (rows : List RowData) (k : ℕ) (slots : SlotsData) → from ≤ to → k < length rows → Remove resource from to changes (take k rows) slots
     → ((rev : ℕ) → from < rev → rev ≤ to → 64 ≤ length (slot_at slots rev)) → 64 * (to - from) < length changes + length rows
-no_room from to changes rows k slots onward inside before full =
+no_room {resource} from to changes rows k slots onward inside before full =
     let all : 64 * (to - from) ≤ length (changes ++ before.removed) =
     many from (to - from) (changes ++ before.removed)
     (λ i within. subst (λ (s : List ChangeData). 64 ≤ length s) (before.hold.has (from + 1 + i)) (full (from + 1 + i) (omega arith) (omega (arith, within, onward)))) in

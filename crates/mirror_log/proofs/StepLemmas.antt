@@ -1,20 +1,19 @@
 -- What one commit, and one line, make of a mirror's log.
-use Rattle.std.proofs.Common.{◌≡◌, ℕ, ◌+◌, ◌-◌, ◌^◌, ◌<◌, ◌≤◌, Bool, true, false, bytes_eq, List, [], ◌∷◌, length, map, Option, All, is_some, refl, sym, ap, ◌∙◌, subst, inl, inr, arith}
+use Rattle.std.proofs.Common.{◌≡◌, ℕ, ◌+◌, ◌-◌, ◌^◌, ◌<◌, ◌≤◌, Bool, true, false, bytes_eq, List, [], ◌∷◌, length, Option, All, is_some, refl, sym, ap, ◌∙◌, subst, inl, inr, arith}
 use Rattle.std.specs.Prelude.{AllPairs}
 use Rattle.std.proofs.lemmas.Bool.{cases_lt, cases_eq, eq-eqb, ne_eqb, leb-false}
 use Rattle.std.proofs.lemmas.List.{length-append}
-use Rattle.std.proofs.lemmas.List.Elements.{All-nil, All-map, recursion_from_All}
-use Rattle.std.proofs.lemmas.List.Sorted.{All-permutation}
-use Rattle.kube_meta.specs.declared.resources.Resource.TheVariants.{Pods}
+use Rattle.std.proofs.lemmas.List.Elements.{All-nil, recursion_from_All}
 use Rattle.kube_meta.specs.Rows.{RowData}
 use Rattle.rev_front.specs.Passes.{Pass, Extends}
 use Rattle.rev_front.proofs.Passing.{extends_self, extends_trans}
-use Rattle.rev_log.specs.Changes.{ChangeData, RevisionData}
+use Rattle.rev_log.specs.Changes.{RevisionData}
 use Rattle.rev_log.specs.Logs.{Log, IsLog, end_of, grown}
 use Rattle.rev_log.specs.States.{row_at}
+use Rattle.select_all.specs.declared.selection.Selection.{Selection}
 use Rattle.select_all.specs.Streams.{TransitionData}
 use Rattle.up_api.specs.Sections.{Learns, log_upto}
-use Rattle.mirror_law.specs.Mirrors.{change_told, of_revision, IsRevisionTold}
+use Rattle.mirror_law.specs.Mirrors.{of_revision, IsRevisionTold}
 use Rattle.mirror_law.specs.Taking.{row_before}
 use Rattle.mirror_log.specs.Intakes.{IntakeData, IsIntake, IsAtEnd, IsClear, fits_kind, most_kept}
 use Rattle.mirror_log.proofs.IntakeLemmas.{stood_later}
@@ -54,7 +53,7 @@ module _ (base : List RowData) (mirror : Bool) (p q : Pass RevisionData) (i : In
     seen = omega (arith, holds.seen, seen_on p q on);
     log = subst IsLog (sym same_log) holds.log;
     lawful = holds.lawful;
-    at = subst (IsAtEnd i) (sym same_log) holds.at;
+    at = subst (IsAtEnd i.selection.resource i) (sym same_log) holds.at;
   }
 
   pub rests : Rests (view base p i) (view base q i)
@@ -62,11 +61,6 @@ module _ (base : List RowData) (mirror : Bool) (p q : Pass RevisionData) (i : In
 
 pub rests_same : (m : MirrorLogData) → Rests m m
 rests_same m = record { selection = refl; most_gap = refl; log = refl; kept = refl }
-
-pub pods_alone : (at : ℕ) (kept : List TransitionData) (revision : RevisionData) → IsRevisionTold Pods at kept revision → All (λ c. c.resource ≡ Pods) revision.changes
-pods_alone at kept revision told =
-    All-permutation (λ (c : ChangeData). c.resource ≡ Pods) (map (change_told Pods) kept) revision.changes told.changes
-    (All-map (λ (c : ChangeData). c.resource ≡ Pods) (change_told Pods) kept (λ k d inside. refl))
 
 -- ---- a revision is committed
 
@@ -85,20 +79,20 @@ abbrev pub next_view : List RowData → Pass RevisionData → Pass RevisionData 
 next_view base p q i revision = record { selection = i.selection; most_gap = i.most_gap; told = q; log = grown (log_upto base p i.to) (revision ∷ []); kept = [] }
 
 module _ (base : List RowData) (mirror : Bool) (p q : Pass RevisionData) (i : IntakeData) (revision : RevisionData)
-    (holds : Holds base mirror p i) (told : IsRevisionTold Pods (i.to + 1) i.kept revision) where
-  told_log : IsRevisionTold Pods (end_of (log_upto base p i.to) + 1) i.kept revision
-  told_log = subst (λ (n : ℕ). IsRevisionTold Pods (n + 1) i.kept revision) holds.at.end told
+    (holds : Holds base mirror p i) (told : IsRevisionTold i.selection.resource (i.to + 1) i.kept revision) where
+  told_log : IsRevisionTold i.selection.resource (end_of (log_upto base p i.to) + 1) i.kept revision
+  told_log = subst (λ (n : ℕ). IsRevisionTold i.selection.resource (n + 1) i.kept revision) holds.at.end told
 
   stands_next : StandsOn (view base p i) (next_view base p q i revision)
   stands_next rev_above key above =
       let log : Log = log_upto base p i.to in
-      let row : Option RowData = row_at log Pods (end_of log) key in
+      let row : Option RowData = row_at log i.selection.resource (end_of log) key in
       let end : end_of (grown log (revision ∷ [])) ≡ end_of log + 1 = omega (arith, length-append log.revisions (revision ∷ [])) in
-      let fit = recursion_from_All (λ t. fits_kind t.kind (is_some (row_at log Pods (end_of log) t.obj.key)) ≡ true) i.kept holds.at.fits in
+      let fit = recursion_from_All (λ t. fits_kind t.kind (is_some (row_at log i.selection.resource (end_of log) t.obj.key)) ≡ true) i.kept holds.at.fits in
       let later : i.to + 1 < rev_above = omega (arith, above, end, holds.at.end) in
-      ap (λ (n : ℕ). is_some (row_at (grown log (revision ∷ [])) Pods n key)) end
+      ap (λ (n : ℕ). is_some (row_at (grown log (revision ∷ [])) i.selection.resource n key)) end
       ∙ committed log key i.kept revision fit told_log
-      ∙ stood_after (row_at log Pods (end_of log)) key i.kept (apart i.kept holds.lawful.distinct) fit
+      ∙ stood_after (row_at log i.selection.resource (end_of log)) key i.kept (apart i.kept holds.lawful.distinct) fit
       ∙ stood_later i holds.lawful log holds.at key rev_above later
 
   pub moves_one : MovesOne (view base p i) (next_view base p q i revision)
@@ -121,8 +115,8 @@ moves_rest a b c moves rests = record {
   grows = record { more = moves.grows.more; log_is = rests.log ∙ moves.grows.log_is; told_by = moves.grows.told_by };
   kept = rests.kept ∙ moves.kept ∙ ap (λ (log : Log). kept_at a (end_of log)) (sym rests.log);
   stands = λ rev key above.
-      ap (λ (log : Log). is_some (row_before log Pods c.kept rev key)) rests.log
-      ∙ ap (λ (l : List TransitionData). is_some (row_before b.log Pods l rev key)) rests.kept
+      ap (λ (log : Log). is_some (row_before log a.selection.resource c.kept rev key)) rests.log
+      ∙ ap (λ (l : List TransitionData). is_some (row_before b.log a.selection.resource l rev key)) rests.kept
       ∙ moves.stands rev key (omega (arith, above, ap end_of rests.log));
 }
 
@@ -143,13 +137,13 @@ kept_of a b rev next moves above end = elim (cases_eq (end_of b.log) (end_of a.l
     ]
 
 -- what is kept then is no more than may be, and has no line of the event's object
-pub room : (a b : MirrorLogData) (t : TransitionData) → All (λ u. u.rev ≡ end_of a.log + 1) a.kept → Moves a b → IsGood a.log a.kept t → end_of b.log ≡ t.rev - 1 → length b.kept < most_kept
+pub room : (a b : MirrorLogData) (t : TransitionData) → All (λ u. u.rev ≡ end_of a.log + 1) a.kept → Moves a b → IsGood a.selection.resource a.log a.kept t → end_of b.log ≡ t.rev - 1 → length b.kept < most_kept
 room a b t next moves good end =
     omega (arith, leb-false 64 (length (of_revision t.rev a.kept)) good.few, ap (λ (l : List TransitionData). length l) (kept_of a b t.rev next moves good.above end))
 
 -- ---- the beginning, and lines that are forgotten
 
-pub holds_clear : (base : List RowData) (mirror : Bool) (p : Pass RevisionData) (i j : IntakeData) → Holds base mirror p i → IsClear i i.to j → ((log : Log) → IsAtEnd i log → IsAtEnd j log) → Holds base mirror p j
+pub holds_clear : (base : List RowData) (mirror : Bool) (p : Pass RevisionData) (i j : IntakeData) → Holds base mirror p i → IsClear i i.to j → ((log : Log) → IsAtEnd i.selection.resource i log → IsAtEnd i.selection.resource j log) → Holds base mirror p j
 holds_clear base mirror p i j holds cleared at =
     let same : log_upto base p j.to ≡ log_upto base p i.to = ap (log_upto base p) cleared.to_is in
     record {
@@ -158,5 +152,5 @@ holds_clear base mirror p i j holds cleared at =
       seen = omega (arith, holds.seen, cleared.to_is);
       log = subst IsLog (sym same) holds.log;
       lawful = clear i j i.to holds.lawful cleared holds.lawful.ends;
-      at = subst (IsAtEnd j) (sym same) (at (log_upto base p i.to) holds.at);
+      at = subst (λ (s : Selection). IsAtEnd s.resource j (log_upto base p j.to)) (sym cleared.selection) (subst (IsAtEnd i.selection.resource j) (sym same) (at (log_upto base p i.to) holds.at));
     }

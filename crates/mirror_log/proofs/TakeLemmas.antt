@@ -8,8 +8,6 @@ use Rattle.std.proofs.lemmas.Bool.{and_parts, eqb-true, lt-leb, le-ltb, false_fr
 use Rattle.std.proofs.lemmas.List.{length-append}
 use Rattle.std.proofs.lemmas.List.Elements.{recursion_from_All}
 use Rattle.std.proofs.lemmas.Slice.Eq.{bytes_eq-Decides}
-use Rattle.kube_meta.specs.declared.resources.Resource.{Resource}
-use Rattle.kube_meta.specs.declared.resources.Resource.TheVariants.{Pods}
 use Rattle.kube_meta.specs.Rows.{RowData}
 use Rattle.rev_log.specs.Logs.{Log, end_of}
 use Rattle.select_all.specs.declared.selection.Kind.{Kind}
@@ -54,10 +52,9 @@ event_at_most : (selected fitting full late repeated far : Bool) (last got : ℕ
 event_at_most selected fitting full late repeated far last got a b c d e = rw (a, b, c, d, e) (gap_at_most far last got)
 
 pub taken_events_fit : TakenEventsFit
-taken_events_fit s most_gap m kept t pods taken =
-    let row : Option RowData = row_before m Pods kept t.rev t.obj.key in
-    let same : row_before m s.resource kept t.rev t.obj.key ≡ row = ap (λ (r : Resource). row_before m r kept t.rev t.obj.key) pods in
-    let fitting : fits_kind t.kind (is_some row) ≡ true = ap (λ (r : Option RowData). fits_kind t.kind (is_some r)) (sym same) ∙ fits t.kind (row_before m s.resource kept t.rev t.obj.key) taken.fits in
+taken_events_fit s most_gap m kept t taken =
+    let row : Option RowData = row_before m s.resource kept t.rev t.obj.key in
+    let fitting : fits_kind t.kind (is_some row) ≡ true = fits t.kind row taken.fits in
     event_at_most (selects s t.obj) (fits_kind t.kind (is_some row)) (is_full_at kept t.rev) (leb t.rev (end_of m)) (is_repeated kept t.rev t.obj.key)
     (ltb (last_of (end_of m) kept + most_gap) t.rev) (last_of (end_of m) kept) t.rev
     taken.selected fitting (lt-leb 64 (length (of_revision t.rev kept)) (omega (arith, taken.few, length-append (of_revision t.rev kept) (t ∷ []))))

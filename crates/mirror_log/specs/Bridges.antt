@@ -1,6 +1,6 @@
 -- The revisions between two lists of rows, of which one stands at a revision of a log, and the other at a later one.
 use Rattle.std.specs.Prelude.{◌≡◌, ℕ, ◌+◌, ◌-◌, ◌*◌, ◌<◌, ◌≤◌, not, nat_lt, nat_eq, List, ◌∷◌, ◌++◌, length, filter, All, Option, Some, None, is_some}
-use Rattle.kube_meta.specs.declared.resources.Resource.TheVariants.{Pods}
+use Rattle.kube_meta.specs.declared.resources.Resource.{Resource}
 use Rattle.kube_meta.specs.Rows.{RowData, key_of, row_with}
 use Rattle.rev_log.specs.Changes.{RevisionData}
 use Rattle.rev_log.specs.Logs.{Log, grown, end_of}
@@ -49,10 +49,10 @@ pub record MayBeOfOneLog (from : ℕ) (old : List RowData) (to : ℕ) (rows : Li
   pub room : length (younger from rows) + length (gone old rows) ≤ 64 * (to - from)
 
 -- These revisions follow a revision at which the one list stands: their numbers rise up to the other one, and each has a
--- change, of pods alone. Once they are there, and between them and behind them those at which nothing changes, the other
+-- change, of one resource alone. Once they are there, and between them and behind them those at which nothing changes, the other
 -- list stands.
-pub record Bridges (from : ℕ) (old : List RowData) (to : ℕ) (rows : List RowData) (revisions : List RevisionData) : Type 0 where
+pub record Bridges (resource : Resource) (from : ℕ) (old : List RowData) (to : ℕ) (rows : List RowData) (revisions : List RevisionData) : Type 0 where
   pub rise : AreAscending from revisions to
   pub change : All (λ revision. 0 < length revision.changes) revisions
-  pub pods : All (λ revision. All (λ change. change.resource ≡ Pods) revision.changes) revisions
-  pub leads : (log : Log) → end_of log ≡ from → IsStateAt log Pods from old → IsStateAt (grown log (filled from revisions to)) Pods to rows
+  pub alone : All (λ revision. All (λ change. change.resource ≡ resource) revision.changes) revisions
+  pub leads : (log : Log) → end_of log ≡ from → IsStateAt log resource from old → IsStateAt (grown log (filled from revisions to)) resource to rows

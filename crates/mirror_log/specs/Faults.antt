@@ -1,7 +1,6 @@
 -- What is wrong with a line that a mirror is told, in the order in which it is tested.
 use Rattle.std.specs.Prelude.{ℕ, ◌+◌, Bool, not, ◌&&◌, ◌||◌, nat_le, nat_lt, nat_eq, List, [], ◌∷◌, length, filter, Option, Some, None, is_some, if◌then◌else◌}
 use Rattle.std.specs.List.{list_any}
-use Rattle.kube_meta.specs.declared.resources.Resource.TheVariants.{Pods}
 use Rattle.rev_log.specs.Logs.{Log, end_of}
 use Rattle.select_all.specs.declared.selection.Selection.{Selection}
 use Rattle.select_all.specs.Selecting.{selects}
@@ -30,7 +29,7 @@ is_repeated kept rev key = list_any (λ t. nat_eq t.rev rev && is_of key t) kept
 abbrev pub event_fault : Selection → ℕ → Log → List TransitionData → TransitionData → Option TakeNo
 event_fault s most_gap m kept t =
     if not (selects s t.obj) then Some BadLine
-    else if not (fits_kind t.kind (is_some (row_before m Pods kept t.rev t.obj.key))) then Some BadLine
+    else if not (fits_kind t.kind (is_some (row_before m s.resource kept t.rev t.obj.key))) then Some BadLine
     else if is_full_at kept t.rev then Some BadLine
     else if nat_le t.rev (end_of m) || is_repeated kept t.rev t.obj.key then Some (Order (last_of (end_of m) kept) t.rev)
     else if nat_lt (last_of (end_of m) kept + most_gap) t.rev then Some (Gap (last_of (end_of m) kept) t.rev)

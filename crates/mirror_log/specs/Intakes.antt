@@ -4,7 +4,7 @@ use Rattle.std.specs.BTreeSet.{BTreeSet, contains}
 use Rattle.std.specs.Cmp.Lexicographic.{slice_cmp}
 use Rattle.std.specs.List.{list_any}
 use Rattle.std.specs.Ordering.{nat_cmp}
-use Rattle.kube_meta.specs.declared.resources.Resource.TheVariants.{Pods}
+use Rattle.kube_meta.specs.declared.resources.Resource.{Resource}
 use Rattle.rev_log.specs.Logs.{Log, end_of}
 use Rattle.rev_log.specs.States.{row_at}
 use Rattle.select_all.specs.declared.selection.Kind.{Kind}
@@ -68,12 +68,12 @@ pub record IsIntake (intake : IntakeData) : Type 0 where
   pub few : length intake.kept ≤ most_kept
   pub distinct : AllPairs (λ t u. is_of u.obj.key t ≡ false) intake.kept
 
--- It stands at the end of this log: its table has the keys of the pods that stand there and of those that are kept as
--- added; and the kind of each line that is kept fits what stands there.
-pub record IsAtEnd (intake : IntakeData) (log : Log) : Type 0 where
+-- It stands at the end of this log: its table has the keys of the objects of a resource that stand there and of those that are
+-- kept as added; and the kind of each line that is kept fits what stands there.
+pub record IsAtEnd (resource : Resource) (intake : IntakeData) (log : Log) : Type 0 where
   pub end : intake.to ≡ end_of log
-  pub keys : (key : List ℕ) → has intake.keys key ≡ is_some (row_at log Pods (end_of log) key) || tells Added intake.kept key
-  pub fits : All (λ t. fits_kind t.kind (is_some (row_at log Pods (end_of log) t.obj.key)) ≡ true) intake.kept
+  pub keys : (key : List ℕ) → has intake.keys key ≡ is_some (row_at log resource (end_of log) key) || tells Added intake.kept key
+  pub fits : All (λ t. fits_kind t.kind (is_some (row_at log resource (end_of log) t.obj.key)) ≡ true) intake.kept
 
 -- ---- what a call leaves
 

@@ -15,4 +15,4 @@ pub record Holds (base : List RowData) (mirror : Bool) (told : Pass RevisionData
   pub seen : intake.to ≤ end_from told.first told.seen
   pub log : IsLog (log_upto base told intake.to)
   pub lawful : IsIntake intake
-  pub at : IsAtEnd intake (log_upto base told intake.to)
+  pub at : IsAtEnd intake.selection.resource intake (log_upto base told intake.to)

@@ -1,6 +1,5 @@
 -- Laws of what a mirror keeps.
 use Rattle.std.specs.Prelude.{◌≡◌, ℕ, false, List, Option, Some, None}
-use Rattle.kube_meta.specs.declared.resources.Resource.TheVariants.{Pods}
 use Rattle.rev_log.specs.Logs.{Log, end_of}
 use Rattle.select_all.specs.declared.selection.Selection.{Selection}
 use Rattle.select_all.specs.Streams.{TransitionData}
@@ -19,7 +18,7 @@ IsAtMostGap (Some (Gap last got)) = Unit {0}
 -- that is so of each event and each bookmark that a mirror takes, as it does the lines of a lawful body
 abbrev pub TakenEventsFit : Type 0
 TakenEventsFit =
-    (s : Selection) (most_gap : ℕ) (m : Log) (kept : List TransitionData) (t : TransitionData) → s.resource ≡ Pods → IsTakenEvent s m kept t →
+    (s : Selection) (most_gap : ℕ) (m : Log) (kept : List TransitionData) (t : TransitionData) → IsTakenEvent s m kept t →
     IsAtMostGap (event_fault s most_gap m kept t)
 
 abbrev pub TakenMarksFit : Type 0

@@ -3,7 +3,6 @@ use Rattle.std.specs.Prelude.{◌≡◌, ℕ, ◌+◌, ◌<◌, ◌≤◌, ◌==
 use Rattle.rev_front.specs.Passes.{Pass, end_from}
 use Rattle.rev_log.specs.Changes.{RevisionData}
 use Rattle.rev_log.specs.Logs.{Log, end_of, grown}
-use Rattle.kube_meta.specs.declared.resources.Resource.TheVariants.{Pods}
 use Rattle.select_all.specs.declared.selection.Selection.{Selection}
 use Rattle.select_all.specs.Streams.{TransitionData}
 use Rattle.watch_rules.specs.Bodies.{Line}
@@ -31,7 +30,7 @@ pub record MirrorLogData : Type 0 where
 pub record Grows (old : MirrorLogData) (log : Log) : Type 0 where
   pub more : List RevisionData
   pub log_is : log ≡ grown old.log more
-  pub told_by : AreToldBy Pods old.kept (end_of old.log) more
+  pub told_by : AreToldBy old.selection.resource old.kept (end_of old.log) more
 
 -- A line was taken whole: all revisions are committed up to which it says that all was told, and no other; an event is kept
 -- behind those of its revision, and after a bookmark nothing is.
@@ -66,7 +65,7 @@ Hears old fault line (Err Memory) new = (fault ≡ None) × TakesSome old line n
 pub record GrowsWith (old : MirrorLogData) (t : TransitionData) (log : Log) : Type 0 where
   pub more : List RevisionData
   pub log_is : log ≡ grown old.log more
-  pub told_by : AreToldBy Pods (old.kept ++ t ∷ []) (end_of old.log) more
+  pub told_by : AreToldBy old.selection.resource (old.kept ++ t ∷ []) (end_of old.log) more
 
 -- It was taken whole: all revisions are committed up to its own, and no other, and nothing is kept.
 pub record TakesAlone (old : MirrorLogData) (t : TransitionData) (new : MirrorLogData) : Type 0 where
@@ -100,7 +99,7 @@ kept_at old at = if at == end_of old.log then old.kept else []
 abbrev pub StandsOn : MirrorLogData → MirrorLogData → Type 0
 StandsOn old new =
     (rev : ℕ) (key : List ℕ) → end_of new.log < rev →
-    is_some (row_before new.log Pods new.kept rev key) ≡ is_some (row_before old.log Pods old.kept rev key)
+    is_some (row_before new.log old.selection.resource new.kept rev key) ≡ is_some (row_before old.log old.selection.resource old.kept rev key)
 
 -- some revisions are committed
 pub record Moves (old new : MirrorLogData) : Type 0 where
@@ -115,7 +114,7 @@ pub record MovesOne (old new : MirrorLogData) : Type 0 where
   pub selection : new.selection ≡ old.selection
   pub most_gap : new.most_gap ≡ old.most_gap
   pub revision : RevisionData
-  pub told_by : IsRevisionTold Pods (end_of old.log + 1) old.kept revision
+  pub told_by : IsRevisionTold old.selection.resource (end_of old.log + 1) old.kept revision
   pub log_is : new.log ≡ grown old.log (revision ∷ [])
   pub kept : new.kept ≡ []
   pub stands : StandsOn old new

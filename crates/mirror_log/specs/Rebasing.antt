@@ -1,7 +1,6 @@
 -- What becomes of a mirror's log where it is to begin anew.
 use Rattle.std.specs.Prelude.{◌≡◌, ℕ, ◌<◌, ◌⊎◌, List, [], Option, Some, None, Result, Ok, Err}
 use Rattle.kube_meta.specs.Rows.{RowData, key_of}
-use Rattle.kube_meta.specs.declared.resources.Resource.TheVariants.{Pods}
 use Rattle.rev_log.specs.Changes.{RevisionData}
 use Rattle.rev_log.specs.Logs.{end_of, grown}
 use Rattle.rev_log.specs.States.{IsStateAt}
@@ -26,19 +25,19 @@ pub record IsRebased (old : MirrorLogData) (rows : List RowData) (base : ℕ) (n
   pub more : List RevisionData
   pub log : new.log ≡ grown old.log more
   pub end : end_of new.log ≡ base
-  pub state : IsStateAt new.log Pods base rows
+  pub state : IsStateAt new.log old.selection.resource base rows
   pub floor : new.told.floor ≡ base
 
--- the pods at the log's end, and these rows, can't be of one log
+-- the objects at the log's end, and these rows, can't be of one log
 pub record IsOfOtherLog (old : MirrorLogData) (rows : List RowData) (base : ℕ) : Type 0 where
   pub state : List RowData
-  pub is_state : IsStateAt old.log Pods (end_of old.log) state
+  pub is_state : IsStateAt old.log old.selection.resource (end_of old.log) state
   pub other : ¬ MayBeOfOneLog (end_of old.log) state base rows
 
 -- the first of the rows that was written up to the log's end and isn't the one that stands there has this key
 pub record IsDifferentAt (old : MirrorLogData) (rows : List RowData) (key : List ℕ) : Type 0 where
   pub state : List RowData
-  pub is_state : IsStateAt old.log Pods (end_of old.log) state
+  pub is_state : IsStateAt old.log old.selection.resource (end_of old.log) state
   pub row : RowData
   pub first : IsFirstOther (end_of old.log) state rows row
   pub key_is : key ≡ key_of row
@@ -46,7 +45,7 @@ pub record IsDifferentAt (old : MirrorLogData) (rows : List RowData) (key : List
 -- none is: all that were written up to there stand there, the very same
 pub record IsNowhereDifferent (old : MirrorLogData) (rows : List RowData) : Type 0 where
   pub state : List RowData
-  pub is_state : IsStateAt old.log Pods (end_of old.log) state
+  pub is_state : IsStateAt old.log old.selection.resource (end_of old.log) state
   pub same : AreKept (end_of old.log) state rows
 
 abbrev pub Differs : MirrorLogData → List RowData → Option (List ℕ) → Type 0

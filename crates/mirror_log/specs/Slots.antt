@@ -3,7 +3,7 @@ use Rattle.std.specs.Prelude.{◌≡◌, ℕ, ◌<◌, ◌≤◌, nat_eq, List, 
 use Rattle.std.specs.List.Sorted.{IsPermutation}
 use Rattle.std.specs.Map.{lookup}
 use Rattle.std.specs.Ordering.{is_eq, nat_cmp}
-use Rattle.kube_meta.specs.declared.resources.Resource.TheVariants.{Pods}
+use Rattle.kube_meta.specs.declared.resources.Resource.{Resource}
 use Rattle.kube_meta.specs.Rows.{RowData, key_of}
 use Rattle.rev_log.specs.Changes.{ChangeData, RevisionData, IsRevision}
 use Rattle.mirror_log.specs.Bridges.{younger}
@@ -39,30 +39,30 @@ Adds old change new =
     (rev : ℕ) → slot_of new rev ≡ (if nat_eq change.rev rev then Some (slot_at old change.rev ++ change ∷ []) else slot_of old rev)
 
 -- a row is put
-abbrev pub put_of : RowData → ChangeData
-put_of row = record { rev = row.rev; resource = Pods; key = key_of row; new = Some row.obj }
+abbrev pub put_of : Resource → RowData → ChangeData
+put_of resource row = record { rev = row.rev; resource = resource; key = key_of row; new = Some row.obj }
 
 -- the younger rows are put
-abbrev pub puts : ℕ → List RowData → List ChangeData
-puts from rows = map put_of (younger from rows)
+abbrev pub puts : Resource → ℕ → List RowData → List ChangeData
+puts resource from rows = map (put_of resource) (younger from rows)
 
 -- one is removed at a revision
-abbrev pub removal_of : RowData → ℕ → ChangeData
-removal_of row rev = record { rev = rev; resource = Pods; key = key_of row; new = None }
+abbrev pub removal_of : Resource → RowData → ℕ → ChangeData
+removal_of resource row rev = record { rev = rev; resource = resource; key = key_of row; new = None }
 
 -- a removal at a revision behind the one and up to the other
-pub record IsRemoval (from to : ℕ) (change : ChangeData) : Type 0 where
-  pub pod : change.resource ≡ Pods
+pub record IsRemoval (resource : Resource) (from to : ℕ) (change : ChangeData) : Type 0 where
+  pub alone : change.resource ≡ resource
   pub none : change.new ≡ None
   pub above : from < change.rev
   pub within : change.rev ≤ to
 
 -- beside the changes so far, the slots have removals of these rows
-pub record Remove (from to : ℕ) (changes : List ChangeData) (rows : List RowData) (slots : SlotsData) : Type 0 where
+pub record Remove (resource : Resource) (from to : ℕ) (changes : List ChangeData) (rows : List RowData) (slots : SlotsData) : Type 0 where
   pub removed : List ChangeData
   pub hold : Hold slots (changes ++ removed)
   pub keys : map (λ change. change.key) removed ≡ map key_of rows
-  pub removals : All (IsRemoval from to) removed
+  pub removals : All (IsRemoval resource from to) removed
 
 -- the revision is that of a slot
 abbrev pub IsOfSlot : (ℕ × List ChangeData) → RevisionData → Type 0

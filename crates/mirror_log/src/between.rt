@@ -8,7 +8,7 @@ ghost use Rattle.mirror_log.specs.Slots.{Hold};
 use crate::BridgeNo;
 use crate::find::{are_kept, gone_rows};
 use crate::slots::{SlotNo, Slots, put_all, remove_all, revisions_of};
-use kube_meta::{Memory, Row};
+use kube_meta::{Memory, Resource, Row};
 use rev_log::Revision;
 use std::alloc::Global;
 use std::collections::BTreeMap;
@@ -20,11 +20,12 @@ fn no_slots(alloc: Global) -> Slots
     BTreeMap::new(alloc)
 }
 
-/// The revisions that take the pods of one revision to those of a later one, both in the order of keys. What was
-/// written since is put at its own revision, and what is gone is removed at the first revision with room. Revisions at
-/// which nothing changes aren't among them, however many there are.
+/// The revisions that take the objects of a resource at one revision to those at a later one, both in the order of
+/// keys. What was written since is put at its own revision, and what is gone is removed at the first revision with
+/// room. Revisions at which nothing changes aren't among them, however many there are.
 pub fn bridge(
     alloc: Global,
+    resource: Resource,
     from: u64,
     old: &[Row],
     to: u64,
@@ -35,7 +36,7 @@ pub fn bridge(
     requires old_rising { AreRising old.now }
     requires rising { AreRising rows.now }
     requires within { All (λ row. row.rev ≤ to) rows.now }
-    ensures bridges { IfOk result (λ revisions. Bridges from old.now to rows.now revisions.items) }
+    ensures bridges { IfOk result (λ revisions. Bridges resource from old.now to rows.now revisions.items) }
     ensures one_log { OnOk result (MayBeOfOneLog from old.now to rows.now) }
     ensures other_log { result ≡ Err BridgeNo.OtherLog → ¬ (MayBeOfOneLog from old.now to rows.now) }
 {
@@ -43,8 +44,8 @@ pub fn bridge(
         return Err(BridgeNo::OtherLog);
     }
     let mut slots = no_slots(alloc);
-    put_all(alloc, &mut slots, from, rows)?;
+    put_all(alloc, resource, &mut slots, from, rows)?;
     let gone = gone_rows(alloc, old, rows)?;
-    remove_all(alloc, &mut slots, from, to, &gone)?;
+    remove_all(alloc, resource, &mut slots, from, to, &gone)?;
     Ok(revisions_of(alloc, slots)?)
 }

@@ -1,7 +1,8 @@
 //! What a mirror takes in.
 
-ghost use Rattle.std.specs.Prelude.{◌≡◌, ℕ, ◌+◌, ◌-◌, ◌<◌, ◌≤◌, ◌^◌, List, [], ◌∷◌, length, map, fold, is_some, IfOk, OnOk, OnErr, true, false};
+ghost use Rattle.std.specs.Prelude.{◌≡◌, ◌⊎◌, ℕ, ◌+◌, ◌-◌, ◌<◌, ◌≤◌, ◌^◌, List, [], ◌∷◌, length, map, fold, is_some, IfOk, OnOk, OnErr, true, false};
 ghost use Rattle.kube_meta.specs.declared.resources.Resource.TheVariants.{Pods};
+ghost use Rattle.kube_meta.specs.declared.resources.Resource.{Resource};
 ghost use Rattle.rev_log.specs.Changes.{RevisionData};
 ghost use Rattle.rev_front.specs.Passes.{quiets};
 ghost use Rattle.rev_log.specs.Logs.{Log, IsLog, end_of, grown, quiet_at};
@@ -62,9 +63,10 @@ impl Intake {
     ) -> Result<Intake, Memory>
         requires gap { most_gap ≤ 2 ^ 62 }
         requires base { base ≤ 2 ^ 62 }
+        requires pods { (selection.resource ≡ Pods) ⊎ (rows.now ≡ []) }
         ensures is { IfOk result (λ intake. (intake.selection ≡ selection) × (intake.most_gap ≡ most_gap)
             × (intake.to ≡ base) × (intake.kept ≡ [])) }
-        ensures at { IfOk result (λ intake. IsAtEnd intake (opened_log base rows.now)) }
+        ensures at { IfOk result (λ intake. IsAtEnd selection.resource intake (opened_log base rows.now)) }
     {
         Ok(Intake {
             selection,
@@ -92,24 +94,24 @@ impl Intake {
 
     // Whether an object with this key stands at the end.
     fn stands(&self, key: &Key) -> bool
-        ensures { (log : Log) → IsAtEnd self.now log →
-            result ≡ is_some (row_at log Pods (end_of log) key.now) }
+        ensures { (log : Log) → IsAtEnd self.now.selection.resource self.now log →
+            result ≡ is_some (row_at log self.now.selection.resource (end_of log) key.now) }
     {
         self.keys.contains(key) && !tells(Kind::Added, &self.kept, key)
     }
 
     // Whether one stands once the lines that are kept are committed.
     fn will_stand(&self, key: &Key) -> bool
-        ensures { (log : Log) → IsAtEnd self.now log →
-            result ≡ is_some (fold (row_told key.now) (row_at log Pods (end_of log) key.now) self.now.kept) }
+        ensures { (log : Log) → IsAtEnd self.now.selection.resource self.now log →
+            result ≡ is_some (fold (row_told key.now) (row_at log self.now.selection.resource (end_of log) key.now) self.now.kept) }
     {
         self.keys.contains(key) && !tells(Kind::Deleted, &self.kept, key)
     }
 
     // Whether one stood before a revision.
     fn stood(&self, key: &Key, rev: u64) -> bool
-        ensures { (log : Log) → IsAtEnd self.now log →
-            result ≡ is_some (row_before log Pods self.now.kept rev key.now) }
+        ensures { (log : Log) → IsAtEnd self.now.selection.resource self.now log →
+            result ≡ is_some (row_before log self.now.selection.resource self.now.kept rev key.now) }
     {
         if self.to + 1 < rev {
             self.will_stand(key)
@@ -135,7 +137,7 @@ impl Intake {
 
     /// What is wrong first with an event, if anything.
     pub fn event_fault(&self, kind: Kind, obj: &Obj, rev: u64) -> Option<TakeNo>
-        ensures { (log : Log) → IsAtEnd self.now log →
+        ensures { (log : Log) → IsAtEnd self.now.selection.resource self.now log →
             result ≡ event_fault self.now.selection self.now.most_gap log self.now.kept (record { kind = kind; obj = obj.now; rev = rev }) }
     {
         if !self.selection.selects(obj)
@@ -169,8 +171,8 @@ impl Intake {
         requires new_key { is_repeated self.old.kept rev obj.key ≡ false }
         ensures kept { OnOk result (Keeps self.old (record { kind = kind; obj = obj; rev = rev }) self.new) }
         ensures same { OnErr result (self.new ≡ self.old) }
-        ensures at { OnOk result ((log : Log) → IsAtEnd self.old log →
-            intakes.fits_kind kind (is_some (row_at log Pods (end_of log) obj.key)) ≡ true → IsAtEnd self.new log) }
+        ensures at { OnOk result ((log : Log) → IsAtEnd self.old.selection.resource self.old log →
+            intakes.fits_kind kind (is_some (row_at log self.old.selection.resource (end_of log) obj.key)) ≡ true → IsAtEnd self.old.selection.resource self.new log) }
     {
         let key = obj.key.clone()?;
         let obj = Arc::new(alloc, obj)?;
@@ -186,11 +188,12 @@ impl Intake {
 
     // The changes that the lines make.
     fn changes(&self, alloc: Global) -> Result<Vec<Change>, Memory>
-        ensures { IfOk result (λ changes. changes.items ≡ map (change_told Pods) self.now.kept) }
+        ensures { IfOk result (λ changes. changes.items ≡ map (change_told self.now.selection.resource) self.now.kept) }
     {
+        let resource = self.selection.resource;
         let mut changes = Vec::new(alloc);
         for line in &self.kept {
-            let change = line.change()?;
+            let change = line.change(resource)?;
             changes.push(change)?;
         }
         Ok(changes)
@@ -198,7 +201,7 @@ impl Intake {
 
     /// The revision behind the end, of the lines that are kept; it has no change where none is.
     pub fn revision(&self, alloc: Global) -> Result<Revision, Memory>
-        ensures { IfOk result (IsRevisionTold Pods (self.now.to + 1) self.now.kept) }
+        ensures { IfOk result (IsRevisionTold self.now.selection.resource (self.now.to + 1) self.now.kept) }
     {
         let rev = self.to + 1;
         match Revision::new(rev, self.changes(alloc)?) {
@@ -213,9 +216,9 @@ impl Intake {
         requires onward { self.old.to < upto }
         requires last { upto ≤ 2 ^ 62 }
         ensures moves { IsClear self.old upto self.new }
-        ensures at { (log : Log) (revision : RevisionData) → IsAtEnd self.old log →
-            IsRevisionTold Pods (self.old.to + 1) self.old.kept revision →
-            IsAtEnd self.new (grown log (revision ∷ quiets quiet_at (self.old.to + 1) (upto - (self.old.to + 1)))) }
+        ensures at { (log : Log) (revision : RevisionData) → IsAtEnd self.old.selection.resource self.old log →
+            IsRevisionTold self.old.selection.resource (self.old.to + 1) self.old.kept revision →
+            IsAtEnd self.old.selection.resource self.new (grown log (revision ∷ quiets quiet_at (self.old.to + 1) (upto - (self.old.to + 1)))) }
     {
         take_out(&mut self.keys, Kind::Deleted, &self.kept);
         self.kept.clear();
@@ -227,8 +230,8 @@ impl Intake {
     pub fn begin_anew(&mut self, keys: Keys, to: u64)
         requires { to ≤ 2 ^ 62 }
         ensures clears { IsClear self.old to self.new }
-        ensures at { (log : Log) → to ≡ end_of log →
-            ((key : List ℕ) → has keys key ≡ is_some (row_at log Pods (end_of log) key)) → IsAtEnd self.new log }
+        ensures at { (resource : Resource) (log : Log) → to ≡ end_of log →
+            ((key : List ℕ) → has keys key ≡ is_some (row_at log resource (end_of log) key)) → IsAtEnd resource self.new log }
     {
         self.keys = keys;
         self.kept.clear();
@@ -238,7 +241,7 @@ impl Intake {
     /// Forgets the lines that are kept.
     pub fn forget(&mut self)
         ensures clears { IsClear self.old self.old.to self.new }
-        ensures at { (log : Log) → IsAtEnd self.old log → IsAtEnd self.new log }
+        ensures at { (log : Log) → IsAtEnd self.old.selection.resource self.old log → IsAtEnd self.old.selection.resource self.new log }
     {
         take_out(&mut self.keys, Kind::Added, &self.kept);
         self.kept.clear();

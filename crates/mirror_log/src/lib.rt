@@ -1,6 +1,6 @@
-//! The log of a mirror: the store that it feeds, and what its peer's lines make of it. What it keeps of the lines until
-//! their revision is whole stands in `intake`; the revisions that take the pods of one revision of a log to those of a
-//! later one, where only the two lists of rows are known, in `between`.
+//! The log of a mirror: the store that it feeds, and what its peer's lines make of it. What it keeps of the lines
+//! until their revision is whole stands in `intake`; the revisions that take the objects of one revision of a log to
+//! those of a later one, where only the two lists of rows are known, in `between`.
 #![tactic(auto)]
 
 mod between;

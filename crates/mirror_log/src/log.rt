@@ -1,6 +1,7 @@
 //! The log of a mirror.
 
-ghost use Rattle.std.specs.Prelude.{◌≡◌, ℕ, ◌+◌, ◌≤◌, ◌<◌, ◌^◌, List, [], ◌∷◌, All, IfOk, IfErr, OnOk, true, false};
+ghost use Rattle.std.specs.Prelude.{◌≡◌, ◌⊎◌, ℕ, ◌+◌, ◌≤◌, ◌<◌, ◌^◌, List, [], ◌∷◌, All, IfOk, IfErr, OnOk, true, false};
+ghost use Rattle.kube_meta.specs.declared.resources.Resource.TheVariants.{Pods};
 ghost use Rattle.kube_meta.specs.Rows.{AreRising};
 ghost use Rattle.rev_log.specs.Logs.{Log, IsLog, end_of};
 ghost use Rattle.select_all.specs.Streams.{TransitionData};
@@ -12,7 +13,7 @@ ghost use Rattle.mirror_log.specs.MirrorLogs.{Commits, Hears, HearsAlone};
 
 use crate::MirrorNo;
 use crate::intake::Intake;
-use kube_meta::{Memory, Obj, Row};
+use kube_meta::{Memory, Obj, Resource, Row};
 use rev_front::Blank;
 use rev_log::Revision;
 use select_all::{Kind, Selection};
@@ -51,8 +52,8 @@ impl<N: LogFacts, R: Wait + Copy> Model for MirrorLog<N, R> {
 }
 
 impl<N: LogFacts, R: Wait + Copy> MirrorLog<N, R> {
-    /// The log of a new store, from rows that stand at its base. No more than `most_gap` revisions without a line may
-    /// lie before one.
+    /// The log of a new store, from rows of pods, or none, that stand at its base. No more than `most_gap` revisions
+    /// without a line may lie before one.
     pub fn new(
         rt: R,
         alloc: Global,
@@ -72,6 +73,7 @@ impl<N: LogFacts, R: Wait + Copy> MirrorLog<N, R> {
         requires within { base ≤ 2 ^ 62 }
         requires history { 1 ≤ history }
         requires gap { most_gap ≤ 2 ^ 62 }
+        requires pods { (selection.resource ≡ Pods) ⊎ (rows.items ≡ []) }
         ensures { IfOk result (λ m. (m.selection ≡ selection) × (m.most_gap ≡ most_gap)
             × (m.log ≡ opened_log base rows.items) × (m.kept ≡ [])) }
     {
@@ -106,6 +108,13 @@ impl<N: LogFacts, R: Wait + Copy> MirrorLog<N, R> {
         ensures { result.now ≡ self.now.selection }
     {
         self.intake.selection()
+    }
+
+    /// Of which resource they are.
+    pub(crate) fn resource(&self) -> Resource
+        ensures { result ≡ self.now.selection.resource }
+    {
+        self.intake.selection().resource
     }
 
     // Commits all revisions up to one.

@@ -4,7 +4,6 @@ ghost use Rattle.std.specs.Prelude.{◌≡◌, IfOk};
 ghost use Rattle.mirror_log.specs.Intakes as intakes;
 ghost use Rattle.mirror_log.specs.Faults as faults;
 ghost use Rattle.mirror_law.specs.Mirrors.{change_told};
-ghost use Rattle.kube_meta.specs.declared.resources.Resource.TheVariants.{Pods};
 
 use crate::kinds::same_kind;
 use kube_meta::{Key, Memory, Obj, Resource};
@@ -37,9 +36,9 @@ impl Pending {
         self.obj.key == *key
     }
 
-    /// What the line makes of its object in the mirror's log.
-    pub(crate) fn change(&self) -> Result<Change, Memory>
-        ensures { IfOk result (λ change. change ≡ change_told Pods self.now) }
+    /// What the line makes of its object, one of this resource, in the mirror's log.
+    pub(crate) fn change(&self, resource: Resource) -> Result<Change, Memory>
+        ensures { IfOk result (λ change. change ≡ change_told resource self.now) }
     {
         let new = match self.kind {
             Kind::Added | Kind::Modified => Some(self.obj.clone()?),
@@ -47,7 +46,7 @@ impl Pending {
         };
         Ok(Change {
             rev: self.rev,
-            resource: Resource::Pods,
+            resource,
             key: self.obj.key.clone()?,
             new,
         })

@@ -1,7 +1,6 @@
 //! A mirror's log begins anew.
 
 ghost use Rattle.std.specs.Prelude.{◌≡◌, ℕ, ◌≤◌, ◌^◌, List, All, is_some, IfOk, IfErr};
-ghost use Rattle.kube_meta.specs.declared.resources.Resource.TheVariants.{Pods};
 ghost use Rattle.kube_meta.specs.Rows.{AreRising};
 ghost use Rattle.rev_log.specs.Logs.{Log, grown, end_of};
 ghost use Rattle.rev_log.specs.States.{IsStateAt, row_at};
@@ -15,7 +14,7 @@ use crate::between::bridge;
 use crate::find::{first_other, key_of};
 use crate::keys::{Keys, keys_of};
 use crate::{MirrorLog, RebaseNo};
-use kube_meta::{Key, Resource, Row};
+use kube_meta::{Key, Row};
 use rev_log::Revision;
 use std::sync::Wait;
 use up_api::{LogFacts, Upstream};
@@ -35,8 +34,9 @@ impl<N: LogFacts, R: Wait + Copy> MirrorLog<N, R> {
         if base < to {
             return Err(RebaseNo::Behind { to });
         }
+        let of = self.resource();
         let old = self.rows_at_end()?;
-        let revisions = bridge(self.alloc, to, &old, base, rows)?;
+        let revisions = bridge(self.alloc, of, to, &old, base, rows)?;
         let keys = keys_of(self.alloc, rows)?;
         self.commit_all(revisions, base, keys)
     }
@@ -60,17 +60,18 @@ impl<N: LogFacts, R: Wait + Copy> MirrorLog<N, R> {
         }
     }
 
-    // The pods at the log's end.
+    // The objects at the log's end.
     fn rows_at_end(&mut self) -> Result<Vec<Row>, RebaseNo>
         ensures learns { Learns self.old.told self.new.told }
         ensures rests { Rests self.old self.new }
-        ensures rows { IfOk result (λ rows. IsStateAt self.old.log Pods (end_of self.old.log) rows.items) }
+        ensures rows { IfOk result (λ rows. IsStateAt self.old.log self.old.selection.resource (end_of self.old.log) rows.items) }
         ensures refused { IfErr result (λ why. IsStoreRefusal self.old why self.new) }
     {
         let to = self.intake.to();
+        let of = self.resource();
         // What a pass is, the proof learns where it reads it.
         self.told.shown();
-        let rows = self.door.list_at(Resource::Pods, to, &mut self.told)?;
+        let rows = self.door.list_at(of, to, &mut self.told)?;
         Ok(rows)
     }
 
@@ -84,9 +85,8 @@ impl<N: LogFacts, R: Wait + Copy> MirrorLog<N, R> {
     ) -> Result<u64, RebaseNo>
         requires rise { AreAscending (end_of self.old.log) revisions.items base }
         requires last { base ≤ 2 ^ 62 }
-        requires pods { All (λ revision. All (λ change. change.resource ≡ Pods) revision.changes) revisions.items }
         requires keys { let log : Log = grown self.old.log (filled (end_of self.old.log) revisions.items base) in
-            (key : List ℕ) → has keys key ≡ is_some (row_at log Pods (end_of log) key) }
+            (key : List ℕ) → has keys key ≡ is_some (row_at log self.old.selection.resource (end_of log) key) }
         ensures learns { Learns self.old.told self.new.told }
         ensures commits { CommitsAll self.old revisions.items base result self.new }
     {

@@ -141,43 +141,44 @@ fn add(alloc: Global, slots: &mut Slots, change: Change) -> Result<(), SlotNo>
 }
 
 // The change that puts a row.
-fn put_of(row: &Row) -> Result<Change, Memory>
-    ensures { IfOk result (λ change. change ≡ put_of row.now) }
+fn put_of(resource: Resource, row: &Row) -> Result<Change, Memory>
+    ensures { IfOk result (λ change. change ≡ put_of resource row.now) }
 {
     Ok(Change {
         rev: row.rev,
-        resource: Resource::Pods,
+        resource,
         key: row.obj.key.clone()?,
         new: Some(row.obj.clone()?),
     })
 }
 
 // The change that removes a row at a revision.
-fn removal_of(row: &Row, rev: u64) -> Result<Change, Memory>
-    ensures { IfOk result (λ change. change ≡ removal_of row.now rev) }
+fn removal_of(resource: Resource, row: &Row, rev: u64) -> Result<Change, Memory>
+    ensures { IfOk result (λ change. change ≡ removal_of resource row.now rev) }
 {
     Ok(Change {
         rev,
-        resource: Resource::Pods,
+        resource,
         key: row.obj.key.clone()?,
         new: None,
     })
 }
 
-/// Puts the rows that are younger than a revision, each at its own.
+/// Puts the rows of a resource that are younger than a revision, each at its own.
 pub(crate) fn put_all(
     alloc: Global,
+    resource: Resource,
     slots: &mut Slots,
     from: u64,
     rows: &[Row],
 ) -> Result<(), SlotNo>
     requires empty { Hold slots.old.entries [] }
-    ensures put { OnOk result (Hold slots.new.entries (puts from rows.now)) }
+    ensures put { OnOk result (Hold slots.new.entries (puts resource from rows.now)) }
     ensures full { result ≡ Err SlotNo.Full → (rev : ℕ) × (from < rev) × (64 < length (written_at rev rows.now)) }
 {
     for row in rows {
         if row.rev > from {
-            let change = put_of(row)?;
+            let change = put_of(resource, row)?;
             match add(alloc, slots, change) {
                 Ok(()) => {}
                 Err(why) => return Err(why),
@@ -204,9 +205,10 @@ fn with_room(slots: &Slots, from: u64, to: u64) -> u64
     to + 1
 }
 
-/// Removes rows behind a revision and up to another one, each at the first that has room.
+/// Removes rows of a resource behind a revision and up to another one, each at the first that has room.
 pub(crate) fn remove_all(
     alloc: Global,
+    resource: Resource,
     slots: &mut Slots,
     from: u64,
     to: u64,
@@ -214,7 +216,7 @@ pub(crate) fn remove_all(
 ) -> Result<(), SlotNo>
     requires onward { from ≤ to }
     requires last { to ≤ 2 ^ 62 }
-    ensures removed { OnOk result ((changes : List ChangeData) → Hold slots.old.entries changes → Remove from to changes rows.now slots.new.entries) }
+    ensures removed { OnOk result ((changes : List ChangeData) → Hold slots.old.entries changes → Remove resource from to changes rows.now slots.new.entries) }
     ensures full { result ≡ Err SlotNo.Full → (changes : List ChangeData) → Hold slots.old.entries changes →
         64 * (to - from) < length changes + length rows.now }
 {
@@ -224,7 +226,7 @@ pub(crate) fn remove_all(
         if at > to {
             return Err(SlotNo::Full);
         }
-        let change = removal_of(row, at)?;
+        let change = removal_of(resource, row, at)?;
         match add(alloc, slots, change) {
             Ok(()) => {}
             Err(why) => return Err(why),

@@ -14,8 +14,8 @@ loop-init g c = (
     [],
     [],
     sym (prepended-nil (g.S.Source.left c.args.source.now)),
-    subst (λ (it : GatheredData). ArePages [] it [] c.new_reader-reader.result.at.kept) (sym c.requires)
-        (subst (λ (r : ReaderData). ArePages [] no_pages [] r.kept) (sym c.new_reader-reader.ensures) pages_begin),
+    subst (λ (it : GatheredData). ArePages c.args.selection.now.resource [] it [] c.new_reader-reader.result.at.kept) (sym c.requires)
+        (subst (λ (r : ReaderData). ArePages c.args.selection.now.resource [] no_pages [] r.kept) (sym c.new_reader-reader.ensures) pages_begin),
     written-nothing (g.K.Sink.written c.args.sink.now) (g.K.Sink.faults c.args.sink.now),
   ),
   refl,

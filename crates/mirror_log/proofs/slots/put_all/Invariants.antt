@@ -4,4 +4,4 @@ use Rattle.mirror_log.proofs.slots.put_all.Given as goal
 
 -- the rows so far are put
 abbrev pub invariant-loop-row : goal.invariant-loop-row
-invariant-loop-row l = Hold l.slots.entries (puts l.from (take l.row-index l.rows))
+invariant-loop-row l = Hold l.slots.entries (puts l.resource l.from (take l.row-index l.rows))

@@ -37,7 +37,7 @@ loop-row-preserved c =
     let above : c.args.from < c.with_room-at.result = omega (arith, c.loop-row.invariant.after, c.with_room-at.ensures.onward) in
     let within : c.with_room-at.result ≤ c.args.to = omega (arith, c.if-at-to.false) in
     let place : c.in_ok-change.change.rev ≡ c.with_room-at.result = ap (λ (x : ChangeData). x.rev) c.in_ok-change.ensures in
-    let adds : Adds c.loop-row.slots.entries (removal_of c.row-item.result c.with_room-at.result) c.add.new.slots.entries =
+    let adds : Adds c.loop-row.slots.entries (removal_of c.args.resource c.row-item.result c.with_room-at.result) c.add.new.slots.entries =
     subst (λ x. Adds c.loop-row.slots.entries x c.add.new.slots.entries) c.in_ok-change.ensures c.in-Ok.ensures.added in
     record {
       after = above;
@@ -50,4 +50,4 @@ loop-row-preserved c =
 
 pub returns-clause-removed : goal.returns-clause-removed
 returns-clause-removed c = λ changes hold.
-    subst (λ (rows : List RowData). Remove c.args.from c.args.to changes rows c.loop-row.slots.entries) (take_whole c.args.rows.now c.loop-row.row-index c.loop-row-test.false) (c.loop-row.invariant.removed changes hold)
+    subst (λ (rows : List RowData). Remove c.args.resource c.args.from c.args.to changes rows c.loop-row.slots.entries) (take_whole c.args.rows.now c.loop-row.row-index c.loop-row-test.false) (c.loop-row.invariant.removed changes hold)

@@ -9,5 +9,5 @@ invariant-loop-row l = record {
   after : l.from < l.at;
   inside : l.at ≤ l.to + 1;
   full : (rev : ℕ) → l.from < rev → rev < l.at → 64 ≤ length (slot_at l.slots.entries rev);
-  removed : (changes : List ChangeData) → Hold l.fn.slots.entries changes → Remove l.from l.to changes (take l.row-index l.rows) l.slots.entries;
+  removed : (changes : List ChangeData) → Hold l.fn.slots.entries changes → Remove l.resource l.from l.to changes (take l.row-index l.rows) l.slots.entries;
 }

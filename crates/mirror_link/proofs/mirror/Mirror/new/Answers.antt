@@ -1,7 +1,13 @@
 -- The log begins with the opening, whose lines it follows.
-use Rattle.std.proofs.Common.{◌∙◌}
+use Rattle.std.proofs.Common.{inl, ap, ◌∙◌}
+use Rattle.select_all.specs.declared.selection.Selection.{Selection}
 use Rattle.mirror_link.proofs.BeginLemmas.{begun_follows, opened_is}
 use Rattle.mirror_link.proofs.mirror.Mirror.new.Goals as goal
+
+pub new-requires-clause-pods : goal.new-requires-clause-pods
+new-requires-clause-pods g c =
+    let parts = c.into_parts-selection.ensures in
+    inl (ap (λ (s : Selection). s.resource) parts.whose.0 ∙ parts.lawful.pods)
 
 pub returns-clause-follows : goal.returns-clause-follows
 returns-clause-follows g c =

@@ -15,7 +15,7 @@ returns-clause-at c = λ log revision at told.
     let n : ℕ = c.args.upto - (to + 1) in
     let next : IntakeData = record { selection = c.self.inside.selection; most_gap = c.self.inside.most_gap; to = to + 1; keys = c.take_out.new.keys; kept = c.clear.new.self.items } in
     let new : IntakeData = record { selection = c.self.inside.selection; most_gap = c.self.inside.most_gap; to = c.args.upto; keys = c.take_out.new.keys; kept = c.clear.new.self.items } in
-    let first : IsAtEnd next (grown log (revision ∷ [])) =
+    let first : IsAtEnd c.args.self.now.selection.resource next (grown log (revision ∷ [])) =
     commits c.args.self.now (subst IsIntake c.self.view_is c.self.invariant) log at next revision told refl c.clear.ensures.items
     (λ key.
     c.take_out.ensures key
@@ -25,5 +25,5 @@ returns-clause-at c = λ log revision at told.
     let all : (log.revisions ++ revision ∷ []) ++ quiets quiet_at (end_of (grown log (revision ∷ []))) n ≡ log.revisions ++ revision ∷ quiets quiet_at (to + 1) n =
     append_assoc log.revisions (revision ∷ []) (quiets quiet_at (end_of (grown log (revision ∷ []))) n)
     ∙ ap (λ (m : ℕ). log.revisions ++ revision ∷ quiets quiet_at m n) end in
-    subst (λ (revisions : List RevisionData). IsAtEnd new (record log { revisions = revisions })) all
+    subst (λ (revisions : List RevisionData). IsAtEnd c.args.self.now.selection.resource new (record log { revisions = revisions })) all
     (passed_over next new (grown log (revision ∷ [])) n (omega (arith, c.requires.onward)) c.clear.ensures.items c.clear.ensures.items (λ key. refl) first)

@@ -20,7 +20,7 @@ invariant_of-self-2 g c =
     holds_added g.N.LogFacts.base g.N.LogFacts.mirror c.self.inside.told c.begin_anew.new.told c.self.inside.intake c.shown.ensures.lawful c.in_ok-end.ensures.learns.extends c.self.invariant c.args.self.now c.self.view_is
     c.args.revisions.items c.args.base c.begin_anew-2.new.self heard c.in_ok-end.ensures.reply.2 c.requires.rise cleared
     c.requires.last
-    (c.begin_anew-2.ensures.at (grown c.args.self.now.log (filled (end_of c.args.self.now.log) c.args.revisions.items c.args.base)) (c.in_ok-end.ensures.reply.0 ∙ end) c.requires.keys)
+    (c.begin_anew-2.ensures.at c.args.self.now.selection.resource (grown c.args.self.now.log (filled (end_of c.args.self.now.log) c.args.revisions.items c.args.base)) (c.in_ok-end.ensures.reply.0 ∙ end) c.requires.keys)
 
 pub returns-clause-commits : goal.returns-clause-commits
 returns-clause-commits g c =
