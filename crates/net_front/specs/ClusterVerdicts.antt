@@ -1,4 +1,4 @@
--- What a server does about a cluster whose pods it mirrors.
+-- What a server does about a cluster of which it mirrors a resource.
 use Rattle.std.specs.Prelude.{ℕ, ◌==◌, List, Bool, true, false, not, Option, Some, None, if◌then◌else◌}
 use Rattle.std.specs.Str.{bytes_eq}
 use Rattle.cluster_link.specs.declared.refusal.ClusterNo.{ClusterNo}
@@ -8,10 +8,10 @@ use Rattle.net_front.specs.declared.cluster_verdicts.Halt.TheVariants as halt
 use Rattle.net_front.specs.declared.cluster_verdicts.Turn.{Turn}
 use Rattle.net_front.specs.declared.cluster_verdicts.Turn.TheVariants.{Onward, Again, Anew, End}
 use Rattle.net_front.specs.declared.cluster_verdicts.Wanted.{Wanted}
-use Rattle.net_front.specs.declared.cluster_verdicts.Wanted.TheVariants.{Stream, Pods}
+use Rattle.net_front.specs.declared.cluster_verdicts.Wanted.TheVariants.{Stream, Objects}
 
 -- behind a refused request for a stream, or a refused line. Where the cluster no longer keeps what comes next, or tells
--- an error, its pods are listed anew. What the connection, the cluster or memory may have brought on is tried again. A
+-- an error, its objects are listed anew. What the connection, the cluster or memory may have brought on is tried again. A
 -- line that is none would come again, and another log isn't followed: that is the end
 abbrev pub stream_turn : ClusterNo → Turn
 stream_turn (Refused code) = if code == 410 then Anew else Again
@@ -52,7 +52,7 @@ list_turn (Passed to at) = End
 -- by what was asked for
 abbrev pub turn_of : Wanted → ClusterNo → Turn
 turn_of Stream why = stream_turn why
-turn_of Pods why = list_turn why
+turn_of Objects why = list_turn why
 
 -- whether the uid that was read is another one than that which was known; one that isn't known, or may not be read,
 -- isn't
@@ -90,7 +90,7 @@ abbrev pub wanted_next : Halt → Wanted → Wanted
 wanted_next (halt.Ended end) before = before
 wanted_next halt.Onward before = Stream
 wanted_next (halt.Again why) before = before
-wanted_next (halt.Anew why) before = Pods
+wanted_next (halt.Anew why) before = Objects
 wanted_next (halt.End last) before = before
 
 -- whether it is asked for at once: a cluster that ended its stream as it was asked to, gave a list, or answered that it

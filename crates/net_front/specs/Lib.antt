@@ -4,5 +4,6 @@ pub mod Rests
 pub mod Helpers
 pub mod Verdicts
 pub mod Probes
+pub mod Starts
 pub mod Paces
 pub mod ClusterVerdicts

@@ -1,25 +1,21 @@
-//! The server of a cluster's mirror.
+//! The server of a cluster's mirrors.
 
-ghost use Rattle.std.specs.Prelude.{◌≡◌, ◌↔◌, ◌<◌, ◌≤◌, ◌^◌, true, IsTrue, IfOk, IfSome};
+ghost use Rattle.std.specs.Prelude.{◌≡◌, ◌↔◌, ◌<◌, ◌≤◌, ◌^◌, IsTrue, IfErr, IfOk, IfSome};
 ghost use Rattle.net_front.specs.Ends.{MayEnd, most_connections};
+ghost use Rattle.net_front.specs.Starts.{IsOfStart};
 ghost use Rattle.up_api.specs.Settings.{AreInRange};
 
-use crate::cluster_following::{follow_beside, uid_of};
-use crate::counts::Counts;
-use crate::followed::Followed;
+use crate::cluster_following::uid_of;
 use crate::intake::Served;
 use crate::redial::Redial;
-use crate::server::serve_front;
-use crate::shared::{Desk, Front, Host};
+use crate::replicas::serve_lists;
+use crate::shared::Host;
 use bells::Rung;
-use client_api::Resources;
-use cluster_link::ClusterMirror;
+use cluster_link::{ClusterList, ClusterNo};
 use edge_io::{Clock, Listener};
-use kube_meta::{Memory, Text};
-use shared_client::Cacher;
+use kube_meta::{Memory, Resource, Text};
 use std::alloc::Global;
-use std::thread;
-use up_api::{LogFacts, Settings};
+use up_api::Settings;
 
 /// A cluster: the port of the proxy to it, and the uid by which it is told from others, where that was read.
 #[derive(Debug, Drop)]
@@ -35,53 +31,83 @@ impl Cluster {
         let uid = uid_of(alloc, redial, port).unwrap_or(None);
         Cluster { port, uid }
     }
+
+    /// The same, for another follower.
+    pub fn again(&self, alloc: Global) -> Result<Cluster, Memory> {
+        let uid = match &self.uid {
+            Some(uid) => Some(Text::new(alloc, uid.as_str())?),
+            None => None,
+        };
+        Ok(Cluster {
+            port: self.port,
+            uid,
+        })
+    }
 }
 
-/// Serves as [`serve_open`](crate::serve_open) does, over the caches of a mirror's log, and follows the cluster beside
-/// that, over connections by `redial`: a stream from the mirror's end, and where that is over the next. Where the
-/// cluster can't tell what comes next, the mirror begins anew with a list, and forgets what was before. It is told
-/// there what becomes of that. The following ends where a line can't be heard, or it is another cluster; the server
-/// goes on with what it has then. While it doesn't follow, it isn't ready, and once that has ended it isn't live.
+/// The list of each resource of a cluster that is to be mirrored.
+#[derive(Debug, Drop)]
+pub struct Lists {
+    pub pods: Option<ClusterList>,
+    pub config_maps: Option<ClusterList>,
+    pub deployments: Option<ClusterList>,
+}
+
+/// Why a cluster isn't served: this resource has no mirror, or there was no memory.
+#[derive(Clone, Copy, Debug, PartialEq, Eq)]
+pub struct Unserved {
+    pub resource: Resource,
+    pub why: ClusterNo,
+}
+
+/// How a server serves.
+#[derive(Clone, Copy, Debug, PartialEq, Eq)]
+pub struct Manner {
+    /// Threads that serve from the start on: 1 to 64.
+    pub workers: usize,
+    /// Connections that are served at once.
+    pub open: u64,
+    /// Connections that are accepted; 0 for as many as can be counted.
+    pub connections: u64,
+    /// To how many bytes the kept changes of each log are bounded.
+    pub history_bytes: u64,
+    /// How each session is set.
+    pub settings: Settings,
+}
+
+/// Serves as [`serve_open`](crate::serve_open) does, but each resource over the caches of a log of its own. Those that
+/// were listed begin with their list, and are followed beside that, each by itself over connections of its own: a
+/// stream from the mirror's end, and where that is over the next. Where the cluster can't tell what comes next, the
+/// mirror begins anew with a list, and forgets what was before. It is told there what becomes of that. The following of
+/// a resource ends where a line can't be heard, or it is another cluster; the server goes on with what it has then.
+/// While it doesn't follow each, it isn't ready, and once it has ended following one it isn't live.
 ///
-/// Whoever follows waits for the cluster's bytes, so this may return only once the next line has come.
-pub fn serve_cluster<L, N, D: Redial + Send, T: Clock + Send, R: Host>(
+/// Whoever follows waits for the cluster's bytes, so this may return only once the next line of each has come.
+pub fn serve_cluster<L, W: Redial + Send + Drop, T: Clock + Send, R: Host>(
     rt: &R,
     alloc: Global,
     listener: L,
-    cacher: &Cacher<N, R>,
-    mirror: &mut ClusterMirror<N, R>,
-    redial: &mut D,
-    cluster: &mut Cluster,
+    lists: &Lists,
+    cluster: &Cluster,
+    redial: &W,
     clock: &mut T,
-    workers: usize,
-    open: u64,
-    connections: u64,
-    settings: &Settings,
-) -> Result<Served<L>, Memory>
+    manner: Manner,
+) -> Result<Served<L>, Unserved>
 where
     L: Listener + Send + Drop,
-    N: LogFacts + Send + Sync,
     L::T: Rung,
-    requires workers { (1 ≤ workers) × (workers ≤ 64) }
-    requires connections { connections ≤ 2 ^ 62 }
+    requires workers { (1 ≤ manner.workers) × (manner.workers ≤ 64) }
+    requires connections { manner.connections ≤ 2 ^ 62 }
     requires fresh { (L.given listener ≡ 0) × (L.faults listener ≡ 0) }
-    requires settings { AreInRange settings.now }
-    requires mirror { N.mirror ≡ true }
+    requires settings { AreInRange manner.settings }
     ensures accepted { IfOk result (λ served. served.accepted ≡ L.given served.listener) }
-    ensures within { IfOk result (λ served. served.accepted ≤ most_connections connections) }
+    ensures within { IfOk result (λ served. served.accepted ≤ most_connections manner.connections) }
     ensures faulted { IfOk result (λ served. IsTrue served.faulted ↔ (0 < L.faults served.listener)) }
     ensures ended { IfOk result
-        (λ served. MayEnd (L.over served.listener) (L.faults served.listener) served.accepted (most_connections connections)) }
+        (λ served. MayEnd (L.over served.listener) (L.faults served.listener) served.accepted (most_connections manner.connections)) }
     ensures sessions { IfOk result (λ served. IfSome served.sessions (λ sessions. sessions ≡ served.accepted)) }
+    ensures settings { IfOk result (λ served. served.settings ≡ manner.settings) }
+    ensures start { IfErr result (λ no. IsOfStart no.why) }
 {
-    let followed = Some(Followed::new(Resources::PODS, clock.now().ms));
-    let desk = Desk::new(alloc, followed, Counts::new(alloc)?, *settings);
-    let front = Front::new(rt, alloc, cacher, desk);
-    let following = ||
-        requires { AreInRange front.desk.settings }
-    { follow_beside(&front, mirror, redial, cluster) };
-    let serving = ||
-        requires { (L.given listener ≡ 0) × (L.faults listener ≡ 0) × (connections ≤ 2 ^ 62) }
-    { serve_front(&front, listener, clock, workers, open, connections) };
-    thread::join(rt, following, serving).1
+    serve_lists(rt, alloc, listener, lists, cluster, redial, clock, manner)
 }

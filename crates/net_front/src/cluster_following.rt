@@ -1,4 +1,4 @@
-//! The following of a cluster whose pods a server mirrors, which runs beside the workers until they have ended.
+//! The following of a resource of a cluster that a server mirrors, which runs beside the workers until they have ended.
 
 use crate::cluster::Cluster;
 use crate::cluster_verdicts::{
@@ -16,6 +16,14 @@ use std::alloc::Global;
 use std::sync::Wait;
 use up_api::LogFacts;
 
+/// Who follows a resource of a cluster: its mirror, connections to the cluster, and which that is.
+#[derive(Drop)]
+pub struct Follower<N: LogFacts, R: Wait + Copy, W> {
+    pub mirror: ClusterMirror<N, R>,
+    pub redial: W,
+    pub cluster: Cluster,
+}
+
 /// Why a cluster is followed no more. Whoever follows can't end without one of these.
 #[derive(Clone, Copy, Debug)]
 pub enum Left {
@@ -25,42 +33,49 @@ pub enum Left {
     Lost(Final),
 }
 
-/// Follows the cluster as [`follow`] does, beside the sessions. What it came to was said by then.
-pub fn follow_beside<N: LogFacts, R: Wait + Copy, D: Redial>(
-    front: &Front<'_, N, R>,
-    mirror: &mut ClusterMirror<N, R>,
-    redial: &mut D,
-    cluster: &mut Cluster,
+/// Follows a resource of the cluster as [`follow`] does, beside the sessions, if it is to be followed. What it came to
+/// was said by then.
+pub fn follow_beside<P: LogFacts, M: LogFacts, D: LogFacts, N: LogFacts, R: Wait + Copy, W: Redial>(
+    front: &Front<'_, P, M, D, R>,
+    resource: Resource,
+    follower: &mut Option<Follower<N, R, W>>,
 ) {
-    let _left = follow(front, mirror, redial, cluster);
+    if let Some(follower) = follower {
+        let _left = follow(front, resource, follower);
+    }
 }
 
 /// Hears the lines of the cluster, over one connection by `redial` after the other, until the sessions have ended, or
 /// sooner: where a line can't be heard, or it is another cluster. Where the cluster can't tell what comes next, the
 /// mirror begins anew with a list. It says what becomes of that, and takes down whether the cluster is followed: it
 /// isn't from an attempt in vain on.
-pub fn follow<N: LogFacts, R: Wait + Copy, D: Redial>(
-    front: &Front<'_, N, R>,
-    mirror: &mut ClusterMirror<N, R>,
-    redial: &mut D,
-    cluster: &mut Cluster,
+pub fn follow<P: LogFacts, M: LogFacts, D: LogFacts, N: LogFacts, R: Wait + Copy, W: Redial>(
+    front: &Front<'_, P, M, D, R>,
+    resource: Resource,
+    follower: &mut Follower<N, R, W>,
 ) -> Left {
+    let Follower {
+        mirror,
+        redial,
+        cluster,
+    } = follower;
     let (port, from) = (cluster.port, mirror.to());
-    front.heard_reply(Resource::Pods, from);
-    redial.tell(ClusterNews::Follows { port, from }, None);
-    let mut course = Course::new();
+    front.heard_reply(resource, from);
+    redial.tell(resource, ClusterNews::Follows { port, from }, None);
+    let mut course = Course::new(resource);
     for _ in front.rt.forever() {
         let halt = ask(front, mirror, redial, cluster, &mut course);
         match halt {
             Halt::Ended(end) => return Left::Ended(end),
             Halt::End(last) => {
-                front.end_following(Resource::Pods);
-                redial.tell(ClusterNews::Ends { why: last.why() }, mirror.finding());
+                front.end_following(resource);
+                let why = last.why();
+                redial.tell(resource, ClusterNews::Ends { why }, mirror.finding());
                 return Left::Lost(last);
             }
             Halt::Onward | Halt::Again(_) | Halt::Anew(_) => {
                 if let Some(news) = course.turn(halt) {
-                    redial.tell(news, None);
+                    redial.tell(resource, news, None);
                 }
             }
         }
@@ -68,9 +83,11 @@ pub fn follow<N: LogFacts, R: Wait + Copy, D: Redial>(
     unreachable!()
 }
 
-// What the cluster is asked for, how long it is left alone before, and for which cause it isn't heard, as was told.
+// Of which resource and what the cluster is asked for, how long it is left alone before, and for which cause it isn't
+// heard, as was told.
 #[derive(Clone, Copy)]
 struct Course {
+    resource: Resource,
     wanted: Wanted,
     pace: Pace,
     told: Option<ClusterWhy>,
@@ -78,10 +95,11 @@ struct Course {
 
 impl Course {
     // The stream is asked for at once.
-    fn new() -> Course {
+    fn new(resource: Resource) -> Course {
         let mut pace = Pace::new();
         pace.skip();
         Course {
+            resource,
             wanted: Wanted::Stream,
             pace,
             told: None,
@@ -125,10 +143,10 @@ impl Course {
 }
 
 // Asks once, and hears what comes of it.
-fn ask<N: LogFacts, R: Wait + Copy, D: Redial>(
-    front: &Front<'_, N, R>,
+fn ask<P: LogFacts, M: LogFacts, D: LogFacts, N: LogFacts, R: Wait + Copy, W: Redial>(
+    front: &Front<'_, P, M, D, R>,
     mirror: &mut ClusterMirror<N, R>,
-    redial: &mut D,
+    redial: &mut W,
     cluster: &mut Cluster,
     course: &mut Course,
 ) -> Halt {
@@ -136,20 +154,21 @@ fn ask<N: LogFacts, R: Wait + Copy, D: Redial>(
     if let Some(end) = front.end.seen() {
         return Halt::Ended(end);
     }
-    if let Some(halt) = meet(front, redial, cluster) {
+    if let Some(halt) = meet(front, redial, cluster, course.resource) {
         return halt;
     }
     match course.wanted {
         Wanted::Stream => ask_stream(front, mirror, redial, cluster.port, course),
-        Wanted::Pods => ask_pods(front, mirror, redial, cluster.port),
+        Wanted::Objects => ask_objects(front, mirror, redial, cluster.port, course.resource),
     }
 }
 
 // Tells the cluster from another one by its uid. The first that is read counts.
-fn meet<N: LogFacts, R: Wait + Copy, D: Redial>(
-    front: &Front<'_, N, R>,
-    redial: &mut D,
+fn meet<P: LogFacts, M: LogFacts, D: LogFacts, R: Wait + Copy, W: Redial>(
+    front: &Front<'_, P, M, D, R>,
+    redial: &mut W,
     cluster: &mut Cluster,
+    resource: Resource,
 ) -> Option<Halt> {
     match uid_of(front.alloc, redial, cluster.port) {
         Ok(uid) => {
@@ -159,12 +178,12 @@ fn meet<N: LogFacts, R: Wait + Copy, D: Redial>(
             }
             halt
         }
-        Err(halt) => Some(in_vain(front, halt)),
+        Err(halt) => Some(in_vain(front, resource, halt)),
     }
 }
 
 /// The uid of the cluster behind a port, where it has one that may be read.
-pub fn uid_of<D: Redial>(alloc: Global, redial: &mut D, port: u16) -> Result<Option<Text>, Halt> {
+pub fn uid_of<W: Redial>(alloc: Global, redial: &mut W, port: u16) -> Result<Option<Text>, Halt> {
     let Ok((mut source, mut sink)) = redial.redial(port) else {
         return Err(halt_of_silence());
     };
@@ -178,63 +197,68 @@ pub fn uid_of<D: Redial>(alloc: Global, redial: &mut D, port: u16) -> Result<Opt
 }
 
 // Takes down that the cluster isn't followed, where it was asked in vain.
-fn in_vain<N: LogFacts, R: Wait + Copy>(front: &Front<'_, N, R>, halt: Halt) -> Halt {
+fn in_vain<P: LogFacts, M: LogFacts, D: LogFacts, R: Wait + Copy>(
+    front: &Front<'_, P, M, D, R>,
+    resource: Resource,
+    halt: Halt,
+) -> Halt {
     if let Halt::Again(_) = halt {
-        front.lost_peer(Resource::Pods);
+        front.lost_peer(resource);
     }
     halt
 }
 
-// Asks for all pods, and takes the mirror to them.
-fn ask_pods<N: LogFacts, R: Wait + Copy, D: Redial>(
-    front: &Front<'_, N, R>,
+// Asks for all objects, and takes the mirror to them.
+fn ask_objects<P: LogFacts, M: LogFacts, D: LogFacts, N: LogFacts, R: Wait + Copy, W: Redial>(
+    front: &Front<'_, P, M, D, R>,
     mirror: &mut ClusterMirror<N, R>,
-    redial: &mut D,
+    redial: &mut W,
     port: u16,
+    resource: Resource,
 ) -> Halt {
     let Ok((mut source, mut sink)) = redial.redial(port) else {
-        return in_vain(front, halt_of_silence());
+        return in_vain(front, resource, halt_of_silence());
     };
     match mirror.take_list(&mut source, &mut sink) {
         Ok(()) => {
-            front.began_anew(Resource::Pods, mirror.to());
+            front.began_anew(resource, mirror.to());
             // Watches that rest below the new base hear so that they are lost.
             front.desk.doorbell.ring();
             Halt::Onward
         }
-        Err(no) => in_vain(front, halt_of(Wanted::Pods, no)),
+        Err(no) => in_vain(front, resource, halt_of(Wanted::Objects, no)),
     }
 }
 
 // Asks for the stream, and hears its lines.
-fn ask_stream<N: LogFacts, R: Wait + Copy, D: Redial>(
-    front: &Front<'_, N, R>,
+fn ask_stream<P: LogFacts, M: LogFacts, D: LogFacts, N: LogFacts, R: Wait + Copy, W: Redial>(
+    front: &Front<'_, P, M, D, R>,
     mirror: &mut ClusterMirror<N, R>,
-    redial: &mut D,
+    redial: &mut W,
     port: u16,
     course: &mut Course,
 ) -> Halt {
     let Ok((mut source, mut sink)) = redial.redial(port) else {
-        return in_vain(front, halt_of_silence());
+        return in_vain(front, course.resource, halt_of_silence());
     };
     match mirror.resume(&mut source, &mut sink) {
         Ok(()) => {
-            front.found_peer(Resource::Pods);
+            front.found_peer(course.resource);
             if let Some(news) = course.find(mirror.to()) {
-                redial.tell(news, None);
+                redial.tell(course.resource, news, None);
             }
-            hear_lines(front, mirror, &mut source, &mut course.pace)
+            hear_lines(front, mirror, &mut source, course)
         }
-        Err(no) => in_vain(front, halt_of(Wanted::Stream, no)),
+        Err(no) => in_vain(front, course.resource, halt_of(Wanted::Stream, no)),
     }
 }
 
 // Hears one line after the other, and rings for each, so that quiet watches of the mirror hear of it.
-fn hear_lines<N: LogFacts, R: Wait + Copy, S: Source>(
-    front: &Front<'_, N, R>,
+fn hear_lines<P: LogFacts, M: LogFacts, D: LogFacts, N: LogFacts, R: Wait + Copy, S: Source>(
+    front: &Front<'_, P, M, D, R>,
     mirror: &mut ClusterMirror<N, R>,
     source: &mut S,
-    pace: &mut Pace,
+    course: &mut Course,
 ) -> Halt {
     for _ in front.rt.forever() {
         if let Some(end) = front.end.seen() {
@@ -242,13 +266,13 @@ fn hear_lines<N: LogFacts, R: Wait + Copy, S: Source>(
         }
         match mirror.next(source) {
             Ok(Heard::Line { to }) => {
-                pace.forget();
-                front.heard_line(Resource::Pods, to);
+                course.pace.forget();
+                front.heard_line(course.resource, to);
                 front.desk.doorbell.ring();
             }
             Ok(Heard::Ended { to }) => {
-                front.heard_reply(Resource::Pods, to);
-                pace.shorten();
+                front.heard_reply(course.resource, to);
+                course.pace.shorten();
                 return Halt::Onward;
             }
             Err(no) => return halt_of(Wanted::Stream, no),

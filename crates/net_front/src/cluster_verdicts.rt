@@ -1,4 +1,4 @@
-//! What a server does about a cluster whose pods it mirrors.
+//! What a server does about a cluster of which it mirrors a resource.
 
 ghost use Rattle.std.specs.Prelude.{◌≡◌, Some};
 ghost use Rattle.net_front.specs.ClusterVerdicts as verdicts;
@@ -12,8 +12,8 @@ use kube_meta::Text;
 pub enum Wanted {
     /// The stream of what comes behind the mirror's end.
     Stream,
-    /// All its pods as they are now.
-    Pods,
+    /// All its objects as they are now.
+    Objects,
 }
 
 /// Why a cluster isn't heard.
@@ -45,7 +45,7 @@ pub enum Turn {
     Onward,
     /// It asks for the same again, in a while.
     Again,
-    /// It asks for all pods.
+    /// It asks for all objects.
     Anew,
     /// It follows the cluster no more.
     End,
@@ -134,7 +134,7 @@ fn after(wanted: Wanted, no: ClusterNo) -> Turn
 {
     match wanted {
         Wanted::Stream => after_line(no),
-        Wanted::Pods => after_list(no),
+        Wanted::Objects => after_list(no),
     }
 }
 
@@ -199,7 +199,7 @@ pub fn wanted_next(halt: Halt, before: Wanted) -> Wanted
 {
     match halt {
         Halt::Onward => Wanted::Stream,
-        Halt::Anew(_) => Wanted::Pods,
+        Halt::Anew(_) => Wanted::Objects,
         Halt::Ended(_) | Halt::Again(_) | Halt::End(_) => before,
     }
 }

@@ -27,7 +27,7 @@ pub enum Left {
 
 /// Follows the peer as [`follow`] does, beside the sessions. What it came to was said by then.
 pub fn follow_beside<N: LogFacts, R: Wait + Copy, S: Source, D: Redial>(
-    front: &Front<'_, N, R>,
+    front: &Front<'_, N, N, N, R>,
     mirror: &mut Mirror<N, R>,
     source: &mut S,
     redial: &mut D,
@@ -41,7 +41,7 @@ pub fn follow_beside<N: LogFacts, R: Wait + Copy, S: Source, D: Redial>(
 /// what comes next, the mirror begins anew. It says what becomes of that, and takes down whether the peer is followed:
 /// it isn't from an attempt in vain on.
 pub fn follow<N: LogFacts, R: Wait + Copy, S: Source, D: Redial>(
-    front: &Front<'_, N, R>,
+    front: &Front<'_, N, N, N, R>,
     mirror: &mut Mirror<N, R>,
     source: &mut S,
     redial: &mut D,
@@ -94,7 +94,7 @@ enum Ask {
 
 // Asks until the stream goes on, and hears its lines.
 fn follow_again<N: LogFacts, R: Wait + Copy, D: Redial>(
-    front: &Front<'_, N, R>,
+    front: &Front<'_, N, N, N, R>,
     mirror: &mut Mirror<N, R>,
     redial: &mut D,
     port: u16,
@@ -176,7 +176,7 @@ fn standing<D: Redial>(alloc: Global, at: u64, redial: &mut D, port: u16) -> Sta
 // Hears one line after the other, and rings for each, so that quiet watches of the mirror hear of it. The first forgets
 // how often the peer was asked in vain.
 fn hear_lines<N: LogFacts, R: Wait + Copy, S: Source>(
-    front: &Front<'_, N, R>,
+    front: &Front<'_, N, N, N, R>,
     mirror: &mut Mirror<N, R>,
     source: &mut S,
     pace: &mut Pace,

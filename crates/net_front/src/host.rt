@@ -1,6 +1,6 @@
 //! Threads that accept and serve: workers, which stay, and helpers, which a host makes as they are wanted.
 
-ghost use Rattle.up_api.specs.Settings.{AreInRange};
+ghost use Rattle.std.specs.Prelude.{◌≡◌, true, IsSome};
 
 use crate::helpers::{HostStep, host_step, step_without};
 use crate::intake::Limit;
@@ -28,20 +28,23 @@ pub enum Stay {
 /// Makes helpers while few threads wait for a connection and fewer than `open` live, until none will come or, where no
 /// thread lives, none can be made. It returns once the last helper has ended. Where connections wait for a thread, or
 /// for memory, it says so once, until a thread was made again.
-pub fn keep_house<B: Limit + Send + Sync, L, N: LogFacts + Send + Sync, R: Host>(
-    front: &Front<'_, N, R>,
+pub fn keep_house<B: Limit + Send + Sync, L, P, M, D, R: Host>(
+    front: &Front<'_, P, M, D, R>,
     gate: &Gate<L, B>,
     open: u64,
 )
 where
     L: Listener + Send + Drop,
     L::T: Rung,
+    P: LogFacts + Send + Sync,
+    M: LogFacts + Send + Sync,
+    D: LogFacts + Send + Sync,
 {
     thread::scope(
         thread::scope_env(),
         front.rt,
         move |scope|
-            requires { AreInRange front.now.desk.settings }
+            requires { IsSome front.now.desk.followed → P.mirror ≡ true }
         {
             let mut lacking = 0;
             let mut is_said = false;
@@ -60,7 +63,7 @@ where
                     HostStep::Make => {
                         front.house.enter();
                         let helping = move ||
-                            requires { AreInRange front.now.desk.settings }
+                            requires { IsSome front.now.desk.followed → P.mirror ≡ true }
                         { work(front, gate, Stay::WhileWanted) };
                         let made = Builder::new()
                             .stack_size(STACK)
@@ -91,17 +94,20 @@ fn say_once<R: Host>(rt: &R, is_said: &mut bool, what: &str) {
 }
 
 /// Runs so many workers, this thread being one of them.
-pub fn work_side_by_side<B: Limit + Send + Sync, L, N: LogFacts + Send + Sync, R: Host>(
-    front: &Front<'_, N, R>,
+pub fn work_side_by_side<B: Limit + Send + Sync, L, P, M, D, R: Host>(
+    front: &Front<'_, P, M, D, R>,
     gate: &Gate<L, B>,
     workers: usize,
 ) -> Result<(), Memory>
 where
     L: Listener + Send + Drop,
     L::T: Rung,
+    P: LogFacts + Send + Sync,
+    M: LogFacts + Send + Sync,
+    D: LogFacts + Send + Sync,
 {
     let worker = |_number: usize|
-        requires { AreInRange front.now.desk.settings }
+        requires { IsSome front.now.desk.followed → P.mirror ≡ true }
     {
         front.house.enter();
         work(front, gate, Stay::ToTheEnd)
@@ -112,12 +118,14 @@ where
 
 // Accepts and serves one connection after the other, for as long as it stays, and tells how many they were. Whoever
 // calls it has entered the house.
-fn work<B, L, N, R>(front: &Front<'_, N, R>, gate: &Gate<L, B>, stay: Stay)
+fn work<B, L, P, M, D, R>(front: &Front<'_, P, M, D, R>, gate: &Gate<L, B>, stay: Stay)
 where
     B: Limit,
     L: Listener,
     L::T: Rung,
-    N: LogFacts,
+    P: LogFacts,
+    M: LogFacts,
+    D: LogFacts,
     R: Wait + Copy,
 {
     let part = gate.tally.lock(front.rt).split();
@@ -133,8 +141,8 @@ where
 
 // It ends, and waits for no connection, where none will come, where there is no memory for a client, or where many
 // others wait and it needn't stay.
-fn serve_on<B, L, N, R>(
-    front: &Front<'_, N, R>,
+fn serve_on<B, L, P, M, D, R>(
+    front: &Front<'_, P, M, D, R>,
     gate: &Gate<L, B>,
     stay: Stay,
     tally: &mut Tally<B>,
@@ -143,7 +151,9 @@ where
     B: Limit,
     L: Listener,
     L::T: Rung,
-    N: LogFacts,
+    P: LogFacts,
+    M: LogFacts,
+    D: LogFacts,
     R: Wait + Copy,
 {
     for _ in front.rt.forever() {

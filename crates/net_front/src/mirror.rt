@@ -58,15 +58,28 @@ where
     ensures ended { IfOk result
         (λ served. MayEnd (L.over served.listener) (L.faults served.listener) served.accepted (most_connections connections)) }
     ensures sessions { IfOk result (λ served. IfSome served.sessions (λ sessions. sessions ≡ served.accepted)) }
+    ensures settings { IfOk result (λ served. served.settings ≡ settings.now) }
 {
     let followed = Some(Followed::new(Resources::PODS, clock.now().ms));
-    let desk = Desk::new(alloc, followed, Counts::new(alloc)?, *settings);
-    let front = Front::new(rt, alloc, cacher, desk);
+    let desk = Desk::new(alloc, followed, Counts::new(alloc)?);
+    let front = Front::<N, N, N, R>::new(rt, alloc, cacher, desk);
     let following = ||
-        requires { AreInRange front.desk.settings }
+        requires { N.mirror ≡ true }
     { follow_beside(&front, mirror, source, redial, port) };
     let serving = ||
-        requires { (L.given listener ≡ 0) × (L.faults listener ≡ 0) × (connections ≤ 2 ^ 62) }
-    { serve_front(&front, listener, clock, workers, open, connections) };
-    thread::join(rt, following, serving).1
+        requires { (L.given listener ≡ 0) × (L.faults listener ≡ 0) × (connections ≤ 2 ^ 62) × AreInRange settings.now }
+    {
+        serve_front(
+            &front,
+            listener,
+            clock,
+            workers,
+            open,
+            connections,
+            settings,
+        )
+    };
+    let outcome = thread::join(rt, following, serving).1;
+    drop(front);
+    outcome
 }

@@ -1,12 +1,14 @@
 //! The pump, which feeds the caches and wakes the watches that they told something.
 
+use crate::caches::{Others, Told};
 use crate::end::End;
 use crate::shared::Desk;
-use bells::{Bell, NO_PEER};
+use bells::{Bell, Calls, NO_PEER};
 use edge_io::Clock;
+use kube_meta::Memory;
 use shared_client::Cacher;
 use std::alloc::Global;
-use std::sync::{Arc, Wait};
+use std::sync::Wait;
 use up_api::LogFacts;
 
 /// Behind more rings than this the pump gathers: writes that come fast to many watches are told together.
@@ -18,19 +20,19 @@ const GATHER_MS: u64 = 1;
 /// Feeds the caches, tells them and the desk the time and rings for the lanes that were told, by turns, until `end` is
 /// there and the bell rung. Where all watches were ended it rings for all connections. Where there is no memory for a
 /// pass it does not run: lists and watches follow the log themselves.
-pub fn pump<N: LogFacts, T: Clock, R: Wait + Copy>(
+pub fn pump<P: LogFacts, M: LogFacts, D: LogFacts, T: Clock, R: Wait + Copy>(
     rt: &R,
     alloc: Global,
-    cacher: &Cacher<N, R>,
+    cacher: &Cacher<P, R>,
+    others: Option<&Others<M, D, R>>,
     clock: &mut T,
     desk: &Desk,
     end: &End,
 ) {
     let (doorbell, disconnects) = (&desk.doorbell, &desk.disconnects);
-    let Ok(mut told) = cacher.pass() else {
+    let (Ok(mut told), Ok(mut others_told)) = (cacher.pass(), pass_of(others)) else {
         return;
     };
-    let mut calls = Vec::new(alloc);
     let silence = Bell::new();
     let mut ended = disconnects.count();
     doorbell.begin();
@@ -47,8 +49,10 @@ pub fn pump<N: LogFacts, T: Clock, R: Wait + Copy>(
         let now_ms = clock.now().ms;
         desk.tell_time(now_ms);
         cacher.tick(now_ms);
+        let mut calls = Calls::new(alloc);
         let _ = cacher.feed(&mut told, &mut calls);
-        if ring_all(&mut calls) > FEW_CALLS {
+        feed_others(others, &mut others_told, now_ms, &mut calls);
+        if calls.ring_all() > FEW_CALLS {
             silence.rest(rt, 0, &NO_PEER, GATHER_MS);
         }
         doorbell.rest(rt, count);
@@ -56,12 +60,28 @@ pub fn pump<N: LogFacts, T: Clock, R: Wait + Copy>(
     doorbell.end();
 }
 
-// Rings all these bells, and lets them go. Answers how many they were.
-fn ring_all(calls: &mut Vec<Arc<Bell, Global>>) -> usize {
-    let count = calls.len();
-    for bell in calls.iter() {
-        bell.ring();
+// A pass of each further log.
+fn pass_of<M: LogFacts, D: LogFacts, R: Wait + Copy>(
+    others: Option<&Others<M, D, R>>,
+) -> Result<Option<Told<M, D>>, Memory> {
+    match others {
+        Some(others) => Ok(Some(others.pass()?)),
+        None => Ok(None),
     }
-    calls.clear();
-    count
+}
+
+// The same for the caches of the further logs.
+fn feed_others<M: LogFacts, D: LogFacts, R: Wait + Copy>(
+    others: Option<&Others<M, D, R>>,
+    told: &mut Option<Told<M, D>>,
+    now_ms: u64,
+    calls: &mut Calls,
+) {
+    let Some(others) = others else {
+        return;
+    };
+    others.tick(now_ms);
+    if let Some(told) = told {
+        others.feed(told, calls);
+    }
 }

@@ -3,6 +3,7 @@
 use crate::cluster_verdicts::ClusterWhy;
 use cluster_link::Finding;
 use edge_io::{Failed, Sink, Source};
+use kube_meta::Resource;
 
 /// What has become of following a peer.
 #[derive(Clone, Copy, Debug, PartialEq, Eq)]
@@ -19,14 +20,14 @@ pub enum News {
     Ends { why: &'static str },
 }
 
-/// What has become of following a cluster.
+/// What has become of following a resource of a cluster.
 #[derive(Clone, Copy, Debug, PartialEq, Eq)]
 pub enum ClusterNews {
     /// The cluster behind this port is followed, from a revision on.
     Follows { port: u16, from: u64 },
     /// It isn't heard, for this cause. It is asked again.
     IsAway { why: ClusterWhy },
-    /// It can't tell what comes next, for this cause. Its pods are listed anew.
+    /// It can't tell what comes next, for this cause. Its objects are listed anew.
     BeginsAnew { why: ClusterWhy },
     /// It is followed again, from a revision on.
     FollowsAgain { from: u64 },
@@ -45,9 +46,12 @@ pub trait Redial {
     /// Connects to a port of this machine's loopback address.
     fn redial(&mut self, port: u16) -> Result<(Self::S, Self::K), Failed>;
 
+    /// The same, for who follows this resource.
+    fn again(&self, resource: Resource) -> Self;
+
     /// Tells an operator.
     fn say(&mut self, news: News);
 
-    /// Tells an operator of a cluster, and of what was found in its last text that was refused.
-    fn tell(&mut self, _news: ClusterNews, _finding: Option<&Finding>) {}
+    /// Tells an operator of a resource of a cluster, and of what was found in its last text that was refused.
+    fn tell(&mut self, _resource: Resource, _news: ClusterNews, _finding: Option<&Finding>) {}
 }

@@ -1,25 +1,27 @@
 //! A client that rings the bell behind each write, counts its answers, notes when its watch has something to do, and
 //! ends all watches where it is asked to.
 
-ghost use Rattle.std.specs.Prelude.{◌≡◌, true, false, None, IsSome};
+ghost use Rattle.std.specs.Prelude.{◌≡◌, ◌⊎◌, true, false, None, IsSome};
 ghost use Rattle.net_front.specs.Probes.{facts_at};
 
 use crate::probes::{is_live, is_ready};
 use crate::schedule::Schedule;
 use crate::shared::Desk;
 use client_api::{Begun, Client, Got, ListNo, Listed, Resources, Took};
-use kube_meta::Memory;
+use kube_meta::{Memory, Resource};
 use list_rules::{GetAsk, ListAsk};
-use metrics::{Metrics, Verb};
+use metrics::{CacheMetrics, Metrics, Verb};
 use up_store::{OpNo, Operate, Transaction, TxWriteNo, WriteAsk, WriteNo, Written};
 use watch_rules::WatchAsk;
 
-/// A client, what its connection shares with others, and the schedule of its watch.
+/// A client, what its connection shares with others, the schedule of its watch, and the one resource that its log has,
+/// where each has a log of its own.
 #[derive(Drop)]
 pub struct RingingClient<'a, C: Client> {
     client: C,
     desk: &'a Desk,
     schedule: &'a Schedule,
+    own: Option<Resource>,
     ghost mirrored: { IsSome desk.now.followed → C.mirror ≡ true },
 }
 
@@ -34,6 +36,30 @@ impl<'a, C: Client> RingingClient<'a, C> {
             client,
             desk,
             schedule,
+            own: None,
+        }
+    }
+
+    /// The same, of a log that has this resource alone.
+    pub fn of(self, own: Resource) -> RingingClient<'a, C>
+        ensures client { result.client ≡ self.entry.client }
+        ensures desk { result.desk.now ≡ self.entry.desk.now }
+    {
+        RingingClient {
+            client: self.client,
+            desk: self.desk,
+            schedule: self.schedule,
+            own: Some(own),
+        }
+    }
+
+    // What its log's cache of a resource tells, if that is one of its own which the server has.
+    fn shown(&self, cache: Option<CacheMetrics>, resource: Resource) -> Option<CacheMetrics>
+        ensures { (result ≡ None) ⊎ (result ≡ cache) }
+    {
+        match self.own {
+            Some(own) if own != resource || !self.desk.resources().has(own) => None,
+            _ => cache,
         }
     }
 
@@ -107,7 +133,7 @@ impl<'a, C: Client> Client for RingingClient<'a, C> {
     }
 
     fn watch(&mut self, ask: &WatchAsk) -> Result<Begun, ListNo> {
-        self.schedule.set(ask, &self.desk.settings);
+        self.schedule.set(ask);
         let answer = self.client.watch(ask);
         self.desk
             .counts
@@ -141,9 +167,17 @@ impl<'a, C: Client> Client for RingingClient<'a, C> {
     }
 
     fn metrics(&mut self) -> Result<Metrics, Memory> {
-        let mut told = self.client.metrics()?;
-        told.served = Some(self.desk.counts.served(self.desk.mirrors()?)?);
-        Ok(told)
+        let told = self.client.metrics()?;
+        let served = Some(self.desk.counts.served(self.desk.mirrors()?)?);
+        Ok(Metrics {
+            revision: told.revision,
+            floor: told.floor,
+            generation: told.generation,
+            pods: self.shown(told.pods, Resource::Pods),
+            config_maps: self.shown(told.config_maps, Resource::ConfigMaps),
+            deployments: self.shown(told.deployments, Resource::Deployments),
+            served,
+        })
     }
 
     fn resources(&self) -> Resources {

@@ -9,28 +9,30 @@ use watch_rules::WatchAsk;
 /// a session is told what the watch asks for, and leaves it here for the clock. No contract speaks of it.
 #[derive(Drop)]
 pub struct Schedule {
+    settings: Settings,
     timeout_ms: Cell<u64>,
     bookmark_ms: Cell<Option<u64>>,
 }
 
 impl Schedule {
-    /// That of a watch of no time and no bookmarks.
-    pub fn new() -> Schedule {
+    /// That of a watch of no time and no bookmarks, in a session that is set so.
+    pub fn new(settings: Settings) -> Schedule {
         Schedule {
+            settings,
             timeout_ms: Cell::new(0),
             bookmark_ms: Cell::new(None),
         }
     }
 
     /// Takes down what a watch asks for.
-    pub fn set(&self, ask: &WatchAsk, settings: &Settings) {
+    pub fn set(&self, ask: &WatchAsk) {
         let seconds = match ask.timeout_s {
-            0 => settings.timeout_s,
+            0 => self.settings.timeout_s,
             asked => asked,
         };
         self.timeout_ms.set(seconds.saturating_mul(1000));
         self.bookmark_ms.set(match ask.bookmarks {
-            true => Some(settings.bookmark_ms),
+            true => Some(self.settings.bookmark_ms),
             false => None,
         });
     }

@@ -1,6 +1,6 @@
 //! A server: its threads side by side, and what it promises of its connections.
 
-ghost use Rattle.std.specs.Prelude.{◌≡◌, ◌↔◌, ◌<◌, ◌≤◌, ◌^◌, IsTrue, IfOk, IfSome};
+ghost use Rattle.std.specs.Prelude.{◌≡◌, ◌↔◌, ◌<◌, ◌≤◌, ◌^◌, true, IsSome, IsTrue, IfOk, IfSome};
 ghost use Rattle.net_front.specs.Ends.{MayEnd, most_connections};
 ghost use Rattle.up_api.specs.Settings.{AreInRange};
 
@@ -56,6 +56,7 @@ where
     ensures ended { IfOk result
         (λ served. MayEnd (L.over served.listener) (L.faults served.listener) served.accepted (most_connections connections)) }
     ensures sessions { IfOk result (λ served. IfSome served.sessions (λ sessions. sessions ≡ served.accepted)) }
+    ensures settings { IfOk result (λ served. served.settings ≡ settings.now) }
 {
     serve_open(
         rt,
@@ -95,53 +96,113 @@ where
     ensures ended { IfOk result
         (λ served. MayEnd (L.over served.listener) (L.faults served.listener) served.accepted (most_connections connections)) }
     ensures sessions { IfOk result (λ served. IfSome served.sessions (λ sessions. sessions ≡ served.accepted)) }
+    ensures settings { IfOk result (λ served. served.settings ≡ settings.now) }
 {
-    let desk = Desk::new(alloc, None, Counts::new(alloc)?, *settings);
-    let front = Front::new(rt, alloc, cacher, desk);
-    serve_front(&front, listener, clock, workers, open, connections)
+    let desk = Desk::new(alloc, None, Counts::new(alloc)?);
+    let front = Front::<N, N, N, R>::new(rt, alloc, cacher, desk);
+    let outcome = serve_front(
+        &front,
+        listener,
+        clock,
+        workers,
+        open,
+        connections,
+        settings,
+    );
+    drop(front);
+    outcome
 }
 
 /// The same, over what its threads share.
-pub(crate) fn serve_front<L, N: LogFacts + Send + Sync, T: Clock + Send, R: Host>(
-    front: &Front<'_, N, R>,
+pub(crate) fn serve_front<L, P, M, D, T: Clock + Send, R: Host>(
+    front: &Front<'_, P, M, D, R>,
     listener: L,
     clock: &mut T,
     workers: usize,
     open: u64,
     connections: u64,
+    settings: &Settings,
 ) -> Result<Served<L>, Memory>
 where
     L: Listener + Send + Drop,
     L::T: Rung,
+    P: LogFacts + Send + Sync,
+    M: LogFacts + Send + Sync,
+    D: LogFacts + Send + Sync,
     requires connections { connections ≤ 2 ^ 62 }
     requires fresh { (L.given listener ≡ 0) × (L.faults listener ≡ 0) }
+    requires settings { AreInRange settings.now }
     ensures accepted { IfOk result (λ served. served.accepted ≡ L.given served.listener) }
     ensures within { IfOk result (λ served. served.accepted ≤ most_connections connections) }
     ensures faulted { IfOk result (λ served. IsTrue served.faulted ↔ (0 < L.faults served.listener)) }
     ensures ended { IfOk result
         (λ served. MayEnd (L.over served.listener) (L.faults served.listener) served.accepted (most_connections connections)) }
     ensures sessions { IfOk result (λ served. IfSome served.sessions (λ sessions. sessions ≡ served.accepted)) }
+    ensures settings { IfOk result (λ served. served.settings ≡ settings.now) }
 {
     let limit = if connections == 0 { MOST } else { connections };
     let blank = Blank::new(PARTS);
-    serve_up_to::<Brand, L, N, T, R>(front, blank, listener, clock, workers, open, limit)
+    serve_up_to::<Brand, L, P, M, D, T, R>(
+        front, blank, listener, clock, workers, open, limit, settings,
+    )
 }
 
-// The same, up to a limit that `B` names, and with its ledger.
-fn serve_up_to<B: Limit + Send + Sync, L, N: LogFacts + Send + Sync, T: Clock + Send, R: Host>(
-    front: &Front<'_, N, R>,
+/// The same, and this beside that, in a thread of its own.
+pub(crate) fn serve_while<F: FnOnce() + Send, L, P, M, D, T: Clock + Send, R: Host>(
+    front: &Front<'_, P, M, D, R>,
+    beside: F,
+    listener: L,
+    clock: &mut T,
+    workers: usize,
+    open: u64,
+    connections: u64,
+    settings: &Settings,
+) -> Result<Served<L>, Memory>
+where
+    L: Listener + Send + Drop,
+    L::T: Rung,
+    P: LogFacts + Send + Sync,
+    M: LogFacts + Send + Sync,
+    D: LogFacts + Send + Sync,
+    requires beside { F.pre beside }
+    requires connections { connections ≤ 2 ^ 62 }
+    requires fresh { (L.given listener ≡ 0) × (L.faults listener ≡ 0) }
+    requires settings { AreInRange settings.now }
+    ensures accepted { IfOk result (λ served. served.accepted ≡ L.given served.listener) }
+    ensures within { IfOk result (λ served. served.accepted ≤ most_connections connections) }
+    ensures faulted { IfOk result (λ served. IsTrue served.faulted ↔ (0 < L.faults served.listener)) }
+    ensures ended { IfOk result
+        (λ served. MayEnd (L.over served.listener) (L.faults served.listener) served.accepted (most_connections connections)) }
+    ensures sessions { IfOk result (λ served. IfSome served.sessions (λ sessions. sessions ≡ served.accepted)) }
+    ensures settings { IfOk result (λ served. served.settings ≡ settings.now) }
+{
+    let serving = ||
+        requires { (L.given listener ≡ 0) × (L.faults listener ≡ 0) × (connections ≤ 2 ^ 62) × AreInRange settings.now }
+    { serve_front(front, listener, clock, workers, open, connections, settings) };
+    thread::join(front.rt, beside, serving).1
+}
+
+// The same, up to a limit and in settings that `B` names, and with its ledger.
+fn serve_up_to<B: Limit + Send + Sync, L, P, M, D, T: Clock + Send, R: Host>(
+    front: &Front<'_, P, M, D, R>,
     blank: Blank,
     listener: L,
     clock: &mut T,
     workers: usize,
     open: u64,
     limit: u64,
+    settings: &Settings,
 ) -> Result<Served<L>, Memory>
 where
     L: Listener + Send + Drop,
     L::T: Rung,
+    P: LogFacts + Send + Sync,
+    M: LogFacts + Send + Sync,
+    D: LogFacts + Send + Sync,
     requires limit { limit ≡ B.limit }
     requires few { limit ≤ 2 ^ 62 }
+    requires set { settings.now ≡ B.settings }
+    requires settings { AreInRange settings.now }
     requires name { blank.name ≡ B.name }
     requires parts { (blank.parts ≡ B.parts) × (B.parts ≡ 2 ^ 62) }
     requires fresh { (L.given listener ≡ 0) × (L.faults listener ≡ 0) }
@@ -151,10 +212,11 @@ where
     ensures ended { IfOk result
         (λ served. MayEnd (L.over served.listener) (L.faults served.listener) served.accepted limit) }
     ensures sessions { IfOk result (λ served. IfSome served.sessions (λ sessions. sessions ≡ served.accepted)) }
+    ensures settings { IfOk result (λ served. served.settings ≡ settings.now) }
 {
     let (book, share) = blank.open::<B>();
     let gate: Gate<L, B> = Gate {
-        intake: Mutex::new(Intake::new(listener, limit, book)),
+        intake: Mutex::new(Intake::new(listener, limit, *settings, book)),
         tally: Mutex::new(Tally::new(share, PARTS)),
     };
     serve_together(front, &gate, clock, workers, open)?;
@@ -164,8 +226,8 @@ where
 
 // Runs the threads that serve, and the pump beside them, which hears of the end once all sessions have ended. Where no
 // thread can be made for it the pump comes last, and ends at once.
-fn serve_together<B: Limit + Send + Sync, L, N: LogFacts + Send + Sync, T: Clock + Send, R: Host>(
-    front: &Front<'_, N, R>,
+fn serve_together<B: Limit + Send + Sync, L, P, M, D, T: Clock + Send, R: Host>(
+    front: &Front<'_, P, M, D, R>,
     gate: &Gate<L, B>,
     clock: &mut T,
     workers: usize,
@@ -174,21 +236,25 @@ fn serve_together<B: Limit + Send + Sync, L, N: LogFacts + Send + Sync, T: Clock
 where
     L: Listener + Send + Drop,
     L::T: Rung,
+    P: LogFacts + Send + Sync,
+    M: LogFacts + Send + Sync,
+    D: LogFacts + Send + Sync,
 {
     let pumping = ||
-        requires { AreInRange front.now.desk.settings }
+        requires { IsSome front.now.desk.followed → P.mirror ≡ true }
     {
         pump(
             front.rt,
             front.alloc,
             front.cacher,
+            front.others,
             clock,
             &front.desk,
             &front.end,
         )
     };
     let serving = ||
-        requires { AreInRange front.now.desk.settings }
+        requires { IsSome front.now.desk.followed → P.mirror ≡ true }
     {
         let outcome = serve_beside(front, gate, workers, open);
         front.end.come();
@@ -199,8 +265,8 @@ where
 }
 
 // Runs the workers, and the host beside them.
-fn serve_beside<B: Limit + Send + Sync, L, N: LogFacts + Send + Sync, R: Host>(
-    front: &Front<'_, N, R>,
+fn serve_beside<B: Limit + Send + Sync, L, P, M, D, R: Host>(
+    front: &Front<'_, P, M, D, R>,
     gate: &Gate<L, B>,
     workers: usize,
     open: u64,
@@ -208,12 +274,15 @@ fn serve_beside<B: Limit + Send + Sync, L, N: LogFacts + Send + Sync, R: Host>(
 where
     L: Listener + Send + Drop,
     L::T: Rung,
+    P: LogFacts + Send + Sync,
+    M: LogFacts + Send + Sync,
+    D: LogFacts + Send + Sync,
 {
     let hosting = ||
-        requires { AreInRange front.now.desk.settings }
+        requires { IsSome front.now.desk.followed → P.mirror ≡ true }
     { keep_house(front, gate, open) };
     let working = ||
-        requires { AreInRange front.now.desk.settings }
+        requires { IsSome front.now.desk.followed → P.mirror ≡ true }
     { work_side_by_side(front, gate, workers) };
     thread::join(front.rt, hosting, working).1?;
     match front.house.lacking() {
@@ -223,13 +292,16 @@ where
 }
 
 // Accepts and serves in this thread alone, until the server may end.
-fn serve_rest<B: Limit, L: Listener + Drop, N: LogFacts, R: Wait + Copy>(
-    front: &Front<'_, N, R>,
+fn serve_rest<B: Limit, L: Listener + Drop, P, M, D, R: Wait + Copy>(
+    front: &Front<'_, P, M, D, R>,
     mut intake: Intake<L, B>,
     mut tally: Tally<B>,
 ) -> Result<Served<L>, Memory>
 where
     L::T: Rung,
+    P: LogFacts,
+    M: LogFacts,
+    D: LogFacts,
     requires parts { B.parts ≡ 2 ^ 62 }
     ensures accepted { IfOk result (λ served. served.accepted ≡ L.given served.listener) }
     ensures within { IfOk result (λ served. served.accepted ≤ B.limit) }
@@ -237,6 +309,7 @@ where
     ensures ended { IfOk result
         (λ served. MayEnd (L.over served.listener) (L.faults served.listener) served.accepted B.limit) }
     ensures sessions { IfOk result (λ served. IfSome served.sessions (λ sessions. sessions ≡ served.accepted)) }
+    ensures settings { IfOk result (λ served. served.settings ≡ B.settings) }
 {
     for _ in front.rt.forever() {
         if intake.may_end() {

@@ -2,8 +2,8 @@
 
 ghost use Rattle.std.specs.Prelude.{◌≡◌, true, IsSome};
 ghost use Rattle.net_front.specs.Probes.{resources_of};
-ghost use Rattle.up_api.specs.Settings.{AreInRange};
 
+use crate::caches::Others;
 use crate::counts::Counts;
 use crate::disconnects::Disconnects;
 use crate::doorbell::Doorbell;
@@ -21,7 +21,7 @@ use std::alloc::Global;
 use std::io::Eprint;
 use std::sync::{Mutex, Wait};
 use std::thread::Threads;
-use up_api::{LogFacts, Settings};
+use up_api::LogFacts;
 
 /// What a server needs of the runtime.
 pub trait Host: Threads + Wait + Eprint + Copy + Send + Sync {}
@@ -29,35 +29,25 @@ pub trait Host: Threads + Wait + Eprint + Copy + Send + Sync {}
 impl<R: Threads + Wait + Eprint + Copy + Send + Sync> Host for R {}
 
 /// What the connections of a server share beside its log: the peers that mirrors' logs follow, the counts for
-/// monitors, the settings, the bell of the pump, and what ends all watches.
+/// monitors, the bell of the pump, and what ends all watches.
 #[derive(Drop)]
 pub struct Desk {
     pub alloc: Global,
     pub followed: Option<Followed>,
     pub counts: Counts,
-    pub settings: Settings,
     pub doorbell: Doorbell,
     pub disconnects: Disconnects,
-    // Closures repeat this, since what they capture may be sent to a thread only where it is such a type's fact.
-    ghost ranged: { AreInRange settings },
 }
 
 impl Desk {
     /// That of a server where nobody accepts yet.
-    pub fn new(
-        alloc: Global,
-        followed: Option<Followed>,
-        counts: Counts,
-        settings: Settings,
-    ) -> Desk
-        requires ranged { AreInRange settings }
+    pub fn new(alloc: Global, followed: Option<Followed>, counts: Counts) -> Desk
         ensures followed { result.followed ≡ followed }
     {
         Desk {
             alloc,
             followed,
             counts,
-            settings,
             doorbell: Doorbell::new(),
             disconnects: Disconnects::new(alloc),
         }
@@ -89,29 +79,62 @@ impl Desk {
     }
 }
 
-/// What each thread serves by: the caches of the log, what connections share beside it, the counts of the host, and the
-/// end of the sessions.
+/// What each thread serves by: the caches of the log, and where that is the pods' those of the others; what connections
+/// share beside it, the counts of the host, and the end of the sessions.
 #[derive(Drop)]
-pub struct Front<'a, N: LogFacts, R: Wait + Copy> {
+pub struct Front<'a, P: LogFacts, M: LogFacts, D: LogFacts, R: Wait + Copy> {
     pub rt: &'a R,
     pub alloc: Global,
-    pub cacher: &'a Cacher<N, R>,
+    pub cacher: &'a Cacher<P, R>,
+    pub others: Option<&'a Others<M, D, R>>,
     pub desk: Desk,
     pub house: House,
     pub end: End,
-    ghost mirrored: { IsSome desk.followed → N.mirror ≡ true },
+    ghost mirrored: { IsSome desk.followed → P.mirror ≡ true },
+    ghost mirrored_config_maps: { IsSome desk.followed → M.mirror ≡ true },
+    ghost mirrored_deployments: { IsSome desk.followed → D.mirror ≡ true },
 }
 
-impl<'a, N: LogFacts, R: Wait + Copy> Front<'a, N, R> {
-    /// That of a server where nobody accepts yet. Only a mirror's log has a peer that is followed.
-    pub fn new(rt: &'a R, alloc: Global, cacher: &'a Cacher<N, R>, desk: Desk) -> Front<'a, N, R>
-        requires mirrored { IsSome desk.followed → N.mirror ≡ true }
-        ensures ranged { AreInRange result.desk.settings }
+impl<'a, P: LogFacts, M: LogFacts, D: LogFacts, R: Wait + Copy> Front<'a, P, M, D, R> {
+    /// That of a server of one log, where nobody accepts yet. Only a mirror's log has a peer that is followed.
+    pub fn new(
+        rt: &'a R,
+        alloc: Global,
+        cacher: &'a Cacher<P, R>,
+        desk: Desk,
+    ) -> Front<'a, P, M, D, R>
+        requires mirrored { IsSome desk.followed → P.mirror ≡ true }
+        requires mirrored_config_maps { IsSome desk.followed → M.mirror ≡ true }
+        requires mirrored_deployments { IsSome desk.followed → D.mirror ≡ true }
     {
         Front {
             rt,
             alloc,
             cacher,
+            others: None,
+            desk,
+            house: House::new(),
+            end: End::new(),
+        }
+    }
+
+    /// That of a server of a log for each resource.
+    pub fn of_each(
+        rt: &'a R,
+        alloc: Global,
+        cacher: &'a Cacher<P, R>,
+        others: &'a Others<M, D, R>,
+        desk: Desk,
+    ) -> Front<'a, P, M, D, R>
+        requires mirrored { IsSome desk.followed → P.mirror ≡ true }
+        requires mirrored_config_maps { IsSome desk.followed → M.mirror ≡ true }
+        requires mirrored_deployments { IsSome desk.followed → D.mirror ≡ true }
+    {
+        Front {
+            rt,
+            alloc,
+            cacher,
+            others: Some(others),
             desk,
             house: House::new(),
             end: End::new(),

@@ -2,13 +2,16 @@
 
 ghost use Rattle.std.specs.Prelude.{◌≡◌, ◌<◌, IfSome};
 
+use crate::caches::Others;
 use crate::intake::{Intake, Limit};
+use crate::serving::serve_over;
 use crate::shared::Front;
-use bells::Rung;
+use bells::{Bell, Rung};
 use edge_io::Listener;
 use kube_meta::Memory;
+use sess_serve::EachClient;
 use std::sync::ledger::{Book, Share};
-use std::sync::{Mutex, Wait};
+use std::sync::{Arc, Mutex, Wait};
 use up_api::LogFacts;
 
 /// How many sessions were run by those whose parts are here. It is as many as they accepted connections.
@@ -66,15 +69,39 @@ impl<B: Limit> Tally<B> {
 
     /// Waits for the next connection, and serves it by a session. The lock is free meanwhile. False where none comes.
     /// Whoever calls it has entered the house, and waits no more when it returns.
-    pub fn serve_next<L, N, R>(
+    pub fn serve_next<L, P, M, D, R>(
         &mut self,
-        front: &Front<'_, N, R>,
+        front: &Front<'_, P, M, D, R>,
         intake: &Mutex<Intake<L, B>>,
     ) -> Result<bool, Memory>
     where
         L: Listener,
         L::T: Rung,
-        N: LogFacts,
+        P: LogFacts,
+        M: LogFacts,
+        D: LogFacts,
+        R: Wait + Copy,
+    {
+        match front.others {
+            Some(others) => self.serve_each(front, others, intake),
+            None => self.serve_one(front, intake),
+        }
+    }
+
+    // Over a client of the one log. This and the next have frames of their own, so that whoever serves one log doesn't
+    // hold what serving each takes.
+    #[inline(never)]
+    fn serve_one<L, P, M, D, R>(
+        &mut self,
+        front: &Front<'_, P, M, D, R>,
+        intake: &Mutex<Intake<L, B>>,
+    ) -> Result<bool, Memory>
+    where
+        L: Listener,
+        L::T: Rung,
+        P: LogFacts,
+        M: LogFacts,
+        D: LogFacts,
         R: Wait + Copy,
     {
         let client = front.cacher.client()?;
@@ -87,6 +114,51 @@ impl<B: Limit> Tally<B> {
                     front.rt,
                     front.alloc,
                     client.heard_by(rung),
+                    heard,
+                    &front.desk,
+                    &mut self.sessions,
+                );
+                Ok(true)
+            }
+            None => Ok(false),
+        }
+    }
+
+    // Over a client of each log.
+    #[inline(never)]
+    fn serve_each<L, P, M, D, R>(
+        &mut self,
+        front: &Front<'_, P, M, D, R>,
+        others: &Others<M, D, R>,
+        intake: &Mutex<Intake<L, B>>,
+    ) -> Result<bool, Memory>
+    where
+        L: Listener,
+        L::T: Rung,
+        P: LogFacts,
+        M: LogFacts,
+        D: LogFacts,
+        R: Wait + Copy,
+    {
+        let pods = front.cacher.client()?;
+        let config_maps = others.config_maps.client()?;
+        let deployments = others.deployments.client()?;
+        let next = intake.lock(front.rt).next(&mut self.share);
+        front.house.takes();
+        match next {
+            Some(visitor) => {
+                let (heard, rung) = visitor.bells(front.alloc);
+                let (second, third) = (again(&rung), again(&rung));
+                let clients = EachClient {
+                    pods: pods.heard_by(rung),
+                    config_maps: config_maps.heard_by(second),
+                    deployments: deployments.heard_by(third),
+                };
+                serve_over(
+                    visitor,
+                    front.rt,
+                    front.alloc,
+                    clients,
                     heard,
                     &front.desk,
                     &mut self.sessions,
@@ -110,4 +182,9 @@ impl<B: Limit> Tally<B> {
             None
         }
     }
+}
+
+// The same bell, where there is one and memory for it.
+fn again(bell: &Option<Arc<Bell>>) -> Option<Arc<Bell>> {
+    Arc::try_clone(bell.as_ref()?).ok()
 }
