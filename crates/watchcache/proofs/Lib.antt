@@ -6,3 +6,4 @@ pub mod InputLemmas
 pub mod TellingLemmas
 pub mod UnknownLemmas
 pub mod ListLemmas
+pub mod ClusterLemmas

@@ -1,6 +1,6 @@
 -- The options of the commands: most take one number, which lies in a range, and is usual where it isn't given. Which
 -- words give which value is clap's own rule for a command of these options.
-use Rattle.std.specs.Prelude.{◌≡◌, ◌≢◌, ◌⊎◌, ℕ, ◌^◌, List, [], ◌&&◌, ◌||◌, Bool, true, false, not, Option, Some, None, is_some, Result, Ok, Err, nat_le, codes, if◌then◌else◌, ⊤}
+use Rattle.std.specs.Prelude.{◌≡◌, ◌≢◌, ◌⊎◌, ℕ, ◌+◌, ◌^◌, List, length, [], ◌&&◌, ◌||◌, Bool, true, false, cond, not, Option, Some, None, is_some, Result, Ok, Err, nat_le, ◌==◌, codes, if◌then◌else◌, ⊤}
 use Rattle.clap.specs.Words.{App, Row, Rule, Text, fault_of, first_of, matches_of, new_app, new_rule, with_rule}
 use Rattle.clap.specs.declared.error.kind.ErrorKind.{ErrorKind}
 use Rattle.clap.specs.declared.error.kind.ErrorKind.TheVariants.{OutOfMemory}
@@ -8,14 +8,18 @@ use Rattle.watchcache.specs.declared.asked.LoadOptions.{LoadOptions}
 use Rattle.watchcache.specs.declared.asked.ServeAsk.{ServeAsk}
 use Rattle.watchcache.specs.declared.asked.ServeOptions.{ServeOptions}
 use Rattle.watchcache.specs.declared.asked.OptionName.{OptionName}
-use Rattle.watchcache.specs.declared.asked.OptionName.TheVariants.{Window, WindowMax, FreshMs, Lane, Batch, History, BookmarkMs, TimeoutS, Port, Workers, Open, Connections, Peer, Cluster, Resources, Namespace, FirstRevision, From, Requests}
+use Rattle.watchcache.specs.declared.asked.OptionName.TheVariants.{Window, WindowMax, FreshMs, Lane, Batch, History, BookmarkMs, TimeoutS, Port, Workers, Open, Connections, Peer, Cluster, Resources, Namespace, FirstRevision, HistoryMib, From, Requests}
 use Rattle.watchcache.specs.declared.asked.Fault.{Fault}
 use Rattle.watchcache.specs.declared.asked.Fault.TheVariants.{Misused, OutOfRange, FirstWithPeer, ClusterWithPeer, WantsCluster, OtherResources, BadNamespace}
 use Rattle.watchcache.specs.declared.asked.WordsNo.{WordsNo}
 use Rattle.watchcache.specs.declared.asked.WordsNo.TheVariants.{Bad, Memory}
+use Rattle.client_api.specs.Facts.{all_served}
+use Rattle.client_api.specs.declared.resources.Resources.{Resources as Scope}
 use Rattle.kube_meta.specs.Names.{is_namespace}
+use Rattle.kube_meta.specs.Resources.{of_plural}
 use Rattle.kube_meta.specs.Revisions.{revision_of}
 use Rattle.kube_meta.specs.declared.revisions.RevNo.{RevNo}
+use Rattle.std.specs.List.{list_all, list_any, slice_split}
 use Rattle.std.specs.Str.{bytes_eq}
 use Rattle.up_api.specs.Settings.{usual}
 use Rattle.up_api.specs.declared.settings.Settings.{Settings}
@@ -42,12 +46,12 @@ with_doors command =
     (option (codes "port"))) (option (codes "workers"))) (option (codes "open"))) (option (codes "connections"))
 
 -- a command with the options that say where a server's log comes from: a peer, a cluster with what is mirrored of it,
--- or a first revision
+-- or a first revision; and how many bytes of it are kept
 abbrev pub with_origin : App → App
 with_origin command =
-    with_rule (with_rule (with_rule (with_rule (with_rule command
+    with_rule (with_rule (with_rule (with_rule (with_rule (with_rule command
     (option (codes "peer"))) (option (codes "cluster"))) (option (codes "resources"))) (option (codes "namespace")))
-    (option (codes "first-revision"))
+    (option (codes "first-revision"))) (option (codes "history-mib"))
 
 -- the command `serve` as clap knows it: it is set as a session is, takes connections at a port, and has a log from
 -- somewhere
@@ -81,6 +85,7 @@ option_text Cluster = codes "cluster"
 option_text Resources = codes "resources"
 option_text Namespace = codes "namespace"
 option_text FirstRevision = codes "first-revision"
+option_text HistoryMib = codes "history-mib"
 option_text From = codes "from"
 option_text Requests = codes "requests"
 
@@ -147,20 +152,51 @@ settings_of rows =
     (number rows Window 1 102400 usual.window)
 
 -- a server's options with the revision of its empty log, 1 where none is given; none may be where there is a peer or a
--- cluster, whose list says where a mirror's log begins
+-- cluster, whose list says where a mirror's log begins; and with how many MiB of it are kept
 abbrev pub with_first : List Row → ServeOptions → Result ServeOptions Fault
 with_first rows options =
     if (is_some options.peer || is_some options.cluster) && is_some (first_of (option_text FirstRevision) rows) then Err FirstWithPeer
-    else and_then (λ first. Ok (record options { first = first })) (number rows FirstRevision 1 (2 ^ 62) 1)
+    else and_then (λ first. and_then (λ mib. Ok (record options { first = first; history_mib = mib }))
+    (number rows HistoryMib 1 1048576 256))
+    (number rows FirstRevision 1 (2 ^ 62) 1)
 
--- what is given of the resources that are mirrored, where there is a cluster or isn't: pods alone are
-abbrev pub given_resources : Bool → Text → Result Unit Fault
+-- what parts the names of a list
+abbrev pub is_list_comma : ℕ → Bool
+is_list_comma byte = byte == 44
+
+-- the name of a resource
+abbrev pub is_resource : Text → Bool
+is_resource name = is_some (of_plural name)
+
+-- all that commas part are such names
+abbrev pub are_resources : Text → Bool
+are_resources text = list_all is_resource (slice_split is_list_comma text)
+
+-- a name is among them
+abbrev pub has_name : Text → Text → Bool
+has_name name text = list_any (λ part. bytes_eq part name) (slice_split is_list_comma text)
+
+-- the resources that are named
+abbrev pub named_resources : Text → Scope
+named_resources text = record { pods = has_name (codes "pods") text; config_maps = has_name (codes "configmaps") text; deployments = has_name (codes "deployments") text }
+
+-- how many there are of these
+abbrev pub how_many : Scope → ℕ
+how_many these = cond these.pods 1 0 + cond these.config_maps 1 0 + cond these.deployments 1 0
+
+-- none is named twice: commas part no more names than there are of these
+abbrev pub is_each_once : Scope → Text → Bool
+is_each_once these text = nat_le (length (slice_split is_list_comma text)) (how_many these)
+
+-- what is given of the resources that are mirrored, where there is a cluster or isn't
+abbrev pub given_resources : Bool → Text → Result Scope Fault
 given_resources false text = Err (WantsCluster Resources)
-given_resources true text = if bytes_eq text (codes "pods") then Ok tt else Err OtherResources
+given_resources true text =
+    if are_resources text && is_each_once (named_resources text) text then Ok (named_resources text) else Err OtherResources
 
--- the same, if anything is given
-abbrev pub scope_resources : Bool → Option Text → Result Unit Fault
-scope_resources is_cluster None = Ok tt
+-- the same, if anything is given: else all are
+abbrev pub scope_resources : Bool → Option Text → Result Scope Fault
+scope_resources is_cluster None = Ok all_served
 scope_resources is_cluster (Some text) = given_resources is_cluster text
 
 -- a server's options, where what is to be mirrored of its cluster is served, with where its log begins; a mirror
@@ -169,7 +205,7 @@ abbrev pub with_scope : List Row → ServeOptions → Result ServeOptions Fault
 with_scope rows options =
     if is_some options.cluster && is_some options.peer then Err ClusterWithPeer
     else if not (is_some options.cluster) && is_some (first_of (option_text Namespace) rows) then Err (WantsCluster Namespace)
-    else and_then (λ served. with_first rows options)
+    else and_then (λ (served : Scope). with_first rows (record options { resources = served }))
     (scope_resources (is_some options.cluster) (first_of (option_text Resources) rows))
 
 -- a server's options with what is given of its cluster, and of where its log begins
@@ -186,7 +222,7 @@ with_peer rows options =
 -- peer and its log
 abbrev pub with_connections : List Row → Settings → Result ServeOptions Fault
 with_connections rows settings =
-    and_then (λ port. and_then (λ workers. and_then (λ open_at_once. and_then (λ connections. with_peer rows (record { port = port; workers = workers; «open» = open_at_once; connections = connections; peer = None; cluster = None; first = 1; settings = settings }))
+    and_then (λ port. and_then (λ workers. and_then (λ open_at_once. and_then (λ connections. with_peer rows (record { port = port; workers = workers; «open» = open_at_once; connections = connections; peer = None; cluster = None; resources = all_served; first = 1; history_mib = 256; settings = settings }))
     (number rows Connections 0 (2 ^ 62) 0))
     (number rows Open 1 65536 16384))
     (number rows Workers 1 64 4))

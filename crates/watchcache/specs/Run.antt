@@ -13,13 +13,16 @@ use Rattle.watchcache.specs.declared.asked.Asked.TheVariants.{Help, Version, Ses
 use Rattle.watchcache.specs.declared.asked.LoadOptions.{LoadOptions}
 use Rattle.watchcache.specs.declared.asked.ServeOptions.{ServeOptions}
 use Rattle.watchcache.specs.declared.asked.WordsNo.{WordsNo}
+use Rattle.watchcache.specs.declared.noted.Notes.{Notes}
 use Rattle.watchcache.specs.declared.unknown.Judged.{Judged}
 use Rattle.watchcache.specs.declared.asked.WordsNo.TheVariants.{Bad, Memory}
 use Rattle.cluster_link.specs.declared.refusal.ClusterNo.{ClusterNo}
+use Rattle.cluster_link.specs.declared.refusal.ClusterNo.TheVariants.{Memory as NoRoom}
 use Rattle.edge_io.specs.Counts.{Rose}
 use Rattle.edge_io.specs.Sent.{Sent, IsSentOn, IsBrokenOff}
 use Rattle.edge_io.specs.Told.{prepended, appended, Noted, IsExhausted}
 use Rattle.edge_io.specs.declared.clock.Reading.{Reading}
+use Rattle.kube_meta.specs.declared.resources.Resource.{Resource}
 use Rattle.kube_meta.specs.declared.resources.Resource.TheVariants.{Pods}
 use Rattle.load_gen.specs.Figures.{figure_lines}
 use Rattle.load_gen.specs.Loads.{IsLoad}
@@ -30,6 +33,7 @@ use Rattle.mirror_link.specs.Reading.{HasOpening, HasNoOpening}
 use Rattle.mirror_link.specs.declared.link_refusal.LinkNo.{LinkNo}
 use Rattle.mirror_link.specs.declared.link_refusal.LinkNo.TheVariants.{ReadFault, WriteFault, Memory as NoMemory}
 use Rattle.net_front.specs.Ends.{most_connections}
+use Rattle.net_front.specs.Starts.{IsOfStart}
 use Rattle.rev_front.specs.Passes.{Pass}
 use Rattle.rev_log.specs.Changes.{RevisionData}
 use Rattle.select_all.specs.Reading.{IsRead}
@@ -45,7 +49,7 @@ use Rattle.watch_record.specs.Records.{record_fault, IsRecordOf}
 use Rattle.watch_record.specs.declared.between_refusal.BetweenNo.{BetweenNo}
 use Rattle.watch_record.specs.declared.records.Record.{Record}
 use Rattle.watch_record.specs.declared.refusals.RecordNo.{RecordNo}
-use Rattle.watchcache.specs.Lists.{IsOfReply, SendsList, SendsNoList}
+use Rattle.watchcache.specs.Lists.{IsOfReply, SendsList, SendsNoList, first_listed}
 use Rattle.watchcache.specs.Texts.{help, version_text, bad_line, sessions, peer_line, cluster_line, verdict, between_verdict}
 
 -- ---- what went through the program's ends
@@ -72,7 +76,8 @@ ends_of left faults source_old source_new readings clock_old clock_new sent = re
 }
 
 -- the net's count of faults; how many connections the listener had given that was shut last; whether no more will come
--- to it; and what the peer that is dialled first sends, where that is told
+-- to it; what the peer that is dialled first sends, where that is told; and what was asked of the net: at which port it
+-- listened, which port was dialled, and how the sessions of that listener were set
 pub record NetUse : Type 1 where
   pub faults_old : ℕ
   pub faults_new : ℕ
@@ -80,21 +85,23 @@ pub record NetUse : Type 1 where
   pub served_new : ℕ
   pub over : Type 0
   pub peer_old : Option (List ℕ)
+  pub notes : Notes
 
--- how a net was used whose peer sends this, by what it tells before and after
-abbrev pub use_with : {N : Type 0} → (N → ℕ) → (N → ℕ) → (N → Type 0) → Option (List ℕ) → N → N → NetUse
-use_with faults served ended sends old new = record {
+-- how a net was used whose peer sends this, by what it tells before and after, and what was asked of it
+abbrev pub use_with : {N : Type 0} → (N → ℕ) → (N → ℕ) → (N → Type 0) → Option (List ℕ) → N → N → Notes → NetUse
+use_with faults served ended sends old new notes = record {
   faults_old = faults old;
   faults_new = faults new;
   served_old = served old;
   served_new = served new;
   over = ∥ ended new ∥₁;
   peer_old = sends;
+  notes = notes;
 }
 
--- how a net was used, by what it tells before and after
-abbrev pub use_of : {N : Type 0} → (N → ℕ) → (N → ℕ) → (N → Type 0) → (N → Option (List ℕ)) → N → N → NetUse
-use_of faults served ended peer old new = use_with faults served ended (peer old) old new
+-- how a net was used, by what it tells before and after, and what was asked of it
+abbrev pub use_of : {N : Type 0} → (N → ℕ) → (N → ℕ) → (N → Type 0) → (N → Option (List ℕ)) → N → N → Notes → NetUse
+use_of faults served ended peer old new notes = use_with faults served ended (peer old) old new notes
 
 -- nothing was read
 abbrev pub IsUnread : Ends → Type 0
@@ -165,8 +172,11 @@ TellsSessions net sent status =
     ((net.faults_new ≡ net.faults_old) × IsTold (sessions net.served_new) 0 sent status)
     ⊎ (HasFailed net × (status ≡ 9) × (IsSentOn (sessions net.served_new) sent ⊎ IsBrokenOff (sessions net.served_new) sent))
 
--- a server ended: no more connections will come, the net failed, or as many were accepted as were asked for
+-- a server ended that listened at its port, and whose sessions were all set as it is: no more connections will come,
+-- the net failed, or as many were accepted as were asked for
 pub record IsServerOver (options : ServeOptions) (net : NetUse) (sent : Sent) (status : ℕ) : Type 0 where
+  pub port : net.notes.listened ≡ Some options.port
+  pub settings : net.notes.settings ≡ Some options.settings
   pub ended : net.over ⊎ HasFailed net ⊎ (most_connections options.connections ≤ net.served_new)
   pub told : TellsSessions net sent status
 
@@ -191,22 +201,24 @@ TellsNone IsOf line why net sent status =
 abbrev pub Refuses : {W : Type 0} → (W → Type 0) → (W → List ℕ) → W → NetUse → Sent → ℕ → Type 0
 Refuses IsOf line why net sent status = TellsNone IsOf line why net sent status ⊎ IsUnstarted net sent status
 
--- what the first connection that is dialled sends is such a beginning, and was served
-pub record IsMirrored (Has : List ℕ → Type 0) (options : ServeOptions) (net : NetUse) (sent : Sent) (status : ℕ) : Type 0 where
+-- what the first connection that is dialled sends, at this port, is such a beginning, and was served
+pub record IsMirrored (Has : List ℕ → Type 0) (port : Option ℕ) (options : ServeOptions) (net : NetUse) (sent : Sent) (status : ℕ) : Type 0 where
+  pub dialled : net.notes.dialled ≡ port
   pub opened : IfSome net.peer_old Has
   pub served : IsServerOver options net sent status
 
 -- it isn't, and why was told
-pub record IsUnopened (W : Type 0) (Lacks : W → List ℕ → Type 0) (IsOf : W → Type 0) (line : W → List ℕ) (net : NetUse) (sent : Sent) (status : ℕ) : Type 0 where
+pub record IsUnopened (W : Type 0) (Lacks : W → List ℕ → Type 0) (IsOf : W → Type 0) (line : W → List ℕ) (port : Option ℕ) (net : NetUse) (sent : Sent) (status : ℕ) : Type 0 where
   pub why : W
+  pub dialled : net.notes.dialled ≡ port
   pub sends : IfSome net.peer_old (Lacks why)
   pub told : TellsNone IsOf line why net sent status
 
--- what came of a server that begins so: it ended; or it didn't start, as there is no such beginning, the net failed,
--- which a connection that breaks off counts as, or there was no memory
-abbrev pub RunsFrom : (List ℕ → Type 0) → (W : Type 0) → (W → List ℕ → Type 0) → (W → Type 0) → (W → List ℕ) → ServeOptions → NetUse → Sent → ℕ → Type 0
-RunsFrom Has W Lacks IsOf line options net sent status =
-    IsMirrored Has options net sent status ⊎ (IsUnopened W Lacks IsOf line net sent status ⊎ IsUnstarted net sent status)
+-- what came of a server that begins with what is sent at a port: it ended; or it didn't start, as there is no such
+-- beginning, the net failed, which a connection that breaks off counts as, or there was no memory
+abbrev pub RunsFrom : (List ℕ → Type 0) → (W : Type 0) → (W → List ℕ → Type 0) → (W → Type 0) → (W → List ℕ) → Option ℕ → ServeOptions → NetUse → Sent → ℕ → Type 0
+RunsFrom Has W Lacks IsOf line port options net sent status =
+    IsMirrored Has port options net sent status ⊎ (IsUnopened W Lacks IsOf line port net sent status ⊎ IsUnstarted net sent status)
 
 -- ---- a server that mirrors a peer
 
@@ -247,14 +259,39 @@ Opens sends (Err why) = IsOfBytes why → IfSome sends (SendsNone why)
 
 -- what came of a server that mirrors a peer
 abbrev pub RunsMirror : ServeOptions → NetUse → Sent → ℕ → Type 0
-RunsMirror options net sent status = RunsFrom SendsOpening LinkNo SendsNone IsOfBytes peer_line options net sent status
+RunsMirror options net sent status = RunsFrom SendsOpening LinkNo SendsNone IsOfBytes peer_line options.peer options net sent status
 
 -- ---- a server that mirrors a cluster
 
--- what came of a server that mirrors the pods of a cluster, in a namespace or in all
+-- what is told of a resource that has no mirror though it has a list; nothing, where there was no memory
+abbrev pub TellsStart : Resource → ClusterNo → Sent → ℕ → Type 0
+TellsStart resource NoRoom sent status = IsSilent 8 sent status
+TellsStart resource why sent status = IsTold (cluster_line resource why) 13 sent status
+
+-- one of its resources has no mirror, and why was told: behind the list that came first, for a reason of the mirror's,
+-- or it is another one
+pub record IsUnmirrored (options : ServeOptions) (net : NetUse) (sent : Sent) (status : ℕ) : Type 0 where
+  pub resource : Resource
+  pub why : ClusterNo
+  pub other : (¬ (resource ≡ first_listed options.resources)) ⊎ IsOfStart why
+  pub told : TellsNone IsOfReply (cluster_line resource) why net sent status
+
+-- what came of a server behind its first list
+abbrev pub RunsListed : ServeOptions → NetUse → Sent → ℕ → Type 0
+RunsListed options net sent status = RunsServer options net sent status ⊎ IsUnmirrored options net sent status
+
+-- the first list was there, at this port, but one of its resources has no mirror
+pub record IsHalted (Has : List ℕ → Type 0) (port : Option ℕ) (options : ServeOptions) (net : NetUse) (sent : Sent) (status : ℕ) : Type 0 where
+  pub dialled : net.notes.dialled ≡ port
+  pub opened : IfSome net.peer_old Has
+  pub halted : IsUnmirrored options net sent status
+
+-- what came of a server that mirrors resources of a cluster, in a namespace or in all
 abbrev pub RunsCluster : Option (List ℕ) → ServeOptions → NetUse → Sent → ℕ → Type 0
 RunsCluster namespace options net sent status =
-    RunsFrom (SendsList namespace) ClusterNo (SendsNoList namespace) IsOfReply cluster_line options net sent status
+    RunsFrom (SendsList (first_listed options.resources) namespace) ClusterNo (SendsNoList (first_listed options.resources) namespace) IsOfReply
+    (cluster_line (first_listed options.resources)) options.cluster options net sent status
+    ⊎ IsHalted (SendsList (first_listed options.resources) namespace) options.cluster options net sent status
 
 -- what came of a server, by whether it has a peer, or a cluster
 abbrev pub RunsAny : Option ℕ → Option ℕ → Option (List ℕ) → ServeOptions → NetUse → Sent → ℕ → Type 0

@@ -3,6 +3,8 @@ use Rattle.std.specs.Prelude.{ℕ, List, [], ◌∷◌, ◌++◌, Result, Ok, Er
 use Rattle.std.specs.List.{concat}
 use Rattle.body_check.specs.declared.judging.Checked.{Checked}
 use Rattle.body_check.specs.declared.judging.Checked.TheVariants.{Lawful, Unlawful}
+use Rattle.kube_meta.specs.Resources.{plural_of}
+use Rattle.kube_meta.specs.declared.resources.Resource.{Resource}
 use Rattle.cluster_link.specs.Refusals.{cluster_refusal_name}
 use Rattle.cluster_link.specs.declared.refusal.ClusterNo.{ClusterNo}
 use Rattle.mirror_link.specs.OpeningRefusals.{refusal_name as link_name}
@@ -44,10 +46,11 @@ help =
     ∷ codes "  --open N          connections that are served side by side, by threads that come as they are wanted: 1 to 65536, default 16384\n"
     ∷ codes "  --connections N   connections that are accepted before it ends: 0 to 4611686018427387904, default 0, which is all\n"
     ∷ codes "  --peer N          the port of a server whose pods it mirrors: 1 to 65535, default none\n"
-    ∷ codes "  --cluster N       the port of `kubectl proxy` to a cluster whose pods it mirrors: 1 to 65535, default none\n"
-    ∷ codes "  --resources NAME  which of the cluster's resources it mirrors: pods, which is the default\n"
-    ∷ codes "  --namespace NAME  the one namespace whose pods it mirrors of the cluster, default all\n"
+    ∷ codes "  --cluster N       the port of `kubectl proxy` to a cluster that it mirrors: 1 to 65535, default none\n"
+    ∷ codes "  --resources LIST  what it mirrors of the cluster: some of pods,configmaps,deployments, default all\n"
+    ∷ codes "  --namespace NAME  the one namespace that it mirrors of the cluster, default all\n"
     ∷ codes "  --first-revision N  the revision of its empty log, unless it is a mirror: 1 to 4611686018427387904, default 1\n"
+    ∷ codes "  --history-mib N   MiB of text in the changes of its log that are kept: 1 to 1048576, default 256\n"
     ∷ codes "\n"
     ∷ codes "those of load:\n"
     ∷ codes "  --from N          what the requests are drawn from: 0 to 4611686018427387904, default 1\n"
@@ -76,9 +79,9 @@ sessions accepted = codes "sessions " ++ decimal accepted ++ codes "\n"
 abbrev pub peer_line : LinkNo → List ℕ
 peer_line why = codes "peer: " ++ link_name why ++ codes "\n"
 
--- why a cluster has no list
-abbrev pub cluster_line : ClusterNo → List ℕ
-cluster_line why = codes "cluster: " ++ cluster_refusal_name why ++ codes "\n"
+-- why a resource of a cluster has no list, or no mirror
+abbrev pub cluster_line : Resource → ClusterNo → List ℕ
+cluster_line resource why = codes "cluster: " ++ cluster_refusal_name why ++ codes " " ++ plural_of resource ++ codes "\n"
 
 -- what is written for `--version`: the program's name and its version
 abbrev pub version_text : List ℕ

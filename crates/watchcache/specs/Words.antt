@@ -74,6 +74,7 @@ pub record AreServed (options : ServeOptions) : Type 0 where
   pub peer : IfSome options.peer (λ port. (1 ≤ port) × (port ≤ 65535))
   pub cluster : IfSome options.cluster (λ port. (1 ≤ port) × (port ≤ 65535))
   pub first : (1 ≤ options.first) × (options.first ≤ 2 ^ 62)
+  pub history_mib : (1 ≤ options.history_mib) × (options.history_mib ≤ 1048576)
   pub settings : AreInRange options.settings
 
 -- a server is set within its ranges, and its namespace has a name of one

@@ -52,7 +52,7 @@ pub fn say_fault<R: Eprint + Copy>(rt: R, alloc: Global, words: &[String], fault
         Fault::WantsCluster { name } => say_lack(rt, name.text()),
         Fault::OtherResources => say_words(
             rt,
-            "--resources takes pods alone: config maps and deployments of a cluster aren't mirrored",
+            "--resources takes some of pods, configmaps and deployments, each once, with a comma between two",
         ),
         Fault::BadNamespace => say_words(
             rt,

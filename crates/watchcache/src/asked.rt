@@ -3,6 +3,7 @@
 ghost use Rattle.std.specs.Prelude.{◌≡◌};
 ghost use Rattle.watchcache.specs.Options as spec;
 
+use client_api::Resources;
 use kube_meta::{Memory, Text};
 use up_api::Settings;
 
@@ -28,7 +29,7 @@ pub enum Asked {
 pub struct ServeAsk {
     /// How it is set.
     pub options: ServeOptions,
-    /// The one namespace whose pods it mirrors of a cluster; all, where none is given.
+    /// The one namespace that it mirrors of a cluster; all, where none is given.
     pub namespace: Option<Text>,
 }
 
@@ -46,11 +47,15 @@ pub struct ServeOptions {
     pub connections: u64,
     /// The port of the server whose pods it mirrors, if it does: 1 to 65,535.
     pub peer: Option<u16>,
-    /// The port of the proxy to the cluster whose pods it mirrors, if it does: 1 to 65,535. It has no peer then.
+    /// The port of the proxy to the cluster that it mirrors, if it does: 1 to 65,535. It has no peer then.
     pub cluster: Option<u16>,
+    /// What it mirrors of a cluster; all, where it has none.
+    pub resources: Resources,
     /// The revision of its log while that is empty: 1 to 2^62. A mirror's log begins where the list that it was given
     /// stands, and this is 1 then.
     pub first: u64,
+    /// MiB of text in the changes of its log that are kept: 1 to 1,048,576.
+    pub history_mib: u64,
     /// How each session is set.
     pub settings: Settings,
 }
@@ -101,6 +106,8 @@ pub enum OptionName {
     Namespace,
     /// `--first-revision`
     FirstRevision,
+    /// `--history-mib`
+    HistoryMib,
     /// `--from`
     From,
     /// `--requests`
@@ -130,6 +137,7 @@ impl OptionName {
             OptionName::Resources => "resources",
             OptionName::Namespace => "namespace",
             OptionName::FirstRevision => "first-revision",
+            OptionName::HistoryMib => "history-mib",
             OptionName::From => "from",
             OptionName::Requests => "requests",
         }
@@ -157,7 +165,7 @@ pub enum Fault {
     WantsCluster {
         name: OptionName,
     },
-    /// Other resources than pods are to be mirrored.
+    /// What is given for resources isn't a list of their names.
     OtherResources,
     /// What is given for a namespace can't be the name of one.
     BadNamespace,

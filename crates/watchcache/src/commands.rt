@@ -1,6 +1,6 @@
 //! What is done for what the words of the command line ask for.
 
-ghost use Rattle.std.specs.Prelude.{◌<◌, ◌^◌, IfOk};
+ghost use Rattle.std.specs.Prelude.{◌≡◌, ◌<◌, ◌^◌, IfOk, None};
 ghost use Rattle.watchcache.specs.Words.{IsInRange};
 ghost use Rattle.edge_io.specs.Sent.{sent_through};
 ghost use Rattle.watchcache.specs.Run.{Does, ends_of, use_of};
@@ -8,6 +8,7 @@ ghost use Rattle.watchcache.specs.Run.{Does, ends_of, use_of};
 use crate::asked::{Asked, WordsNo};
 use crate::checks::check_record;
 use crate::loads::load;
+use crate::noted::NotedNet;
 use crate::peer::serve_any;
 use crate::server::Setup;
 use crate::session::run_session;
@@ -19,24 +20,25 @@ use net_front::{Host, Redial};
 use std::alloc::Global;
 
 /// Does what is asked for, or refuses what asks for nothing. Answers the exit status.
-pub fn perform<R: Host, S: Source, K: Sink, T: Clock + Send, N: Net, D: Redial + Send>(
+pub fn perform<R: Host, S: Source, K: Sink, T: Clock + Send, N: Net, D: Redial + Send + Drop>(
     rt: R,
     alloc: Global,
     asked: &Result<Asked, WordsNo>,
     source: &mut S,
     sink: &mut K,
     clock: &mut T,
-    net: &mut N,
+    net: &mut NotedNet<N>,
     redial: &mut D,
 ) -> u8
 where
     <N::L as Listener>::T: Rung,
     requires range { IfOk asked.now IsInRange }
-    requires few_faults { N.faults net.old < 2 ^ 62 }
+    requires few_faults { N.faults net.old.net < 2 ^ 62 }
+    requires quiet { net.old.notes.dialled ≡ None }
     ensures { Does asked.now
         (ends_of S.left S.faults source.old source.new T.readings clock.old clock.new
         (sent_through K.written K.settled K.faults sink.old sink.new))
-        (use_of N.faults N.served N.ended N.peer net.old net.new) result }
+        (use_of N.faults N.served N.ended N.peer net.old.net net.new.net net.new.notes) result }
 {
     match asked {
         Ok(Asked::Help) => write_help(sink),

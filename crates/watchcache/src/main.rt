@@ -14,7 +14,10 @@ mod cluster_advice;
 mod commands;
 mod complaints;
 mod inputs;
+mod lists;
 mod loads;
+mod mirroring;
+mod noted;
 mod options;
 mod peer;
 mod reading;
@@ -31,7 +34,7 @@ mod unknown_advice;
 mod words;
 
 ghost use Rattle.edge_io.specs.Sent.{sent_through};
-ghost use Rattle.std.specs.Prelude.{◌≡◌, ◌<◌, ◌^◌, map, string_bytes};
+ghost use Rattle.std.specs.Prelude.{◌≡◌, ◌<◌, ◌^◌, None, map, string_bytes};
 ghost use Rattle.watchcache.specs.Run.{IsRun, ends_of, use_of};
 
 use advice::say_fault;
@@ -40,6 +43,7 @@ use bells::Rung;
 use commands::perform;
 use edge_io::{Clock, Listener, Net, ReadEnd, Sink, Source, StepClock, SystemClock, WriteEnd};
 use net_front::{Host, Redial};
+use noted::NotedNet;
 use redial::LoopbackRedial;
 use statuses::{BAD_WORDS, OUT_OF_MEMORY};
 use std::alloc::{AllocError, Global};
@@ -56,28 +60,30 @@ use words::read_words;
 /// of its own, whose first revision is 1. `serve` serves each connection to a port by such a session, over one log, and
 /// tells on `sink` how many there were; the status is 9 where `net` failed. Where it has a peer, the log is a mirror of
 /// the peer's pods, which is followed by `redial` too; where what the peer sends first is no opening, that is told on
-/// `sink`: status 13. Where it has a cluster, the same holds of a list of its pods. `load` serves a session of drawn
-/// requests in memory, and tells on `sink` what came of it. `check` reads a record from `source`, and tells on `sink`
-/// how the body in it is judged: status 0 where it is lawful, 11 where it isn't, 12 where the bytes are no record.
-/// `--help` and `--version`, at any place, are told on `sink`: status 0. All else is a bad command line: status 2. The
-/// status is 4 where `sink` failed, and 8 where memory ran out.
-pub fn run<R: Host, S: Source, K: Sink, T: Clock + Send, N: Net, D: Redial + Send>(
+/// `sink`: status 13. Where it has a cluster, the same holds of lists of its resources, each of which has a log then.
+/// `net` notes at which port it listened, which port was dialled, and how all sessions were set: as the options say.
+/// `load` serves a session of drawn requests in memory, and tells on `sink` what came of it. `check` reads a record
+/// from `source`, and tells on `sink` how the body in it is judged: status 0 where it is lawful, 11 where it isn't, 12
+/// where the bytes are no record. `--help` and `--version`, at any place, are told on `sink`: status 0. All else is a
+/// bad command line: status 2. The status is 4 where `sink` failed, and 8 where memory ran out.
+pub fn run<R: Host, S: Source, K: Sink, T: Clock + Send, N: Net, D: Redial + Send + Drop>(
     rt: R,
     alloc: Global,
     words: &[String],
     source: &mut S,
     sink: &mut K,
     clock: &mut T,
-    net: &mut N,
+    net: &mut NotedNet<N>,
     redial: &mut D,
 ) -> u8
 where
     <N::L as Listener>::T: Rung,
-    requires { N.faults net.old < 2 ^ 62 }
+    requires few_faults { N.faults net.old.net < 2 ^ 62 }
+    requires quiet { net.old.notes.dialled ≡ None }
     ensures { IsRun (map string_bytes words.now)
         (ends_of S.left S.faults source.old source.new T.readings clock.old clock.new
         (sent_through K.written K.settled K.faults sink.old sink.new))
-        (use_of N.faults N.served N.ended N.peer net.old net.new) result }
+        (use_of N.faults N.served N.ended N.peer net.old.net net.new.net net.new.notes) result }
 {
     let asked = read_words(alloc, words);
     perform(rt, alloc, &asked, source, sink, clock, net, redial)
@@ -91,7 +97,7 @@ fn main(rt: HostRuntime) -> ExitCode {
     };
     let mut source = ReadEnd::new(rt.reader());
     let mut sink = WriteEnd::new(alloc, rt.stdout());
-    let mut net = LoopbackNet::new(alloc, rt);
+    let mut net = NotedNet::new(LoopbackNet::new(alloc, rt));
     let mut redial = LoopbackRedial::new(alloc, rt);
     let status = if is_server(&words) {
         let mut clock = SystemClock::new(rt);

@@ -1,6 +1,6 @@
 //! A server's beginning: an empty log, or what a peer or a cluster has.
 
-ghost use Rattle.std.specs.Prelude.{◌≡◌, ◌<◌, ◌^◌, IfErr, IfOk, IfSome, None};
+ghost use Rattle.std.specs.Prelude.{◌≡◌, ◌<◌, ◌^◌, IfErr, IfOk, IfSome, None, Some};
 ghost use Rattle.kube_meta.specs.Names.{IsNamespace};
 ghost use Rattle.watchcache.specs.Words.{AreServed};
 ghost use Rattle.edge_io.specs.Counts.{Rose};
@@ -11,7 +11,9 @@ ghost use Rattle.watchcache.specs.Texts.{peer_line};
 
 use crate::advice::{say_no_opening, say_no_peer};
 use crate::cluster::serve_listed;
-use crate::server::{Beginning, Peer, Setup, serve_log};
+use crate::mirroring::serve_opening;
+use crate::noted::NotedNet;
+use crate::server::{Setup, serve_own};
 use crate::statuses::{NET_FAULT, NO_OPENING, OUT_OF_MEMORY};
 use crate::telling::tell;
 use bells::Rung;
@@ -24,21 +26,22 @@ use std::alloc::Global;
 
 /// Serves the connections to a port, as a mirror where the options name a peer or a cluster, of which it mirrors all
 /// pods or those of a namespace. Answers the status.
-pub fn serve_any<R: Host, K: Sink, T: Clock + Send, N: Net, D: Redial + Send>(
+pub fn serve_any<R: Host, K: Sink, T: Clock + Send, N: Net, D: Redial + Send + Drop>(
     setup: Setup<R>,
     namespace: &Option<Text>,
     sink: &mut K,
     clock: &mut T,
-    net: &mut N,
+    net: &mut NotedNet<N>,
     redial: &mut D,
 ) -> u8
 where
     <N::L as Listener>::T: Rung,
     requires range { AreServed setup.options }
     requires namespace { IfSome namespace.now IsNamespace }
-    requires few_faults { N.faults net.old < 2 ^ 62 }
+    requires quiet { net.old.notes.dialled ≡ None }
+    requires few_faults { N.faults net.old.net < 2 ^ 62 }
     ensures { RunsAny setup.options.peer setup.options.cluster namespace.now setup.options
-        (use_of N.faults N.served N.ended N.peer net.old net.new)
+        (use_of N.faults N.served N.ended N.peer net.old.net net.new.net net.new.notes)
         (sent_through K.written K.settled K.faults sink.old sink.new) result }
 {
     match setup.options.peer {
@@ -48,51 +51,47 @@ where
 }
 
 // The same, where they name no peer.
-fn serve_without_peer<R: Host, K: Sink, T: Clock + Send, N: Net, D: Redial + Send>(
+fn serve_without_peer<R: Host, K: Sink, T: Clock + Send, N: Net, D: Redial + Send + Drop>(
     setup: Setup<R>,
     namespace: &Option<Text>,
     sink: &mut K,
     clock: &mut T,
-    net: &mut N,
+    net: &mut NotedNet<N>,
     redial: &mut D,
 ) -> u8
 where
     <N::L as Listener>::T: Rung,
     requires range { AreServed setup.options }
     requires namespace { IfSome namespace.now IsNamespace }
-    requires few_faults { N.faults net.old < 2 ^ 62 }
+    requires quiet { net.old.notes.dialled ≡ None }
+    requires few_faults { N.faults net.old.net < 2 ^ 62 }
     ensures { RunsAny None setup.options.cluster namespace.now setup.options
-        (use_of N.faults N.served N.ended N.peer net.old net.new)
+        (use_of N.faults N.served N.ended N.peer net.old.net net.new.net net.new.notes)
         (sent_through K.written K.settled K.faults sink.old sink.new) result }
 {
     match setup.options.cluster {
         Some(port) => serve_listed(setup, port, namespace, sink, clock, net, redial),
-        None => {
-            let beginning: Beginning<<N::L as Listener>::S> = Beginning {
-                first: setup.options.first,
-                peer: None,
-                cluster: None,
-            };
-            serve_log(setup, beginning, sink, clock, net, redial)
-        }
+        None => serve_own(setup, sink, clock, net),
     }
 }
 
 // Serves the connections to a port as a mirror of the server at another port, whose pods it reads first and follows
 // then, over connections by `redial` once the first is over.
-fn serve_peer<R: Host, K: Sink, T: Clock + Send, N: Net, D: Redial + Send>(
+fn serve_peer<R: Host, K: Sink, T: Clock + Send, N: Net, D: Redial + Send + Drop>(
     setup: Setup<R>,
     port: u16,
     sink: &mut K,
     clock: &mut T,
-    net: &mut N,
+    net: &mut NotedNet<N>,
     redial: &mut D,
 ) -> u8
 where
     <N::L as Listener>::T: Rung,
     requires range { AreServed setup.options }
-    requires few_faults { N.faults net.old < 2 ^ 62 }
-    ensures { RunsMirror setup.options (use_of N.faults N.served N.ended N.peer net.old net.new)
+    requires few_faults { N.faults net.old.net < 2 ^ 62 }
+    requires peer { setup.options.peer ≡ Some port }
+    requires quiet { net.old.notes.dialled ≡ None }
+    ensures { RunsMirror setup.options (use_of N.faults N.served N.ended N.peer net.old.net net.new.net net.new.notes)
         (sent_through K.written K.settled K.faults sink.old sink.new) result }
 {
     match net.dial(port) {
@@ -107,39 +106,40 @@ where
 }
 
 // The same, over the first connection to the peer.
-fn open_over<R: Host, K: Sink, T: Clock + Send, N: Net, D: Redial + Send>(
+fn open_over<R: Host, K: Sink, T: Clock + Send, N: Net, D: Redial + Send + Drop>(
     setup: Setup<R>,
     port: u16,
     source: <N::L as Listener>::S,
     request: <N::L as Listener>::K,
     sink: &mut K,
     clock: &mut T,
-    net: &mut N,
+    net: &mut NotedNet<N>,
     redial: &mut D,
 ) -> u8
 where
     <N::L as Listener>::T: Rung,
     requires range { AreServed setup.options }
     requires fresh { (N.L.S.faults source ≡ 0) × (N.L.K.faults request ≡ 0) }
-    requires few_faults { N.faults net.old < 2 ^ 62 }
-    ensures { RunsMirror setup.options (use_with N.faults N.served N.ended (N.L.S.left source) net.old net.new)
+    requires few_faults { N.faults net.old.net < 2 ^ 62 }
+    requires dialled { net.old.notes.dialled ≡ setup.options.peer }
+    ensures { RunsMirror setup.options (use_with N.faults N.served N.ended (N.L.S.left source) net.old.net net.new.net net.new.notes)
         (sent_through K.written K.settled K.faults sink.old sink.new) result }
 {
     let (mut source, mut request) = (source, request);
     match opening_of(setup.alloc, &mut source, &mut request) {
         Ok(opening) => {
             let first = opening.base();
-            let peer = Peer {
-                opening,
-                source,
-                port,
-            };
-            let beginning = Beginning {
+            serve_opening(
+                setup,
                 first,
-                peer: Some(peer),
-                cluster: None,
-            };
-            serve_log(setup, beginning, sink, clock, net, redial)
+                opening,
+                &mut source,
+                port,
+                sink,
+                clock,
+                net,
+                redial,
+            )
         }
         Err(why) => {
             say_no_opening(setup.rt, port, why);
@@ -179,13 +179,14 @@ fn refuse<K: Sink, N: Net>(
     source: <N::L as Listener>::S,
     request: <N::L as Listener>::K,
     sink: &mut K,
-    net: &mut N,
+    net: &mut NotedNet<N>,
 ) -> u8
     requires read { no ≡ LinkNo.ReadFault → 0 < N.L.S.faults source }
     requires written { no ≡ LinkNo.WriteFault → 0 < N.L.K.faults request }
-    requires few_faults { N.faults net.old < 2 ^ 62 }
-    ensures { Refuses IsOfBytes peer_line no (use_of N.faults N.served N.ended N.peer net.old net.new)
+    requires few_faults { N.faults net.old.net < 2 ^ 62 }
+    ensures refuses { Refuses IsOfBytes peer_line no (use_of N.faults N.served N.ended N.peer net.old.net net.new.net net.new.notes)
         (sent_through K.written K.settled K.faults sink.old sink.new) result }
+    ensures dialled { net.new.notes.dialled ≡ net.old.notes.dialled }
 {
     match no {
         LinkNo::ReadFault | LinkNo::WriteFault => {

@@ -11,6 +11,7 @@ use crate::options::{is_given, matched, number, optional, with_option};
 use crate::scope::{namespace, with_cluster};
 use crate::settings::{settings, with_settings};
 use clap::{ArgMatches, Command};
+use client_api::Resources;
 use kube_meta::{MAX_REVISION, Memory};
 use std::alloc::Global;
 use up_api::Settings;
@@ -91,7 +92,8 @@ fn with_origin<'a>(alloc: Global, command: Command<'a>) -> Result<Command<'a>, M
     let command = with_option(alloc, command, "cluster")?;
     let command = with_option(alloc, command, "resources")?;
     let command = with_option(alloc, command, "namespace")?;
-    with_option(alloc, command, "first-revision")
+    let command = with_option(alloc, command, "first-revision")?;
+    with_option(alloc, command, "history-mib")
 }
 
 fn serve_options(matches: &ArgMatches<'_>) -> Result<ServeOptions, Fault>
@@ -119,7 +121,9 @@ fn with_connections(matches: &ArgMatches<'_>, settings: Settings) -> Result<Serv
             connections,
             peer: None,
             cluster: None,
+            resources: Resources::ALL,
             first: 1,
+            history_mib: 256,
             settings,
         },
     )
@@ -152,6 +156,7 @@ pub(crate) fn with_first(
         return Err(Fault::FirstWithPeer);
     }
     options.first = number(matches, OptionName::FirstRevision, 1, MAX_REVISION, 1)?;
+    options.history_mib = number(matches, OptionName::HistoryMib, 1, 1_048_576, 256)?;
     Ok(options)
 }
 

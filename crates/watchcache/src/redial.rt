@@ -3,6 +3,7 @@
 use crate::cluster_advice::say_news;
 use cluster_link::Finding;
 use edge_io::{Failed, Net, ReadEnd, WriteEnd};
+use kube_meta::Resource;
 use net_front::{ClusterNews, News, Redial};
 use std::alloc::Global;
 use std::io::Eprint;
@@ -59,7 +60,11 @@ where
         };
     }
 
-    fn tell(&mut self, news: ClusterNews, finding: Option<&Finding>) {
-        say_news(self.rt, news, finding);
+    fn tell(&mut self, resource: Resource, news: ClusterNews, finding: Option<&Finding>) {
+        say_news(self.rt, resource, news, finding);
+    }
+
+    fn again(&self, _resource: Resource) -> LoopbackRedial<R> {
+        LoopbackRedial::new(self.alloc, self.rt)
     }
 }

@@ -1,6 +1,7 @@
-//! The options that say which cluster's pods a server mirrors.
+//! The options that say what a server mirrors of which cluster.
 
-ghost use Rattle.std.specs.Prelude.{◌≡◌, IfOk, IfSome};
+ghost use Rattle.std.specs.Prelude.{◌≡◌, IfOk, IfSome, bytes_eq, length};
+ghost use Rattle.std.specs.List.{slice_split};
 ghost use Rattle.clap.specs.Words.{first_of, found_of, rows_of};
 ghost use Rattle.kube_meta.specs.Names.{IsNamespace};
 ghost use Rattle.watchcache.specs.Options as spec;
@@ -10,7 +11,8 @@ use crate::asked::{Fault, OptionName, ServeOptions, WordsNo};
 use crate::options::{is_given, optional};
 use crate::reading::with_first;
 use clap::ArgMatches;
-use kube_meta::{Text, is_namespace};
+use client_api::Resources;
+use kube_meta::{Resource, Text, is_namespace};
 use std::alloc::Global;
 
 /// The options with the port of a cluster, where one is given, and with what stands behind it.
@@ -44,31 +46,92 @@ fn with_scope(matches: &ArgMatches<'_>, options: ServeOptions) -> Result<ServeOp
         let name = OptionName::Namespace;
         return Err(Fault::WantsCluster { name });
     }
-    check_resources(matches, is_cluster)?;
+    let mut options = options;
+    options.resources = scope_resources(matches, is_cluster)?;
     with_first(matches, options)
 }
 
-fn check_resources(matches: &ArgMatches<'_>, is_cluster: bool) -> Result<(), Fault>
+fn scope_resources(matches: &ArgMatches<'_>, is_cluster: bool) -> Result<Resources, Fault>
     ensures { result ≡ spec.scope_resources is_cluster (first_of (spec.option_text OptionName.Resources) (rows_of (found_of matches.now))) }
 {
     match matches.get_str(OptionName::Resources.text()) {
-        None => Ok(()),
+        None => Ok(Resources::ALL),
         Some(text) => given_resources(is_cluster, text),
     }
 }
 
-fn given_resources(is_cluster: bool, text: &str) -> Result<(), Fault>
+fn given_resources(is_cluster: bool, text: &str) -> Result<Resources, Fault>
     ensures { result ≡ spec.given_resources is_cluster text.now }
 {
     if !is_cluster {
         let name = OptionName::Resources;
         return Err(Fault::WantsCluster { name });
     }
-    if text == "pods" {
-        Ok(())
+    let text = text.as_bytes();
+    let named = named_resources(text);
+    if are_resources(text) && is_each_once(named, text) {
+        Ok(named)
     } else {
         Err(Fault::OtherResources)
     }
+}
+
+// Whether all that commas part are names of resources.
+fn are_resources(text: &[u8]) -> bool
+    ensures { result ≡ spec.are_resources text.now }
+{
+    text.split(|byte| *byte == b',')
+        .all(|part| is_resource(part))
+}
+
+fn is_resource(name: &[u8]) -> bool
+    ensures { result ≡ spec.is_resource name.now }
+{
+    Resource::of_plural(name).is_some()
+}
+
+// The resources that are named.
+fn named_resources(text: &[u8]) -> Resources
+    ensures { result ≡ spec.named_resources text.now }
+{
+    Resources {
+        pods: has_name(text, b"pods"),
+        config_maps: has_name(text, b"configmaps"),
+        deployments: has_name(text, b"deployments"),
+    }
+}
+
+fn has_name(text: &[u8], name: &[u8]) -> bool
+    ensures { result ≡ spec.has_name name.now text.now }
+{
+    text.split(|byte| *byte == b',')
+        .any(|part| is_name(part, name))
+}
+
+// Whether none of these is named twice.
+fn is_each_once(these: Resources, text: &[u8]) -> bool
+    ensures { result ≡ spec.is_each_once these text.now }
+{
+    parts_of(text) <= how_many(these)
+}
+
+// How many names commas part.
+fn parts_of(text: &[u8]) -> usize
+    ensures { result ≡ length (slice_split spec.is_list_comma text.now) }
+{
+    text.split(|byte| *byte == b',').count()
+}
+
+fn how_many(these: Resources) -> usize
+    ensures { result ≡ spec.how_many these }
+{
+    usize::from(these.pods) + usize::from(these.config_maps) + usize::from(these.deployments)
+}
+
+fn is_name(part: &[u8], name: &[u8]) -> bool
+    ensures { result ≡ bytes_eq part.now name.now }
+{
+    part == name
 }
 
 /// The namespace that is given, if any is. It has to be the name of one.

@@ -36,10 +36,11 @@ and of serve:
   --open N          connections that are served side by side, by threads that come as they are wanted: 1 to 65536, default 16384
   --connections N   connections that are accepted before it ends: 0 to 4611686018427387904, default 0, which is all
   --peer N          the port of a server whose pods it mirrors: 1 to 65535, default none
-  --cluster N       the port of `kubectl proxy` to a cluster whose pods it mirrors: 1 to 65535, default none
-  --resources NAME  which of the cluster's resources it mirrors: pods, which is the default
-  --namespace NAME  the one namespace whose pods it mirrors of the cluster, default all
+  --cluster N       the port of `kubectl proxy` to a cluster that it mirrors: 1 to 65535, default none
+  --resources LIST  what it mirrors of the cluster: some of pods,configmaps,deployments, default all
+  --namespace NAME  the one namespace that it mirrors of the cluster, default all
   --first-revision N  the revision of its empty log, unless it is a mirror: 1 to 4611686018427387904, default 1
+  --history-mib N   MiB of text in the changes of its log that are kept: 1 to 1048576, default 256
 
 those of load:
   --from N          what the requests are drawn from: 0 to 4611686018427387904, default 1

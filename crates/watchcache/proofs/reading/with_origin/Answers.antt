@@ -9,4 +9,5 @@ returns c =
     let two = more (codes "cluster") _ _ _ c.in_ok-command-2.ensures one in
     let three = more (codes "resources") _ _ _ c.in_ok-command-3.ensures two in
     let four = more (codes "namespace") _ _ _ c.in_ok-command-4.ensures three in
-    IfOk-weaker c.with_option-5.result _ _ (λ command h. more (codes "first-revision") _ _ _ h four) c.with_option-5.ensures
+    let five = more (codes "first-revision") _ _ _ c.in_ok-command-5.ensures four in
+    IfOk-weaker c.with_option-6.result _ _ (λ command h. more (codes "history-mib") _ _ _ h five) c.with_option-6.ensures

@@ -2,7 +2,7 @@ use Rattle.std.proofs.Common.{◌∙◌, sym, ap, option_map}
 use Rattle.clap.specs.Words.{first_of, found_of, rows_of}
 use Rattle.clap.proofs.WalkLemmas.{first_value-rows}
 use Rattle.watchcache.specs.Options.{scope_resources}
-use Rattle.watchcache.proofs.scope.check_resources.Goals as goal
+use Rattle.watchcache.proofs.scope.scope_resources.Goals as goal
 
 pub returns-in-None : goal.returns-in-None
 returns-in-None c =
