@@ -35,7 +35,8 @@ use Rattle.client_api.specs.declared.resources.Resources.{Resources}
 use Rattle.client_api.specs.declared.answers.ListNo.TheVariants.{Expired, TooLarge, Absent, Memory}
 use Rattle.sess_reply.specs.Replies.{unrouted, wrote, transacted, got, listed, operated, described, metered, unready, unwatched, bad_upgrade}
 use Rattle.sess_turns.specs.Terms.{Terms}
-use Rattle.sess_serve.specs.Answers.{Answer, Stream, gone, begun, replied, streamed, IsAnswerTo, IsUnrouted, FailsUpgrade}
+use Rattle.sess_serve.specs.Answers.{Answer, Stream, gone, begun, replied, streamed, IsAnswerTo, IsUnrouted}
+use Rattle.sess_serve.specs.Http.{FailsUpgrade}
 use Rattle.sess_serve.specs.Steps.{Exchange, Says, StreamSays, UnwatchedSays}
 use Rattle.laws.specs.Hindered.{IsHindered, IsCutOff}
 use Rattle.laws.specs.Answered.{RequestsAreServed}

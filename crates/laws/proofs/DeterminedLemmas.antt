@@ -46,7 +46,8 @@ use Rattle.client_api.specs.declared.answers.ListNo.TheVariants.{TooLarge, Expir
 use Rattle.client_api.specs.Starts.{StartsTooLarge}
 use Rattle.sess_reply.specs.Replies.{unrouted, wrote, transacted, got, listed, operated, described, metered, unready, unwatched, bad_upgrade}
 use Rattle.sess_turns.specs.Terms.{Terms}
-use Rattle.sess_serve.specs.Answers.{Answer, replied, streamed, is_stream, IsAnswerTo, IsUnrouted, IsPlainOrUpgrade, FailsUpgrade}
+use Rattle.sess_serve.specs.Answers.{Answer, replied, streamed, is_stream, IsAnswerTo, IsUnrouted}
+use Rattle.sess_serve.specs.Http.{IsPlainOrUpgrade, FailsUpgrade}
 use Rattle.sess_serve.specs.Steps.{Exchange, Says, IsAlone, Run, AreAlone}
 use Rattle.laws.specs.Determined.{HaveReplies, AreOne, AreAnsweredAlike, HoldAlike, TellAlike, IsSound, RepliesAreDetermined}
 use Rattle.laws.proofs.AnswerLemmas.{refusal_of, routed_clash, upgrade_clash}

@@ -14,10 +14,14 @@ pub mod DeterminedLemmas
 pub mod LoadLemmas
 pub mod PeerHeadLemmas
 pub mod StorableLemmas
+pub mod RouteStorableLemmas
 pub mod StoredRunLemmas
 pub mod PeerLemmas
 pub mod QueryLemmas
+pub mod MirrorRouteLemmas
+pub mod MirrorReadLemmas
 pub mod NextLineLemmas
 pub mod OpenedLemmas
+pub mod BadLineLemmas
 pub mod ServerLemmas
 pub mod ReplyTextLemmas

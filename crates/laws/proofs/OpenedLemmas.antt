@@ -18,11 +18,12 @@ use Rattle.line_stream.specs.Readers.{ReaderData, most_line, HoldsLine}
 use Rattle.line_stream.specs.Standing.{Stands}
 use Rattle.line_stream.specs.Streams.{ReadingsAgree}
 use Rattle.mirror_link.specs.OpeningRefusals.{reading_refusal}
-use Rattle.mirror_link.specs.Openings.{OpeningData, IsOpeningOf}
+use Rattle.mirror_link.specs.Openings.{OpeningData, IsOpeningOf, AreOpened}
 use Rattle.mirror_link.specs.Reading.{AreTexts, most_opening, opening_fault, are_upto, is_above_last, HasOpening, HasNoHead, HasNoLine, HasBadLine}
 use Rattle.mirror_link.specs.declared.link_refusal.LinkNo.{LinkNo}
 use Rattle.mirror_link.specs.declared.link_refusal.LinkNo.TheVariants as no
 use Rattle.select_all.specs.declared.selection.Kind.TheVariants.{Added}
+use Rattle.select_all.specs.declared.selection.Selection.{Selection}
 use Rattle.select_all.specs.Selecting.{selects}
 use Rattle.watch_lines.specs.Laws.{LinesAreOne, as_read}
 use Rattle.watch_lines.specs.Lines.{IsPeerLine, ReadsPeerLine}
@@ -100,7 +101,18 @@ above_last (x ∷ y ∷ others) row rest rising =
     ap (λ (last : Option RowData). option_map_or (λ (r : RowData). is_lt (slice_cmp nat_cmp (key_of r) (key_of row))) last true) (last_of_more x y others)
     ∙ above_last (y ∷ others) row rest rising.1
 
-found_is : LinesAreOne → (text : List ℕ) (found : Option PeerLine) (is : PeerLine) → ReadsPeerLine Pods text found → IsPeerLine Pods text is → found ≡ Some is
+-- the next of the rows of an opening is no fault
+pub added_well : (s : Selection) (rows others : List RowData) (row : RowData) (rest : List RowData) → AreOpened s rows → rows ≡ others ++ row ∷ rest
+    → opening_fault s others (Some (as_read (Told (initial row)))) ≡ None
+added_well s rows others row rest opened same =
+    let P : RowData → Type 0 = λ r. IsTrue (selects s r.obj) in
+    let behind : drop (length others) rows ≡ row ∷ rest = ap (drop (length others)) same ∙ drop_at others (row ∷ rest) (length others) refl in
+    let selected : selects s row.obj ≡ true =
+    All-head P row rest (All-same P (row ∷ rest) (drop (length others) rows) (sym behind) (All-drop P (length others) rows opened.selected)) in
+    let above : is_above_last others (key_of row) ≡ true = above_last others row rest (subst AreRising same opened.rising) in
+    ap (λ (b : Bool). cond (b && is_above_last others (key_of row)) None (Some no.BadLine)) selected ∙ ap (λ (b : Bool). cond b None (Some no.BadLine)) above
+
+pub found_is : LinesAreOne → (text : List ℕ) (found : Option PeerLine) (is : PeerLine) → ReadsPeerLine Pods text found → IsPeerLine Pods text is → found ≡ Some is
 found_is one text None is reads there = absurd (reads is there)
 found_is one text (Some found) is reads there = ap Some (one Pods text found is reads there)
 
@@ -110,23 +122,14 @@ module _ (one : LinesAreOne) (opening : OpeningData) (lawful : IsOpeningOf openi
       let upto : are_upto others opening.base ≡ true = upto_all others opening.base (subst (All (λ (row : RowData). row.rev ≤ opening.base)) same lawful.old) in
       ap (λ (b : Bool). cond b None (Some no.BadLine)) upto
 
-  adds_well : (others : List RowData) (row : RowData) (rest : List RowData) → opening.rows ≡ others ++ row ∷ rest → opening_fault opening.selection others (Some (as_read (Told (initial row)))) ≡ None
-  adds_well others row rest same =
-      let P : RowData → Type 0 = λ r. IsTrue (selects opening.selection r.obj) in
-      let behind : drop (length others) opening.rows ≡ row ∷ rest = ap (drop (length others)) same ∙ drop_at others (row ∷ rest) (length others) refl in
-      let selected : selects opening.selection row.obj ≡ true =
-      All-head P row rest (All-same P (row ∷ rest) (drop (length others) opening.rows) (sym behind) (All-drop P (length others) opening.rows lawful.rows.selected)) in
-      let above : is_above_last others (key_of row) ≡ true = above_last others row rest (subst AreRising same lawful.rows.rising) in
-      ap (λ (b : Bool). cond (b && is_above_last others (key_of row)) None (Some no.BadLine)) selected ∙ ap (λ (b : Bool). cond b None (Some no.BadLine)) above
-
   next_well : (others : List RowData) (text : List ℕ) (found : Option PeerLine) → Next opening.rows others opening.base text → ReadsPeerLine Pods text found
       → opening_fault opening.selection others found ≡ None
   next_well others text found (inl next) reads =
       ap (opening_fault opening.selection others) (found_is one text found (as_read (Closing opening.base)) reads next.1) ∙ closes_well others next.0
   next_well others text found (inr next) reads =
-      ap (opening_fault opening.selection others) (found_is one text found (as_read (Told (initial next.0))) reads next.3) ∙ adds_well others next.0 next.1 next.2
+      ap (opening_fault opening.selection others) (found_is one text found (as_read (Told (initial next.0))) reads next.3) ∙ added_well opening.selection opening.rows others next.0 next.1 lawful.rows next.2
 
-none_some : (why : LinkNo) → ◌≡◌ {A = Option LinkNo} None (Some why) → ⊥
+pub none_some : (why : LinkNo) → ◌≡◌ {A = Option LinkNo} None (Some why) → ⊥
 none_some why e = cc
 
 -- ---- the bytes

@@ -21,7 +21,7 @@ use Rattle.sess_turns.specs.Terms.{Terms}
 use Rattle.sess_turns.specs.Turns.{Finish, timed_out, stopped, lost, spent, broken, AloneFinish}
 use Rattle.sess_serve.specs.Answers.{Answer, gone, begun, replied, streamed, IsAnswerTo}
 use Rattle.sess_serve.specs.Steps.{Says, IsAlone}
-use Rattle.laws.specs.Storable.{IsStorable, AsksStorable, HoldsStored, LogsStayStored}
+use Rattle.laws.specs.Storable.{IsStorable, AsksStorable, RequestsAreStorable, HoldsStored, LogsStayStored}
 use Rattle.laws.proofs.ChangesLemmas.{as_answered, as_written, made_of, tx_refused, write_refused}
 use Rattle.laws.proofs.StorableLemmas.{stored_behind, changes_of_write, changes_of_writes}
 
@@ -113,8 +113,8 @@ module _ (terms : Terms) (p q : Pass RevisionData) (holds : HoldsStored (log_of 
   step_stays req (streamed ask (gone asked floor)) storable first to says sole = unchanged sole.same
   step_stays req (streamed ask (begun pass turns)) storable first to says sole = finishes pass turns.finish sole.0.same first sole.1
 
-pub logs_stay_stored : LogsStayStored
-logs_stay_stored terms p last [] run alone storable holds = subst (λ (z : Pass RevisionData). HoldsStored (log_of terms.base z)) run holds
-logs_stay_stored terms p last (e ∷ es) run alone storable holds =
-    logs_stay_stored terms e.pass last es run.1 alone.1 storable.1
-    (step_stays terms p e.pass holds e.request e.answer storable.0 run.0.onward.extends.log_is run.0.answers run.0.says alone.0)
+pub logs_stay_stored : RequestsAreStorable → LogsStayStored
+logs_stay_stored storable terms p last [] run alone holds = subst (λ (z : Pass RevisionData). HoldsStored (log_of terms.base z)) run holds
+logs_stay_stored storable terms p last (e ∷ es) run alone holds =
+    logs_stay_stored storable terms e.pass last es run.1 alone.1
+    (step_stays terms p e.pass holds e.request e.answer (storable e.request) run.0.onward.extends.log_is run.0.answers run.0.says alone.0)

@@ -15,7 +15,7 @@ use Rattle.watch_rules.specs.declared.starts.Start.TheVariants.{FromState, FromH
 use Rattle.route_req.specs.declared.routing.Routed.{Routed}
 use Rattle.route_req.specs.declared.routing.Routed.TheVariants as routed
 use Rattle.sess_turns.specs.Terms.{Terms}
-use Rattle.sess_serve.specs.Answers.{IsPlainOrUpgrade}
+use Rattle.sess_serve.specs.Http.{IsPlainOrUpgrade}
 use Rattle.laws.specs.Writing.{Takes}
 
 -- a revision is reached: the log ends with it, or goes on behind it

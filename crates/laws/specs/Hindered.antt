@@ -16,7 +16,7 @@ use Rattle.watch_rules.specs.declared.starts.Start.TheVariants.{FromState, FromH
 use Rattle.route_req.specs.declared.routing.Routed.{Routed}
 use Rattle.route_req.specs.declared.routing.Routed.TheVariants as routed
 use Rattle.sess_turns.specs.Terms.{Terms}
-use Rattle.sess_serve.specs.Answers.{FailsUpgrade}
+use Rattle.sess_serve.specs.Http.{FailsUpgrade}
 use Rattle.sess_serve.specs.Steps.{Exchange}
 use Rattle.laws.specs.Writing.{TakesNot}
 

@@ -1,6 +1,6 @@
 //! The laws.
 
-ghost use Rattle.laws.specs.Openings.{OpeningsAreOne, OpeningsAreNotRefused};
+ghost use Rattle.laws.specs.Openings.{OpeningsAreOne, OpeningsAreNotRefused, BadLinesAgree};
 ghost use Rattle.laws.specs.MirroredStreams.{WatchesAreRead};
 
 use line_stream::{outcomes_agree, readings_agree};
@@ -30,4 +30,12 @@ pub fn openings_are_not_refused()
     lines_are_one();
     readings_agree();
     outcomes_agree();
+}
+
+/// A line that no opening has is refused in one way, whatever follows.
+pub fn bad_lines_agree()
+    ensures { BadLinesAgree }
+{
+    lines_are_one();
+    readings_agree();
 }

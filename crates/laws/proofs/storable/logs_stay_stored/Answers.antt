@@ -1,5 +1,5 @@
-use Rattle.laws.proofs.StoredRunLemmas.{logs_stay_stored}
+use Rattle.laws.proofs.StoredRunLemmas as lemmas
 use Rattle.laws.proofs.storable.logs_stay_stored.Goals as goal
 
 pub returns : goal.returns
-returns c = logs_stay_stored
+returns c = lemmas.logs_stay_stored c.requests_are_storable.ensures
