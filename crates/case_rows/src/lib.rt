@@ -11,7 +11,7 @@ mod words;
 
 pub use draws::Draws;
 pub use objects::{key, object, tell_row};
-pub use rows::{Lines, NO_ROW, NO_STEP, Row, Steps, meets, run_rows, says_nothing};
+pub use rows::{Lines, NO_ROW, NO_STEP, Row, Steps, run_rows, says_nothing};
 pub use tallies::Tally;
 pub use wording::Wording;
-pub use words::{number, plain, split};
+pub use words::{number, plain, split, words_of};

@@ -23,12 +23,14 @@ pub fn object(alloc: Global, key: Key) -> Result<Obj, Memory>
     ensures bare { IfOk result (λ obj. (obj.labels ≡ []) × (obj.fields ≡ [])) }
     ensures json { IfOk result (λ obj. (obj.front ≡ codes "{\"metadata\":{\"resourceVersion\":\"") × (obj.back ≡ codes "\"}}")) }
 {
+    let front = Text::new(alloc, "{\"metadata\":{\"resourceVersion\":\"")?;
+    let back = Text::new(alloc, "\"}}")?;
     Ok(Obj {
         key,
         labels: Labels::new(alloc),
         fields: Fields::new(Vec::new(alloc)),
-        front: Text::new(alloc, "{\"metadata\":{\"resourceVersion\":\"")?,
-        back: Text::new(alloc, "\"}}")?,
+        front,
+        back,
         meta_from: 0,
         meta_to: 0,
     })

@@ -1,14 +1,12 @@
 //! How a row is written: `STEP => ANSWER`, and behind the answer, after two blanks, `# why`; and how rows are run.
 
-ghost use Rattle.std.specs.Prelude.{◌≡◌, ◌↔◌, [], ◌∷◌, true, false, IfSome, IfNone, IfOk, OnOk, IsTrue};
+ghost use Rattle.std.specs.Prelude.{◌≡◌, [], ◌∷◌, true, false, IfSome, IfNone, OnOk};
 ghost use Rattle.std.specs.Str.Lines.{lines as lines_of};
 ghost use Rattle.case_rows.specs.Rows.{is_silent, AreParts, IsBeforeComment, IsRowOf, CountsRows};
 
 use crate::tallies::Tally;
 use crate::wording::Wording;
 use std::alloc::{AllocError, Global};
-use std::io;
-use std::rt::Runtime;
 
 /// What a line wants that is no row: an answer that nothing gives.
 pub const NO_ROW: &str = "(a row is written STEP => ANSWER)";
@@ -91,38 +89,35 @@ pub struct Lines<'a> {
 }
 
 /// Makes the steps of some lines, one after the other, and counts each row, as far as there are numbers.
-pub fn run_rows<R: Runtime, S: Steps>(
-    rt: &R,
+pub fn run_rows<S: Steps>(
     alloc: Global,
     lines: Lines<'_>,
     steps: &mut S,
     tally: &mut Tally,
-) -> io::Result<()>
+) -> Result<(), AllocError>
     ensures { OnOk result (CountsRows (lines_of lines.entry.text.now) tally.old.rows tally.new.rows) }
 {
     let mut number = lines.first;
     for line in lines.text.lines() {
-        run_line(rt, alloc, (lines.file, number), line, steps, tally)?;
+        run_line(alloc, (lines.file, number), line, steps, tally)?;
         number = number.saturating_add(1);
     }
     Ok(())
 }
 
 // Makes the step of a line that is a row, and counts it.
-fn run_line<R: Runtime, S: Steps>(
-    rt: &R,
+fn run_line<S: Steps>(
     alloc: Global,
     place: (&str, u64),
     line: &str,
     steps: &mut S,
     tally: &mut Tally,
-) -> io::Result<()>
+) -> Result<(), AllocError>
     ensures { OnOk result (CountsRows (line.now ∷ []) tally.old.rows tally.new.rows) }
 {
     if let Some(row) = Row::of_line(line, NO_ROW) {
         let answer = answer_to(alloc, row.step, steps)?;
-        let met = meets(rt, place, row, answer.as_str())?;
-        tally.count(met);
+        tally.take(place, row, answer.as_str());
     }
     Ok(())
 }
@@ -132,18 +127,4 @@ fn answer_to<S: Steps>(alloc: Global, step: &str, steps: &mut S) -> Result<Strin
     let mut told = Wording::new(alloc);
     steps.answer(alloc, step, &mut told)?;
     told.whole()
-}
-
-/// Whether a row has the answer that it wants; if not, it is printed with its place and both answers.
-pub fn meets<R: Runtime>(rt: &R, place: (&str, u64), row: Row<'_>, answer: &str) -> io::Result<bool>
-    ensures { IfOk result (λ met. IsTrue met ↔ (answer.now ≡ row.entry.wanted.now)) }
-{
-    if answer == row.wanted {
-        return Ok(true);
-    }
-    let (file, number) = place;
-    println!(rt; "{file}:{number}: {}", row.step)?;
-    println!(rt; "    wanted: {}", row.wanted)?;
-    println!(rt; "    answer: {answer}")?;
-    Ok(false)
 }

@@ -4,6 +4,7 @@ ghost use Rattle.std.specs.Prelude.{◌≡◌, ◌==◌, ◌⊎◌, ℕ, IfOk, s
 ghost use Rattle.std.specs.List.{before_first, after_first};
 ghost use Rattle.case_rows.specs.Words.{Says, HasNoMark};
 
+use crate::wording::Wording;
 use std::alloc::{AllocError, Global};
 
 /// The first word, and what stands behind the blank after it.
@@ -12,6 +13,17 @@ pub fn split(text: &str) -> (&str, &str)
     ensures rest { result.1.now ≡ after_first (λ b. b == 32) text.now }
 {
     text.split_once(' ').unwrap_or((text, ""))
+}
+
+/// The words behind a word that begins a line; those of the first such line.
+pub fn words_of<'a>(lines: &'a str, word: &str) -> Option<&'a str> {
+    for line in lines.lines() {
+        let (first, words) = split(line);
+        if first == word {
+            return Some(words);
+        }
+    }
+    None
 }
 
 /// The number that a word says; 0 where it says none.
@@ -30,25 +42,26 @@ pub fn plain(alloc: Global, text: &str) -> Result<String, AllocError>
     let Some((front, behind)) = text.split_once('<') else {
         return String::from_str(alloc, text);
     };
-    let mut plain = String::from_str(alloc, front)?;
+    let mut plain = Wording::new(alloc);
+    plain.add(front);
     for part in behind.split('<') {
-        push_part(&mut plain, part)?;
+        add_part(part, &mut plain);
     }
-    Ok(plain)
+    plain.whole()
 }
 
-// Puts what stands behind a `<`.
-fn push_part(plain: &mut String, part: &str) -> Result<(), AllocError> {
-    if let Some((name, behind)) = part.split_once('>') {
-        if let Some((times, piece)) = repeated(name) {
+// Adds what stands behind a `<`.
+fn add_part(part: &str, plain: &mut Wording) {
+    let (name, behind) = part.split_once('>').unwrap_or(("", ""));
+    match repeated(name) {
+        Some((times, piece)) => {
             for _ in 0..times {
-                plain.push_str(piece)?;
+                plain.add(piece);
             }
-            return plain.push_str(behind);
+            plain.add(behind);
         }
+        None => plain.show(&format_args!("<{part}")),
     }
-    plain.push_str("<")?;
-    plain.push_str(part)
 }
 
 // How often, and what.

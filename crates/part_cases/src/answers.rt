@@ -6,16 +6,21 @@ use obj_tree::Snapshot;
 use rev_log::Revision;
 use watch_lane::Line;
 
-/// Each line as `[Added p-1 2]`.
+/// Each line.
 pub fn tell_lines(lines: &[Line], told: &mut Wording) {
     if lines.is_empty() {
         told.add("nothing");
     }
     for line in lines {
-        let row = line.shown.row();
-        let name = row.obj.key.name();
-        told.show(&format_args!("[{:?} {name} {}]", line.kind, row.rev));
+        tell_line(line, told);
     }
+}
+
+/// A line as `[Added p-1 2]`.
+pub fn tell_line(line: &Line, told: &mut Wording) {
+    let row = line.shown.row();
+    let name = row.obj.key.name();
+    told.show(&format_args!("[{:?} {name} {}]", line.kind, row.rev));
 }
 
 /// Each row of a cache's state as `[p-1 2]`.

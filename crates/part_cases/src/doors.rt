@@ -22,18 +22,16 @@ struct Client<N: LogFacts, R: Wait + Copy> {
 }
 
 /// Two threads create twenty pods each, through doors of their own to one store. What a third door finds then.
-pub fn create_by_two_doors<R: Wait + Threads + Sync>(
-    rt: &R,
+pub fn create_by_two_doors<R: Wait + Threads + Copy + Send + Sync + Drop>(
+    rt: R,
     alloc: Global,
-) -> Result<String, Memory> {
-    let made = blank(alloc, 1)?;
-    let mut told = Wording::new(alloc);
-    by_two_doors::<Brand, R>(rt, alloc, made, &mut told)?;
-    told.whole()
+    told: &mut Wording,
+) -> Result<(), Memory> {
+    by_two_doors::<Brand, R>(rt, alloc, blank(alloc, 1)?, told)
 }
 
-fn by_two_doors<N: LogFacts + Send + Sync, R: Wait + Threads + Sync>(
-    rt: &R,
+fn by_two_doors<N: LogFacts + Send + Sync, R: Wait + Threads + Copy + Send + Sync + Drop>(
+    rt: R,
     alloc: Global,
     made: Blank<Revision>,
     told: &mut Wording,
@@ -44,8 +42,8 @@ fn by_two_doors<N: LogFacts + Send + Sync, R: Wait + Threads + Sync>(
 {
     let store: Store<N> = Store::new(alloc, made, 100)?;
     let door = StoreDoor::new(rt, store)?;
-    create_by_two(rt, alloc, &door)?;
-    tell_pods(client_at(&door)?, told);
+    create_by_two(&rt, alloc, &door)?;
+    tell_pods(&mut client_at(&door)?, told);
     Ok(())
 }
 
@@ -58,30 +56,26 @@ fn client_at<N: LogFacts, R: Wait + Copy>(door: &StoreDoor<N, R>) -> Result<Clie
     })
 }
 
-fn create_by_two<N: LogFacts + Send + Sync, R: Wait + Threads + Sync>(
+fn create_by_two<N: LogFacts + Send + Sync, R: Wait + Threads + Copy + Send + Sync + Drop>(
     rt: &R,
     alloc: Global,
-    door: &StoreDoor<N, &R>,
+    door: &StoreDoor<N, R>,
 ) -> Result<(), Memory> {
-    let first = client_at(door)?;
-    let second = client_at(door)?;
-    let (one, other) = thread::join(
-        rt,
-        move || twenty(alloc, first, "a"),
-        move || twenty(alloc, second, "b"),
-    );
-    one?;
-    other
+    let part = |number: usize| twenty::<N, R>(alloc, door, number).is_ok();
+    let _ = thread::map_indices(rt, alloc, 2, &part)?;
+    Ok(())
 }
 
-/// Creates twenty pods whose names begin so.
+/// Creates twenty pods, whose names begin with this number, through a door of its own.
 fn twenty<N: LogFacts, R: Wait + Copy>(
     alloc: Global,
-    mut client: Client<N, R>,
-    name: &str,
+    door: &StoreDoor<N, R>,
+    number: usize,
 ) -> Result<(), Memory> {
-    for number in 0..20u64 {
-        create(alloc, &mut client, name, number)?;
+    let mut client = client_at(door)?;
+    for pod in 0..20u64 {
+        let text = format!(in alloc; "create p-{number}-{pod}")?;
+        create(alloc, &mut client, text.as_str())?;
     }
     Ok(())
 }
@@ -89,18 +83,16 @@ fn twenty<N: LogFacts, R: Wait + Copy>(
 fn create<N: LogFacts, R: Wait + Copy>(
     alloc: Global,
     client: &mut Client<N, R>,
-    name: &str,
-    number: u64,
+    text: &str,
 ) -> Result<(), Memory> {
-    let text = format!(in alloc; "create {name}-{number}")?;
-    if let Some(ask) = write_of(alloc, text.as_str())? {
+    if let Some(ask) = write_of(alloc, text)? {
         let _ = client.door.write(&ask, &mut client.told);
     }
     Ok(())
 }
 
 /// How many pods there are behind the forty creates.
-fn tell_pods<N: LogFacts, R: Wait + Copy>(mut client: Client<N, R>, told: &mut Wording) {
+fn tell_pods<N: LogFacts, R: Wait + Copy>(client: &mut Client<N, R>, told: &mut Wording) {
     match client.door.list_at(Resource::Pods, 41, &mut client.told) {
         Ok(rows) => told.show(&format_args!("{} pods at 41", rows.len())),
         Err(no) => told.debug(&no),

@@ -1,14 +1,17 @@
 //! What is told by a few lines of code each.
 
-use case_rows::{NO_STEP, Steps, Wording};
+use crate::doors::create_by_two_doors;
+use case_rows::{Lines, NO_STEP, Steps, Tally, Wording, run_rows};
 use kube_meta::Memory;
 use std::alloc::Global;
+use std::sync::Wait;
+use std::thread::Threads;
 use up_api::Settings;
 
-/// What two threads told, which were started before.
+/// What two threads told, which were run before.
 #[derive(Drop)]
-pub struct Scenes {
-    pub doors: String,
+struct Scenes {
+    doors: String,
 }
 
 impl Steps for Scenes {
@@ -20,4 +23,23 @@ impl Steps for Scenes {
         }
         Ok(())
     }
+}
+
+/// Makes the steps of scenes. Two threads run once, before the first.
+pub fn run_scenes<R: Wait + Threads + Copy + Send + Sync + Drop>(
+    rt: R,
+    alloc: Global,
+    lines: Lines<'_>,
+    tally: &mut Tally,
+) -> Result<(), Memory> {
+    let mut told = Wording::new(alloc);
+    create_by_two_doors(rt, alloc, &mut told)?;
+    run_rows(
+        alloc,
+        lines,
+        &mut Scenes {
+            doors: told.whole()?,
+        },
+        tally,
+    )
 }

@@ -6,50 +6,48 @@ ghost use Rattle.std.specs.Prelude.{◌≡◌, [], false};
 use crate::scene::{Scene, Stage};
 use crate::start::Start;
 use case_rows::{Lines, Tally, run_rows};
+use kube_meta::Memory;
 use rev_front::{Blank, blank};
 use rev_log::Revision;
 use std::alloc::Global;
-use std::io;
 use std::marker::Brand;
-use std::rt::Runtime;
 use up_api::LogFacts;
 
 /// Makes the steps of a script on a new log.
-pub fn run_script<R: Runtime>(
-    rt: &R,
+pub fn run_script(
     alloc: Global,
     first: &str,
     rows: Lines<'_>,
     tally: &mut Tally,
-) -> io::Result<()> {
+) -> Result<(), Memory> {
     let start = Start::read(alloc, first)?;
     let made = blank(alloc, start.first())?;
-    run_scene::<Brand, R>(rt, alloc, made, start, rows, tally)
+    run_scene::<Brand>(alloc, made, start, rows, tally)
 }
 
-fn run_scene<N: LogFacts, R: Runtime>(
-    rt: &R,
+fn run_scene<N: LogFacts>(
     alloc: Global,
     made: Blank<Revision>,
     start: Start,
     rows: Lines<'_>,
     tally: &mut Tally,
-) -> io::Result<()>
+) -> Result<(), Memory>
     requires name { made ≡ N.log }
     requires base { N.base ≡ [] }
     requires own { N.mirror ≡ false }
 {
     let scene: Scene<N> = Scene::new(alloc, made, start)?;
-    run_on(rt, alloc, rows, Stage::new(alloc, scene), tally)
+    run_on(alloc, rows, Stage::new(alloc, scene), tally)
 }
 
 /// Makes the steps on a scene that stands until the last one.
-fn run_on<N: LogFacts, R: Runtime>(
-    rt: &R,
+fn run_on<N: LogFacts>(
     alloc: Global,
     rows: Lines<'_>,
     mut stage: Stage<N>,
     tally: &mut Tally,
-) -> io::Result<()> {
-    run_rows(rt, alloc, rows, &mut stage, tally)
+) -> Result<(), Memory> {
+    let ran = run_rows(alloc, rows, &mut stage, tally);
+    drop(stage);
+    ran
 }

@@ -5,25 +5,35 @@ use kube_meta::{Fields, Memory, Obj, Resource, Text};
 use std::alloc::Global;
 use up_store::WriteAsk;
 
-/// The write that is written so, if it is one: `create NAMED [NODE]`, `replace NAMED [NODE]`, `replace NAMED GIVEN` or
-/// `remove NAMED`. `NAMED` is a pod's name, or a resource's plural, a `/` and a name; `GIVEN` is the revision that is
-/// replaced.
+/// The write that is written so, if it is one: `create NAMED [NODE [APP]]`, `replace NAMED [NODE [APP]]`,
+/// `replace NAMED GIVEN` or `remove NAMED`. `NAMED` is a pod's name, or a resource's plural, a `/` and a name; `APP` is
+/// the value of a label; `GIVEN` is the revision that is replaced.
 pub fn write_of(alloc: Global, text: &str) -> Result<Option<WriteAsk>, Memory> {
     let (word, rest) = split(text);
-    let (named, second) = split(rest);
+    let (named, values) = split(rest);
     let (plural, name) = named.split_once('/').unwrap_or(("pods", named));
-    let Some(resource) = Resource::of_plural(plural.as_bytes()) else {
-        return Ok(None);
-    };
+    match Resource::of_plural(plural.as_bytes()) {
+        Some(resource) => ask_of(alloc, word, resource, name, values),
+        None => Ok(None),
+    }
+}
+
+fn ask_of(
+    alloc: Global,
+    word: &str,
+    resource: Resource,
+    name: &str,
+    values: &str,
+) -> Result<Option<WriteAsk>, Memory> {
     let ask = match word {
         "create" => WriteAsk::Create {
             resource,
-            obj: bound(alloc, name, second)?,
+            obj: bound(alloc, name, values)?,
         },
         "replace" => WriteAsk::Replace {
             resource,
-            obj: bound(alloc, name, second)?,
-            given: second.parse::<u64>().ok(),
+            obj: bound(alloc, name, values)?,
+            given: values.parse::<u64>().ok(),
         },
         "remove" => WriteAsk::Remove {
             resource,
@@ -45,10 +55,16 @@ pub fn writes_of(alloc: Global, text: &str) -> Result<Vec<WriteAsk>, Memory> {
     Ok(asks)
 }
 
-/// An object that is bound to a node, which is its first listed field.
-fn bound(alloc: Global, name: &str, node: &str) -> Result<Obj, Memory> {
+// An object that is bound to a node, which is its first listed field, and has a label or none.
+fn bound(alloc: Global, name: &str, values: &str) -> Result<Obj, Memory> {
+    let (node, app) = split(values);
     let mut obj = object(alloc, key(alloc, name)?)?;
     obj.fields = listed(alloc, node)?;
+    if !app.is_empty() {
+        let _ = obj
+            .labels
+            .put(Text::new(alloc, "app")?, Text::new(alloc, app)?)?;
+    }
     Ok(obj)
 }
 

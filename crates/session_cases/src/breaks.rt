@@ -1,7 +1,7 @@
 //! Sessions that break off at one place after the other.
 
 use crate::case::Case;
-use crate::serving::{Kind, Way, serve};
+use crate::serving::{Kind, Outcome, Way, serve};
 use crate::trying::{PIECE, compare};
 use case_rows::{Wording, number, split};
 use kube_meta::Memory;
@@ -88,9 +88,10 @@ fn broken_at<R: Wait + Copy + Drop>(
     at: usize,
 ) -> Result<Run, Memory> {
     let whole = case.sent.as_slice();
+    let read_fault = if fails { Some(at as u64) } else { None };
     let way = Way {
         read: 1,
-        read_fault: if fails { Some(at as u64) } else { None },
+        read_fault,
         ..Way::in_pieces(PIECE)
     };
     let input = if fails {
@@ -98,17 +99,32 @@ fn broken_at<R: Wait + Copy + Drop>(
     } else {
         whole.get(..at).unwrap_or(whole)
     };
+    served(rt, alloc, kind, case, input, way)
+}
+
+// What a session comes to.
+fn served<R: Wait + Copy + Drop>(
+    rt: R,
+    alloc: Global,
+    kind: Kind,
+    case: &Case<'_>,
+    input: &[u8],
+    way: Way,
+) -> Result<Run, Memory> {
     let outcome = serve(rt, alloc, kind, case.lines, input, way)?;
-    let is_wanted = case.wanted.as_slice().starts_with(outcome.bytes());
-    Ok(Run {
+    let run = run_of(case, &outcome);
+    drop(outcome);
+    Ok(run)
+}
+
+fn run_of(case: &Case<'_>, outcome: &Outcome) -> Run {
+    let bytes = outcome.bytes();
+    let is_wanted = case.wanted.as_slice().starts_with(bytes);
+    Run {
         times: 1,
         end: outcome.end,
-        length: if is_wanted {
-            outcome.bytes().len()
-        } else {
-            usize::MAX
-        },
-    })
+        length: if is_wanted { bytes.len() } else { usize::MAX },
+    }
 }
 
 // The first call of a sink at which a session that fails there doesn't come out as it should: its end is WriteFault,
@@ -121,7 +137,7 @@ fn first_call_amiss<R: Wait + Copy + Drop>(
     case: &Case<'_>,
     step: usize,
 ) -> Result<Option<u64>, Memory> {
-    let wanted = case.wanted.as_slice();
+    let sent = case.sent.as_slice();
     let mut before = 0usize;
     for call in 0..CALLS {
         let way = Way {
@@ -129,25 +145,20 @@ fn first_call_amiss<R: Wait + Copy + Drop>(
             write_fault: Some(call),
             ..Way::in_pieces(PIECE)
         };
-        let outcome = serve(rt, alloc, kind, case.lines, case.sent.as_slice(), way)?;
-        let length = outcome.bytes().len();
+        let run = served(rt, alloc, kind, case, sent, way)?;
         let most = if call == 0 {
             0
         } else {
             before.saturating_add(step)
         };
-        let grows = before <= length && length <= most && wanted.starts_with(outcome.bytes());
-        if !grows {
+        if run.length < before || most < run.length {
             return Ok(Some(call));
         }
-        if outcome.end != SessionEnd::WriteFault {
-            return Ok(if length == wanted.len() {
-                None
-            } else {
-                Some(call)
-            });
+        if run.end != SessionEnd::WriteFault {
+            let is_whole = run.length == case.wanted.as_slice().len();
+            return Ok(if is_whole { None } else { Some(call) });
         }
-        before = length;
+        before = run.length;
     }
     Ok(Some(CALLS))
 }

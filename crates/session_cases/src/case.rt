@@ -93,14 +93,3 @@ fn take_wanted(wanted: &mut Bytes, word: &str, text: &str) -> bool {
     }
     true
 }
-
-/// The words behind a word that begins a line; the first such line's.
-pub fn words_of<'a>(lines: &'a str, word: &str) -> Option<&'a str> {
-    for line in lines.lines() {
-        let (first, words) = split(line);
-        if first == word {
-            return Some(words);
-        }
-    }
-    None
-}

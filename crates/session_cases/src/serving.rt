@@ -91,18 +91,26 @@ pub fn serve<R: Wait + Copy + Drop>(
     input: &[u8],
     way: Way,
 ) -> Result<Outcome, Memory> {
-    let mut ends = Ends {
-        source: MemSource::new(
-            input.to_vec(alloc)?,
-            way.read.max(1),
-            calls(alloc, way.read_fault)?,
-        ),
-        sink: MemSink::new(way.write.max(1), calls(alloc, way.write_fault)?),
-        clock: CaseClock::new(option(lines, "--stop", 0)),
-    };
+    let mut ends = ends_of(alloc, lines, input, way)?;
     let settings = settings_of(lines);
-    let end = serve_through(rt, alloc, kind, first_of(lines), &settings, &mut ends)?;
-    Ok(Outcome { end, ends })
+    match serve_through(rt, alloc, kind, first_of(lines), &settings, &mut ends) {
+        Ok(end) => Ok(Outcome { end, ends }),
+        Err(no) => {
+            drop(ends);
+            Err(no)
+        }
+    }
+}
+
+fn ends_of(alloc: Global, lines: &str, input: &[u8], way: Way) -> Result<Ends, Memory> {
+    let input = input.to_vec(alloc)?;
+    let read_faults = calls(alloc, way.read_fault)?;
+    let write_faults = calls(alloc, way.write_fault)?;
+    Ok(Ends {
+        source: MemSource::new(input, way.read.max(1), read_faults),
+        sink: MemSink::new(way.write.max(1), write_faults),
+        clock: CaseClock::new(option(lines, "--stop", 0)),
+    })
 }
 
 // The number of a call, where there is one.

@@ -3,10 +3,10 @@
 ghost use Rattle.std.specs.Prelude.{◌≤◌, ◌^◌};
 
 use crate::breaks::try_break;
-use crate::case::{Case, words_of};
-use crate::serving::{Kind, Way, serve};
+use crate::case::Case;
+use crate::serving::{Kind, Outcome, Way, serve};
 use crate::sockets::reads_back;
-use case_rows::{Wording, number, split};
+use case_rows::{Wording, number, split, words_of};
 use edge_io::MemSink;
 use kube_meta::Memory;
 use load_gen::run_load;
@@ -31,8 +31,12 @@ pub fn others_of<R: Wait + Copy + Drop>(
 ) -> Result<String, Memory> {
     let mut told = Wording::new(alloc);
     let case = Case::read(alloc, lines, &mut told);
-    try_case(rt, alloc, kind, &case, &mut told)?;
-    told.whole()
+    let tried = try_case(rt, alloc, kind, &case, &mut told);
+    drop(case);
+    match tried {
+        Ok(()) => told.whole(),
+        Err(no) => Err(no),
+    }
 }
 
 // Makes a load, or serves a session, in pieces of either length, and then so that it breaks off.
@@ -87,6 +91,17 @@ fn try_session<R: Wait + Copy + Drop>(
 ) -> Result<(), Memory> {
     let way = Way::in_pieces(step);
     let outcome = serve(rt, alloc, kind, case.lines, case.sent.as_slice(), way)?;
+    let compared = tell_outcome(alloc, case, &outcome, told);
+    drop(outcome);
+    compared
+}
+
+fn tell_outcome(
+    alloc: Global,
+    case: &Case<'_>,
+    outcome: &Outcome,
+    told: &mut Wording,
+) -> Result<(), Memory> {
     compare(case.wanted.as_slice(), outcome.bytes(), told);
     if let Some(at) = case.frames_at {
         let frames = outcome.bytes().get(at..).unwrap_or(b"");
