@@ -1,1 +1,2 @@
 pub mod SceneLemmas
+pub mod QuietLemmas

@@ -1,7 +1,7 @@
 //! What a step and its plain fellow take.
 
+use case_rows::Wording;
 use kube_meta::Memory;
-use std::io;
 use std::time::Instant;
 
 /// What a step and its plain fellow take, in nanoseconds.
@@ -43,6 +43,14 @@ fn since(rt: &HostRuntime, from: Instant) -> Option<u64> {
     u64::try_from(took.as_nanos()).ok()
 }
 
+/// A value, once what it needs is done.
+pub fn done<T: Drop>(value: T, done: Result<(), Memory>) -> Result<T, Memory> {
+    match done {
+        Ok(()) => Ok(value),
+        Err(no) => Err(no),
+    }
+}
+
 /// A step and its plain fellow, which do the same.
 pub trait Race {
     /// Makes both ready for a run. This isn't timed.
@@ -57,14 +65,14 @@ pub trait Race {
     fn plain(&mut self) -> u64;
 }
 
-/// Times both in some runs that take turns, and prints the best of each. A run has so many steps.
+/// Times both in some runs that take turns, and tells the best of each. A run has so many steps.
 pub fn time_race<C: Race>(
     rt: &HostRuntime,
     name: &str,
     race: &mut C,
-    runs: usize,
-    steps: u64,
-) -> io::Result<()> {
+    (runs, steps): (usize, u64),
+    told: &mut Wording,
+) -> Result<(), Memory> {
     let mut best = Pair {
         step: u64::MAX,
         plain: u64::MAX,
@@ -78,27 +86,22 @@ pub fn time_race<C: Race>(
         sum = sum.wrapping_add(race.plain());
         best.plain = best.plain.min(laps.lap(rt));
     }
-    print_pair(rt, name, best, steps)?;
-    println!(rt; "    sum {sum}")
+    tell_pair(name, best, steps, told);
+    told.show(&format_args!("    sum {sum}\n"));
+    Ok(())
 }
 
-/// Prints a pair of so many steps: what one and its plain fellow take in hundredths of a nanosecond, and their ratio.
-pub fn print_pair(rt: &HostRuntime, name: &str, pair: Pair, steps: u64) -> io::Result<()> {
-    let step = cents(pair.step, steps);
-    let plain = cents(pair.plain, steps);
-    let ratio = cents(pair.step, pair.plain);
-    println!(rt;
-        "{name} {}.{:02} ns, plain {}.{:02} ns, ratio {}.{:02}",
-        step / 100,
-        step % 100,
-        plain / 100,
-        plain % 100,
-        ratio / 100,
-        ratio % 100
-    )
+/// Tells a pair of so many steps: what one and its plain fellow take, and their ratio.
+pub fn tell_pair(name: &str, pair: Pair, steps: u64, told: &mut Wording) {
+    told.add(name);
+    tell_cents(" ", pair.step, steps, told);
+    tell_cents(" ns, plain ", pair.plain, steps, told);
+    tell_cents(" ns, ratio ", pair.step, pair.plain, told);
+    told.add("\n");
 }
 
-// The hundredths of a quotient.
-fn cents(number: u64, parts: u64) -> u64 {
-    number.saturating_mul(100) / parts.max(1)
+// Tells some words, and a quotient in hundredths.
+fn tell_cents(words: &str, number: u64, parts: u64, told: &mut Wording) {
+    let cents = number.saturating_mul(100) / parts.max(1);
+    told.show(&format_args!("{words}{}.{:02}", cents / 100, cents % 100));
 }

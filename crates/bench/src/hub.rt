@@ -11,14 +11,15 @@ mod times;
 use crate::hub::beside::Bench;
 use crate::hub::scene::Scene;
 use crate::hub::times::{FEW, KINDS, NODES, report_changes, report_reads};
+use case_rows::Wording;
+use kube_meta::Memory;
 use rev_front::{Blank, blank};
 use rev_log::Revision;
 use std::alloc::Global;
-use std::io;
 use std::marker::Brand;
 use up_api::LogFacts;
 
-/// What is printed of a cache: counts, times at 1,000 objects, or times at 100,000.
+/// What is told of a cache: counts, times at 1,000 objects, or times at 100,000.
 #[derive(Clone, Copy)]
 enum Task {
     Counts,
@@ -27,7 +28,7 @@ enum Task {
 }
 
 /// Counts what a small cache has, and how often its objects are held; or times a small one and a large one.
-pub fn run(rt: &HostRuntime, alloc: Global, timed: bool) -> io::Result<()> {
+pub fn run(rt: &HostRuntime, alloc: Global, timed: bool, told: &mut Wording) -> Result<(), Memory> {
     for task in [Task::Counts, Task::Small, Task::Large] {
         let (is_timed, objects) = match task {
             Task::Counts => (false, 1_000),
@@ -35,7 +36,7 @@ pub fn run(rt: &HostRuntime, alloc: Global, timed: bool) -> io::Result<()> {
             Task::Large => (true, 100_000),
         };
         if is_timed == timed {
-            run_over::<Brand>(rt, alloc, blank(alloc, 1)?, task, objects)?;
+            run_over::<Brand>(rt, alloc, blank(alloc, 1)?, task, objects, told)?;
         }
     }
     Ok(())
@@ -48,37 +49,45 @@ fn run_over<N: LogFacts>(
     made: Blank<Revision>,
     task: Task,
     objects: usize,
-) -> io::Result<()>
+    told: &mut Wording,
+) -> Result<(), Memory>
     requires name { made ≡ N.log }
     requires base { N.base ≡ [] }
     requires own { N.mirror ≡ false }
 {
     let scene: Scene<N> = Scene::new(alloc, made, objects)?;
-    run_on(rt, &mut Bench::new(alloc, scene)?, task)
+    let mut bench = Bench::new(alloc, scene)?;
+    let ran = run_on(rt, &mut bench, task, told);
+    drop(bench);
+    ran
 }
 
-fn run_on<N: LogFacts>(rt: &HostRuntime, bench: &mut Bench<N>, task: Task) -> io::Result<()> {
+fn run_on<N: LogFacts>(
+    rt: &HostRuntime,
+    bench: &mut Bench<N>,
+    task: Task,
+    told: &mut Wording,
+) -> Result<(), Memory> {
     match task {
-        Task::Counts => count(rt, bench),
-        Task::Small => {
-            report_changes(rt, bench, &KINDS, 20, 10)?;
-            report_reads(rt, bench)
-        }
-        Task::Large => {
-            report_changes(rt, bench, &NODES, 3, 10_000)?;
-            report_reads(rt, bench)
-        }
+        Task::Counts => return count(rt, bench, told),
+        Task::Small => report_changes(rt, bench, &KINDS, (20, 10), told)?,
+        Task::Large => report_changes(rt, bench, &NODES, (3, 10_000), told)?,
     }
+    report_reads(rt, bench, told)
 }
 
 /// 200 changes of a small cache with 50 lanes.
-fn count<N: LogFacts>(rt: &HostRuntime, bench: &mut Bench<N>) -> io::Result<()> {
+fn count<N: LogFacts>(
+    rt: &HostRuntime,
+    bench: &mut Bench<N>,
+    told: &mut Wording,
+) -> Result<(), Memory> {
     bench.open(&FEW)?;
     let _took = bench.changes(rt, 200)?;
     let lines = bench.drain();
-    println!(rt; "hub: 200 changes gave 50 lanes {lines} lines")?;
+    told.show(&format_args!("hub: 200 changes gave 50 lanes {lines} lines\n"));
     let held = bench.holders()?;
-    println!(rt;
-        "hub: a store, its history, a cache and two lists of 1000 objects hold them {held} times"
-    )
+    told.add("hub: a store, its history, a cache and two lists of 1000 objects ");
+    told.show(&format_args!("hold them {held} times\n"));
+    Ok(())
 }

@@ -7,40 +7,54 @@ mod tree;
 
 use crate::figures::{Race, time_race};
 use crate::store::sides::{Sides, TURNS};
+use case_rows::Wording;
+use kube_meta::Memory;
 use std::alloc::Global;
-use std::io;
 
 /// Counts what is done and found at 1,000 objects; or times it, at 1,000 and at 100,000.
-pub fn run(rt: &HostRuntime, alloc: Global, timed: bool) -> io::Result<()> {
-    if timed {
-        time(rt, &mut Sides::new(alloc, 1_000)?, 50)?;
-        time(rt, &mut Sides::new(alloc, 100_000)?, 5)?;
-    } else {
-        count(rt, &mut Sides::new(alloc, 1_000)?)?;
+pub fn run(rt: &HostRuntime, alloc: Global, timed: bool, told: &mut Wording) -> Result<(), Memory> {
+    for objects in [1_000, 100_000] {
+        if timed || objects == 1_000 {
+            run_sides(rt, Sides::new(alloc, objects)?, timed, told)?;
+        }
     }
-    looks::run(rt, alloc, timed)
+    looks::run(rt, alloc, timed, told)
+}
+
+fn run_sides(
+    rt: &HostRuntime,
+    mut sides: Sides,
+    timed: bool,
+    told: &mut Wording,
+) -> Result<(), Memory> {
+    let ran = if timed {
+        time(rt, &mut sides, told)
+    } else {
+        count(&mut sides, told)
+    };
+    drop(sides);
+    ran
 }
 
 /// Times all turns at one size.
-fn time(rt: &HostRuntime, sides: &mut Sides, runs: usize) -> io::Result<()> {
-    println!(rt; "of {} objects:", sides.due())?;
+fn time(rt: &HostRuntime, sides: &mut Sides, told: &mut Wording) -> Result<(), Memory> {
+    let steps = sides.due();
+    let runs = if steps > 1_000 { 5 } else { 50 };
+    told.show(&format_args!("of {steps} objects:\n"));
     for turn in TURNS {
         sides.turn = turn;
-        time_race(rt, turn.words(), sides, runs, sides.due())?;
+        time_race(rt, turn.words(), sides, (runs, steps), told)?;
     }
     Ok(())
 }
 
-/// Prints how often each turn does something on either side.
-fn count(rt: &HostRuntime, sides: &mut Sides) -> io::Result<()> {
+/// Tells how often each turn does something on either side.
+fn count(sides: &mut Sides, told: &mut Wording) -> Result<(), Memory> {
     for turn in TURNS {
         sides.turn = turn;
         sides.ready()?;
-        let (step, plain) = (sides.step(), sides.plain());
-        println!(rt;
-            "store: {} {step} times in a tree, {plain} in a map",
-            turn.words()
-        )?;
+        let (words, step, plain) = (turn.words(), sides.step(), sides.plain());
+        told.show(&format_args!("store: {words} {step} times in a tree, {plain} in a map\n"));
     }
     Ok(())
 }

@@ -1,8 +1,9 @@
 //! A cache, its lanes, and a plain list of its objects.
 
-use crate::figures::Race;
+use crate::figures::{Race, done};
 use crate::hub::scene::Scene;
 use crate::hub::things::{Asked, Kind, change, config_map, pods_for};
+use cache_hub::Hub;
 use encode_once::Shown;
 use kube_meta::{Memory, Row};
 use obj_tree::Snapshot;
@@ -45,26 +46,38 @@ pub struct Bench<N: LogFacts> {
 impl<N: LogFacts> Bench<N> {
     /// A plain list beside the scene's cache.
     pub fn new(alloc: Global, scene: Scene<N>) -> Result<Bench<N>, Memory> {
-        let plain = first(alloc, &scene.hub.snapshot()?, usize::MAX)?;
-        Ok(Bench {
-            read: Read::List,
-            behind: 0,
-            alloc,
-            scene,
-            plain,
-            lanes: Vec::new(alloc),
-        })
+        match all(alloc, &scene.hub) {
+            Ok(plain) => Ok(Bench {
+                read: Read::List,
+                behind: 0,
+                alloc,
+                scene,
+                plain,
+                lanes: Vec::new(alloc),
+            }),
+            Err(no) => {
+                drop(scene);
+                Err(no)
+            }
+        }
     }
 
     /// Opens these lanes.
     pub fn open(&mut self, lanes: &Lanes) -> Result<(), Memory> {
         for number in lanes.from..lanes.to {
-            self.open_lane(&pods_for(self.alloc, lanes.kind, number)?)?;
+            self.open_lane(lanes.kind, number)?;
         }
         Ok(())
     }
 
-    fn open_lane(&mut self, asked: &Asked) -> Result<(), Memory> {
+    fn open_lane(&mut self, kind: Kind, number: usize) -> Result<(), Memory> {
+        let asked = pods_for(self.alloc, kind, number)?;
+        let opened = self.open_asked(&asked);
+        drop(asked);
+        opened
+    }
+
+    fn open_asked(&mut self, asked: &Asked) -> Result<(), Memory> {
         let lane = self.scene.open(&asked.selection)?;
         self.lanes.push(lane)?;
         Ok(())
@@ -73,14 +86,20 @@ impl<N: LogFacts> Bench<N> {
     /// Makes so many changes, which the cache then takes in one by one. The answer is how many nanoseconds that took.
     pub fn changes(&mut self, rt: &HostRuntime, many: usize) -> Result<u64, Memory> {
         for number in 0..many {
-            self.scene
-                .write(&change(self.alloc, number, self.plain.len())?);
+            self.write_change(number)?;
         }
         let mut took = 0u64;
         for _ in 0..many {
             took = took.saturating_add(self.scene.take_next(rt)?);
         }
         Ok(took)
+    }
+
+    fn write_change(&mut self, number: usize) -> Result<(), Memory> {
+        let ask = change(self.alloc, number, self.plain.len())?;
+        self.scene.write(&ask);
+        drop(ask);
+        Ok(())
     }
 
     /// Takes all batches out of the lanes. The answer is how many lines they had.
@@ -103,16 +122,19 @@ impl<N: LogFacts> Bench<N> {
     /// at the floor and at the end; by what the cache's tree and events show; and by each list. One that was written
     /// after the floor is held by its change too. No contract can say this. The plain list is emptied before.
     pub fn holders(&mut self) -> Result<usize, Memory> {
-        self.plain = Vec::new(self.alloc);
+        self.plain.clear();
         self.scene.compact(100);
-        self.scene.write(&config_map(self.alloc)?);
+        let ask = config_map(self.alloc)?;
+        self.scene.write(&ask);
+        drop(ask);
+        Ok(self.held())
+    }
+
+    fn held(&mut self) -> usize {
         let before = self.scene.list(1);
-        let held = match self.scene.list(0) {
-            Some(rows) => holders_of(&rows),
-            None => 0,
-        };
+        let held = holders_of(self.scene.list(0));
         drop(before);
-        Ok(held)
+        held
     }
 
     /// Gives up the states of more than so many revisions before the log's end.
@@ -129,33 +151,56 @@ impl<N: LogFacts> Bench<N> {
 
     fn plain_copy(&self, limit: usize) -> Result<Vec<Arc<Shown>>, Memory> {
         let mut list = Vec::new(self.alloc);
-        for shown in &self.plain {
-            if list.len() == limit {
-                break;
-            }
-            list.push(Arc::try_clone(shown)?)?;
-        }
-        Ok(list)
+        let shared = share_first(&self.plain, limit, &mut list);
+        done(list, shared)
     }
+}
+
+/// Adds so many objects of a list at most, each shared.
+fn share_first(
+    from: &[Arc<Shown>],
+    limit: usize,
+    list: &mut Vec<Arc<Shown>>,
+) -> Result<(), Memory> {
+    for shown in from {
+        if list.len() == limit {
+            break;
+        }
+        list.push(Arc::try_clone(shown)?)?;
+    }
+    Ok(())
+}
+
+/// All objects of a cache, each shared.
+fn all<N: LogFacts>(alloc: Global, hub: &Hub<N>) -> Result<Vec<Arc<Shown>>, Memory> {
+    first(alloc, &hub.snapshot()?, usize::MAX)
 }
 
 /// So many objects at most, the first ones in the order of their keys, each shared.
 fn first(alloc: Global, state: &Snapshot, limit: usize) -> Result<Vec<Arc<Shown>>, Memory> {
     let mut list = Vec::new(alloc);
+    let shared = share_state(state, limit, &mut list);
+    done(list, shared)
+}
+
+fn share_state(state: &Snapshot, limit: usize, list: &mut Vec<Arc<Shown>>) -> Result<(), Memory> {
     for shown in state.range(None) {
         if list.len() == limit {
             break;
         }
         list.push(Arc::try_clone(shown)?)?;
     }
-    Ok(list)
+    Ok(())
 }
 
-fn holders_of(rows: &[Row]) -> usize {
+fn holders_of(rows: Option<Vec<Row>>) -> usize {
     let mut held = 0usize;
-    for row in rows {
-        held = held.saturating_add(Arc::strong_count(&row.obj));
+    if let Some(rows) = &rows {
+        for row in rows {
+            held = held.saturating_add(Arc::strong_count(&row.obj));
+        }
     }
+    drop(rows);
     held
 }
 

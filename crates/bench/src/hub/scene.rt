@@ -1,8 +1,10 @@
 //! A store and the cache of its pods.
 
-ghost use Rattle.std.specs.Prelude.{◌≡◌, [], false};
+ghost use Rattle.std.specs.Prelude.{◌≡◌, [], false, IfOk};
 ghost use Rattle.kube_meta.specs.declared.resources.Resource.TheVariants.{Pods};
+ghost use Rattle.up_api.specs.Sections.{StandsAt};
 ghost use Rattle.up_api.specs.Settings.{AreInRange};
+ghost use Rattle.cache_hub.specs.Hubs.{StandsFor};
 
 use crate::figures::Laps;
 use crate::hub::things::creation;
@@ -54,10 +56,46 @@ fn settings() -> Settings
 
 fn create<N: LogFacts>(alloc: Global, store: &mut Store<N>, objects: usize) -> Result<(), Memory> {
     let mut told = store.pass()?;
+    let created = create_all(alloc, store, &mut told, objects);
+    drop(told);
+    created
+}
+
+fn create_all<N: LogFacts>(
+    alloc: Global,
+    store: &mut Store<N>,
+    told: &mut Pass<N>,
+    objects: usize,
+) -> Result<(), Memory> {
     for number in 0..objects {
-        let _ = store.write(&creation(alloc, number)?, &mut told);
+        create_one(alloc, store, told, number)?;
     }
     Ok(())
+}
+
+fn create_one<N: LogFacts>(
+    alloc: Global,
+    store: &mut Store<N>,
+    told: &mut Pass<N>,
+    number: usize,
+) -> Result<(), Memory> {
+    let ask = creation(alloc, number)?;
+    drop(store.write(&ask, told));
+    drop(ask);
+    Ok(())
+}
+
+/// A cache of the store's pods.
+fn cached<N: LogFacts>(
+    alloc: Global,
+    store: &mut Store<N>,
+    told: &mut Pass<N>,
+) -> Result<Hub<N>, Memory>
+    ensures of { IfOk result (λ hub. hub.cache.resource ≡ Pods) }
+    ensures stands { IfOk result (λ hub. StandsAt (λ log. StandsFor log hub) N.base told.new hub.cache.end) }
+{
+    let history = store.history(Resource::Pods, told)?;
+    Hub::new(alloc, Resource::Pods, history, &settings(), told)
 }
 
 impl<N: LogFacts> Scene<N> {
@@ -68,11 +106,38 @@ impl<N: LogFacts> Scene<N> {
         requires own { N.mirror ≡ false }
     {
         let mut store: Store<N> = Store::new(alloc, made, 1_000_000)?;
-        create(alloc, &mut store, objects)?;
-        let mut told = store.pass()?;
-        let history = store.history(Resource::Pods, &mut told)?;
-        let hub = Hub::new(alloc, Resource::Pods, history, &settings(), &mut told)?;
-        Ok(Scene { store, told, hub })
+        match create(alloc, &mut store, objects) {
+            Ok(()) => Scene::over(alloc, store),
+            Err(no) => {
+                drop(store);
+                Err(no)
+            }
+        }
+    }
+
+    // A cache of the store's pods.
+    fn over(alloc: Global, store: Store<N>) -> Result<Scene<N>, Memory> {
+        let mut store = store;
+        match store.pass() {
+            Ok(told) => Scene::by(alloc, store, told),
+            Err(no) => {
+                drop(store);
+                Err(no)
+            }
+        }
+    }
+
+    // The same by a pass of it.
+    fn by(alloc: Global, store: Store<N>, told: Pass<N>) -> Result<Scene<N>, Memory> {
+        let (mut store, mut told) = (store, told);
+        match cached(alloc, &mut store, &mut told) {
+            Ok(hub) => Ok(Scene { store, told, hub }),
+            Err(no) => {
+                drop(told);
+                drop(store);
+                Err(no)
+            }
+        }
     }
 
     /// A write, which the cache doesn't know yet.

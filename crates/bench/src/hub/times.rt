@@ -1,9 +1,10 @@
 //! What is timed, and printed.
 
-use crate::figures::{Pair, Race, print_pair, time_race};
+use crate::figures::{Pair, Race, tell_pair, time_race};
 use crate::hub::beside::{Bench, Lanes, Read};
 use crate::hub::things::Kind;
-use std::io;
+use case_rows::Wording;
+use kube_meta::Memory;
 use up_api::LogFacts;
 
 /// Lanes of fifty nodes.
@@ -53,32 +54,47 @@ pub const KINDS: [Lanes; 3] = [
     },
 ];
 
-/// Times so many changes behind each of these lanes and those before, and prints the best of some runs, beside the best
+/// Times so many changes behind each of these lanes and those before, and tells the best of some runs, beside the best
 /// of all so far.
 pub fn report_changes<N: LogFacts>(
     rt: &HostRuntime,
     bench: &mut Bench<N>,
     all: &[Lanes],
-    runs: usize,
-    many: usize,
-) -> io::Result<()> {
+    (runs, many): (usize, usize),
+    told: &mut Wording,
+) -> Result<(), Memory> {
     let mut plain = u64::MAX;
     for lanes in all {
         bench.open(lanes)?;
-        let mut step = u64::MAX;
-        for _ in 0..runs {
-            step = step.min(bench.changes(rt, many)?);
-            let _lines = bench.drain();
-        }
+        let step = best(rt, bench, runs, many)?;
         plain = plain.min(step);
-        print_pair(rt, lanes.name, Pair { step, plain }, many as u64)?;
+        tell_pair(lanes.name, Pair { step, plain }, many as u64, told);
     }
     Ok(())
 }
 
+/// What so many changes take in the best of some runs.
+fn best<N: LogFacts>(
+    rt: &HostRuntime,
+    bench: &mut Bench<N>,
+    runs: usize,
+    many: usize,
+) -> Result<u64, Memory> {
+    let mut best = u64::MAX;
+    for _ in 0..runs {
+        best = best.min(bench.changes(rt, many)?);
+        let _lines = bench.drain();
+    }
+    Ok(best)
+}
+
 /// Times lists and pages of a store that keeps 2,000 revisions: at its floor, half way and at its end. Half way they
-/// are made by 1,000 changes of a copy of the floor's rows. Prints the best of each.
-pub fn report_reads<N: LogFacts>(rt: &HostRuntime, bench: &mut Bench<N>) -> io::Result<()> {
+/// are made by 1,000 changes of a copy of the floor's rows. Tells the best of each.
+pub fn report_reads<N: LogFacts>(
+    rt: &HostRuntime,
+    bench: &mut Bench<N>,
+    told: &mut Wording,
+) -> Result<(), Memory> {
     let _took = bench.changes(rt, 2_000)?;
     let _lines = bench.drain();
     bench.compact(2_000);
@@ -90,9 +106,9 @@ pub fn report_reads<N: LogFacts>(rt: &HostRuntime, bench: &mut Bench<N>) -> io::
         bench.behind = behind;
         bench.read = Read::List;
         let rows = bench.plain();
-        time_race(rt, list, bench, 20, rows)?;
+        time_race(rt, list, bench, (20, rows), told)?;
         bench.read = Read::Page;
-        time_race(rt, page, bench, 20, 1)?;
+        time_race(rt, page, bench, (20, 1), told)?;
     }
     Ok(())
 }

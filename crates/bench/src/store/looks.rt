@@ -1,14 +1,13 @@
 //! What selections find among the objects of a tree, beside a walk that tests each of them.
 
-use crate::figures::{Race, time_race};
+use crate::figures::{Race, done, time_race};
 use crate::store::rows::key;
-use case_rows::object;
+use case_rows::{Wording, object};
 use encode_once::Shown;
 use kube_meta::{Fields, Labels, Memory, Obj, Resource, Row, Text};
 use obj_tree::{Rows, Snapshot, Tree};
 use select_all::Selection;
 use std::alloc::Global;
-use std::io;
 use std::sync::Arc;
 
 const RUNS: usize = 5;
@@ -25,31 +24,43 @@ const NAMES: [&str; 7] = [
 ];
 
 /// Tells what is found among 1,000 objects; or times looks at 100,000, of three labels and of eight.
-pub fn run(rt: &HostRuntime, alloc: Global, timed: bool) -> io::Result<()> {
-    if timed {
-        time(rt, alloc, 3)?;
-        time(rt, alloc, 8)
-    } else {
-        print_found(rt, &mut Looks::new(alloc, 1_000, 3)?)
+pub fn run(rt: &HostRuntime, alloc: Global, timed: bool, told: &mut Wording) -> Result<(), Memory> {
+    if !timed {
+        tell_found(Looks::new(alloc, 1_000, 3)?, told);
+        return Ok(());
     }
+    for labels in [3, 8] {
+        time(rt, Looks::new(alloc, 100_000, labels)?, labels, told)?;
+    }
+    Ok(())
 }
 
-fn time(rt: &HostRuntime, alloc: Global, labels: usize) -> io::Result<()> {
-    let mut looks = Looks::new(alloc, 100_000, labels)?;
-    println!(rt; "of 100000 objects of {labels} labels:")?;
-    time_race(rt, "ten of one node", &mut looks, RUNS, 1)?;
+fn time(
+    rt: &HostRuntime,
+    mut looks: Looks,
+    labels: usize,
+    told: &mut Wording,
+) -> Result<(), Memory> {
+    told.show(&format_args!("of 100000 objects of {labels} labels:\n"));
+    let timed = time_both(rt, &mut looks, told);
+    drop(looks);
+    timed
+}
+
+fn time_both(rt: &HostRuntime, looks: &mut Looks, told: &mut Wording) -> Result<(), Memory> {
+    time_race(rt, "ten of one node", looks, (RUNS, 1), told)?;
     looks.turn = Turn::Label;
-    time_race(rt, "one in ten by label", &mut looks, RUNS, 1)
+    time_race(rt, "one in ten by label", looks, (RUNS, 1), told)
 }
 
-fn print_found(rt: &HostRuntime, looks: &mut Looks) -> io::Result<()> {
+fn tell_found(mut looks: Looks, told: &mut Wording) {
     let (on_node, by_walk) = (looks.step(), looks.plain());
     looks.turn = Turn::Label;
-    println!(rt;
-        "store: looks at 1000 objects find {on_node} by node and {} by label, a walk {by_walk} and {}",
-        looks.step(),
-        looks.plain()
-    )
+    let (labelled, walked) = (looks.step(), looks.plain());
+    drop(looks);
+    told.add("store: looks at 1000 objects find ");
+    told.show(&format_args!("{on_node} by node and {labelled} by label, "));
+    told.show(&format_args!("a walk {by_walk} and {walked}\n"));
 }
 
 /// What is looked for.
@@ -131,30 +142,34 @@ fn selection(alloc: Global, label: &str, field: &str) -> Result<Selection, Memor
 
 fn state(alloc: Global, count: usize, labels: usize) -> Result<Snapshot, Memory> {
     let mut tree = Tree::new(alloc)?;
+    let filled = fill(alloc, &mut tree, count, labels);
+    done(tree.into_snapshot(), filled)
+}
+
+fn fill(alloc: Global, tree: &mut Tree, count: usize, labels: usize) -> Result<(), Memory> {
     for number in 0..count {
         let obj = Arc::new(alloc, pod(alloc, number, count, labels)?)?;
-        let _ = tree.put(Shown::new(alloc, Row { obj, rev: 1 })?)?;
+        drop(tree.put(Shown::new(alloc, Row { obj, rev: 1 })?)?);
     }
-    Ok(tree.into_snapshot())
+    Ok(())
 }
 
 // A pod of so many labels, ten of which are on each node.
 fn pod(alloc: Global, number: usize, count: usize, labels: usize) -> Result<Obj, Memory> {
     let mut pod = object(alloc, key(alloc, number)?)?;
-    pod.labels = labels_of(alloc, number, labels)?;
     pod.fields = fields_of(alloc, number % (count / 10).max(1))?;
-    Ok(pod)
+    let labelled = label(alloc, &mut pod.labels, number, labels);
+    done(pod, labelled)
 }
 
-fn labels_of(alloc: Global, number: usize, count: usize) -> Result<Labels, Memory> {
-    let mut labels = Labels::new(alloc);
+fn label(alloc: Global, labels: &mut Labels, number: usize, count: usize) -> Result<(), Memory> {
     let app = format!(in alloc; "web-{}", number % 10)?;
-    put(alloc, &mut labels, "app", app)?;
+    put(alloc, labels, "app", app)?;
     for name in NAMES.iter().take(count.saturating_sub(1)) {
         let value = format!(in alloc; "v-{}", number % 23)?;
-        put(alloc, &mut labels, name, value)?;
+        put(alloc, labels, name, value)?;
     }
-    Ok(labels)
+    Ok(())
 }
 
 fn put(alloc: Global, labels: &mut Labels, name: &str, value: String) -> Result<(), Memory> {
