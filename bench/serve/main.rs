@@ -308,10 +308,12 @@ fn idle_clients(plan: &Plan, table: &mut Table) -> io::Result<()> {
 
 // What watches hold that have read an initial state, beside those that began at a revision.
 fn initial_states(plan: &Plan, table: &mut Table) -> io::Result<()> {
-    let server = plan.watchcache(&["--window-max", "102400"])?;
-    pods::load(server.port, plan.pods)?;
-    let alone = attacks::each_watch(&server, plan.events / 50, false)?;
-    let beside = attacks::each_watch(&server, plan.events / 50, true)?;
+    let measure = |is_initial| -> io::Result<f64> {
+        let server = plan.watchcache(&["--window-max", "102400"])?;
+        pods::load(server.port, plan.pods)?;
+        attacks::each_watch(&server, plan.events / 50, is_initial)
+    };
+    let (alone, beside) = (measure(false)?, measure(true)?);
     table.add(Row::new("a watch of 10,000 pods from a revision, KiB", alone), Wanted::Nothing);
     table.add(Row::new("the same behind an initial state, KiB", beside), Wanted::AtMost(26.0));
     Ok(())
