@@ -22,7 +22,7 @@ use std::alloc::Global;
 use std::marker::Model;
 
 /// How many bytes of a body are read at a time, at most, behind those that came with its head.
-const STEP: usize = 2048;
+const STEP: usize = 1024;
 
 // Reads once behind the front of a body of `whole` bytes, and answers how many bytes came. The body's memory is
 // reserved, so that none is asked for, and none is used before bytes come for it. Its step lies in a frame of its own:
@@ -106,7 +106,8 @@ fn read_body<S: Source>(
 pub struct Reader {
     kept: Unread,
     refusal: Option<ReqNo>,
-    // where the fields of the last head were, kept so that they needn't be cleared for each head; none at first
+    // where the fields of the last head were, kept so that they needn't be cleared for each head; none at first, and
+    // behind a head whose body was waited for
     spans: Vec<HeaderSpan>,
 }
 
@@ -119,14 +120,15 @@ impl Model for Reader {
 }
 
 // Reads the body of a request whose head was found in the bytes that are kept. Memory is asked for before a byte is
-// let go; that of the body is reserved, and used as its bytes come.
+// let go; that of the body is reserved, and used as its bytes come. Where these are still to come the memory of the
+// places of fields is given back.
 fn read_found<S: Source>(
     kept: &mut Unread,
     source: &mut S,
-    spans: &[HeaderSpan],
+    spans: &mut Vec<HeaderSpan>,
     found: RequestSpans,
 ) -> Result<Option<Req>, ReqNo>
-    requires { FindsHead kept.old spans.now found }
+    requires { FindsHead kept.old spans.old.items found }
     ensures reads { (taken : List ℕ) × (S.left source.old ≡ prepended taken (S.left source.new))
         × ReadsNext (kept.old ++ taken) result kept.new (S.left source.new) (S.faults source.old) (S.faults source.new)
         × ((IsUnfinished kept.old → ⊥) → taken ≡ []) }
@@ -134,11 +136,11 @@ fn read_found<S: Source>(
     ensures quiet { UnlessFault result (S.faults source.new ≡ S.faults source.old) }
 {
     let alloc = kept.allocator();
-    let length = match announced(kept.bytes(), spans, found) {
+    let length = match announced(kept.bytes(), spans.as_slice(), found) {
         Ok(length) => length,
         Err(why) => return Err(why),
     };
-    let mut req = match request_in(alloc, kept.bytes(), spans, found) {
+    let mut req = match request_in(alloc, kept.bytes(), spans.as_slice(), found) {
         Ok(req) => req,
         Err(_) => return Err(ReqNo::Memory),
     };
@@ -147,12 +149,20 @@ fn read_found<S: Source>(
         Err(_) => return Err(ReqNo::Memory),
     };
     kept.consume(found.len);
+    rest_spans(spans, length <= kept.bytes().len());
     match read_body(kept, source, &mut body, length) {
         Ok(()) => {
             req.body = Body::from_vec(body);
             Ok(Some(req))
         }
         Err(why) => Err(why),
+    }
+}
+
+// Gives the memory of the places of fields back, where more of a body is to come.
+fn rest_spans(spans: &mut Vec<HeaderSpan>, is_whole: bool) {
+    if !is_whole {
+        *spans = Vec::new(*spans.allocator());
     }
 }
 
@@ -204,7 +214,7 @@ fn read_next<S: Source>(
         return Err(ReqNo::Memory);
     }
     match read_head(kept, source, spans.as_mut_slice()) {
-        Ok(Some(found)) => read_found(kept, source, spans.as_slice(), found),
+        Ok(Some(found)) => read_found(kept, source, spans, found),
         Ok(None) => Ok(None),
         Err(why) => Err(why),
     }

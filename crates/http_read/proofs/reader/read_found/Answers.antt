@@ -12,12 +12,12 @@ pub returns-in-Err-clause-reads : goal.returns-in-Err-clause-reads
 returns-in-Err-clause-reads g c =
     let kept = c.args.kept.now in
     let f = c.requires in
-    let at = subst (λ b. IsRequestAt (front b) c.args.spans.now c.args.found f.head) (sym c.bytes.ensures) f.at in
+    let at = subst (λ s. IsRequestAt (front c.bytes.result.now) s c.args.found f.head) (sym c.as_slice.ensures.value) (subst (λ b. IsRequestAt (front b) c.args.spans.now.items c.args.found f.head) (sym c.bytes.ensures) f.at) in
     let faults = g.S.Source.faults c.args.source.now in (
       [],
       sym (prepended-nil _),
       refuses-body (kept ++ []) f.head (drop c.args.found.len kept ++ []) c.in-Err.why kept (g.S.Source.left c.args.source.now) faults faults
-          (has-head kept [] c.args.spans.now c.args.found f) (sym (c.in-Err.ensures f.head at)),
+          (has-head kept [] c.args.spans.now.items c.args.found f) (sym (c.in-Err.ensures f.head at)),
       λ finished. refl,
     )
 
@@ -28,20 +28,20 @@ pub returns-in-Ok-read_body-clause-reads : goal.returns-in-Ok-read_body-clause-r
 returns-in-Ok-read_body-clause-reads g c =
     let kept = c.args.kept.now in
     let f = c.requires in
-    let at = subst (λ b. IsRequestAt (front b) c.args.spans.now c.args.found f.head) (sym c.bytes.ensures) f.at in
-    let at-2 = subst (λ b. IsRequestAt (front b) c.args.spans.now c.args.found f.head) (sym c.bytes-2.ensures) f.at in
+    let at = subst (λ s. IsRequestAt (front c.bytes.result.now) s c.args.found f.head) (sym c.as_slice.ensures.value) (subst (λ b. IsRequestAt (front b) c.args.spans.now.items c.args.found f.head) (sym c.bytes.ensures) f.at) in
+    let at-2 = subst (λ s. IsRequestAt (front c.bytes-2.result.now) s c.args.found f.head) (sym c.as_slice-2.ensures.value) (subst (λ b. IsRequestAt (front b) c.args.spans.now.items c.args.found f.head) (sym c.bytes-2.ensures) f.at) in
     let came = c.in-Ok-read_body.ensures.reads in
     let body : c.from_vec.result ≡ c.read_body.new.body.items = c.from_vec.ensures in
     let long : c.in-Ok.length ≡ length c.from_vec.result = sym came.2.1 ∙ ap length (sym body) in (
       came.0,
       came.1,
       reads-one (kept ++ came.0) f.head (drop c.args.found.len kept ++ came.0) c.from_vec.result c.read_body.new.kept c.in-Ok-request_in.req
-          (has-head kept came.0 c.args.spans.now c.args.found f)
+          (has-head kept came.0 c.args.spans.now.items c.args.found f)
           (ap (λ l. l ++ came.0) (sym c.consume.ensures) ∙ came.2.0 ∙ ap (λ l. l ++ c.read_body.new.kept) (sym body))
           (sym (c.in-Ok.ensures f.head at) ∙ ap Ok long)
           (c.in-Ok-request_in.ensures f.head at-2),
       λ finished.
-          let stands = body-stands kept f.head (drop c.args.found.len kept) c.in-Ok.length (head-here kept c.args.spans.now c.args.found f) (sym (c.in-Ok.ensures f.head at)) finished in
+          let stands = body-stands kept f.head (drop c.args.found.len kept) c.in-Ok.length (head-here kept c.args.spans.now.items c.args.found f) (sym (c.in-Ok.ensures f.head at)) finished in
           came.3 (omega (arith, stands, ap length c.consume.ensures)),
     )
 
@@ -49,7 +49,7 @@ pub returns-in-Err-read_body-clause-reads : goal.returns-in-Err-read_body-clause
 returns-in-Err-read_body-clause-reads g c =
     let kept = c.args.kept.now in
     let f = c.requires in
-    let at = subst (λ b. IsRequestAt (front b) c.args.spans.now c.args.found f.head) (sym c.bytes.ensures) f.at in
+    let at = subst (λ s. IsRequestAt (front c.bytes.result.now) s c.args.found f.head) (sym c.as_slice.ensures.value) (subst (λ b. IsRequestAt (front b) c.args.spans.now.items c.args.found f.head) (sym c.bytes.ensures) f.at) in
     let came = c.in-Err-read_body.ensures.reads in
     let left = g.S.Source.left c.read_body.new.source in
     let old_faults = g.S.Source.faults c.args.source.now in
@@ -58,11 +58,11 @@ returns-in-Err-read_body-clause-reads g c =
       came.0,
       came.1,
       breaks-off (kept ++ came.0) f.head c.in-Ok.length (drop c.args.found.len kept ++ came.0) body c.read_body.new.kept left old_faults new_faults c.in-Err-read_body.why
-          (has-head kept came.0 c.args.spans.now c.args.found f)
+          (has-head kept came.0 c.args.spans.now.items c.args.found f)
           (sym (c.in-Ok.ensures f.head at))
           (subst (λ l. FillsBody c.in-Ok.length (l ++ came.0) body c.read_body.new.kept left old_faults new_faults (Err c.in-Err-read_body.why)) c.consume.ensures came.2),
       λ finished.
-          let stands = body-stands kept f.head (drop c.args.found.len kept) c.in-Ok.length (head-here kept c.args.spans.now c.args.found f) (sym (c.in-Ok.ensures f.head at)) finished in
+          let stands = body-stands kept f.head (drop c.args.found.len kept) c.in-Ok.length (head-here kept c.args.spans.now.items c.args.found f) (sym (c.in-Ok.ensures f.head at)) finished in
           came.3 (omega (arith, stands, ap length c.consume.ensures)),
     )
 
@@ -70,16 +70,16 @@ pub returns-in-Ok-read_body-clause-idle : goal.returns-in-Ok-read_body-clause-id
 returns-in-Ok-read_body-clause-idle g c = λ finished.
     let kept = c.args.kept.now in
     let f = c.requires in
-    let at = subst (λ b. IsRequestAt (front b) c.args.spans.now c.args.found f.head) (sym c.bytes.ensures) f.at in
-    let stands = body-stands kept f.head (drop c.args.found.len kept) c.in-Ok.length (head-here kept c.args.spans.now c.args.found f) (sym (c.in-Ok.ensures f.head at)) finished in
+    let at = subst (λ s. IsRequestAt (front c.bytes.result.now) s c.args.found f.head) (sym c.as_slice.ensures.value) (subst (λ b. IsRequestAt (front b) c.args.spans.now.items c.args.found f.head) (sym c.bytes.ensures) f.at) in
+    let stands = body-stands kept f.head (drop c.args.found.len kept) c.in-Ok.length (head-here kept c.args.spans.now.items c.args.found f) (sym (c.in-Ok.ensures f.head at)) finished in
     c.in-Ok-read_body.ensures.idle (omega (arith, stands, ap length c.consume.ensures))
 
 pub returns-in-Err-read_body-clause-idle : goal.returns-in-Err-read_body-clause-idle
 returns-in-Err-read_body-clause-idle g c = λ finished.
     let kept = c.args.kept.now in
     let f = c.requires in
-    let at = subst (λ b. IsRequestAt (front b) c.args.spans.now c.args.found f.head) (sym c.bytes.ensures) f.at in
-    let stands = body-stands kept f.head (drop c.args.found.len kept) c.in-Ok.length (head-here kept c.args.spans.now c.args.found f) (sym (c.in-Ok.ensures f.head at)) finished in
+    let at = subst (λ s. IsRequestAt (front c.bytes.result.now) s c.args.found f.head) (sym c.as_slice.ensures.value) (subst (λ b. IsRequestAt (front b) c.args.spans.now.items c.args.found f.head) (sym c.bytes.ensures) f.at) in
+    let stands = body-stands kept f.head (drop c.args.found.len kept) c.in-Ok.length (head-here kept c.args.spans.now.items c.args.found f) (sym (c.in-Ok.ensures f.head at)) finished in
     c.in-Err-read_body.ensures.idle (omega (arith, stands, ap length c.consume.ensures))
 
 pub returns-in-Err-request_in-clause-reads : goal.returns-in-Err-request_in-clause-reads
