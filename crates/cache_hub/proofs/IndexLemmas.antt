@@ -10,9 +10,10 @@ use Rattle.select_all.specs.Selecting.{holds}
 use Rattle.select_all.specs.Streams.{TransitionData, object_of}
 use Rattle.event_ring.specs.Events.{EventRows}
 use Rattle.kube_meta.specs.Rows.{RowData}
-use Rattle.watch_lane.specs.Index.{IndexData, lane_at, is_listed}
+use Rattle.watch_lane.specs.Index.{IndexData, is_listed, is_touched, lane_at}
+use Rattle.watch_lane.proofs.IndexLemmas.{event_touches}
 use Rattle.cache_hub.specs.OpenLanes.{OpenLaneData, AreChanged, IsIndexed, open_at}
-use Rattle.cache_hub.specs.Due.{due, due_in, due_at, transition_of}
+use Rattle.cache_hub.specs.Due.{due, due_in, due_at, touches, transition_of}
 use Rattle.cache_hub.proofs.SendLemmas.{none_is_some}
 use Rattle.cache_hub.proofs.WaitingLemmas.{by_test}
 
@@ -68,6 +69,20 @@ untold index lanes ids event old new indexed was is listed q other = by (open_at
     by : (o : Option OpenLaneData) → open_at lanes q ≡ o → due_in (open_at lanes q) event ≡ None
     by None is = ap (λ l. due_in l event) is
     by (Some o) is = ap (λ l. due_in l event) is ∙ none o (indexed q ∙ ap selection_in is)
+
+-- the lanes that the index doesn't answer for one event are told nothing of another one that touches no others
+pub untold_with : (index : IndexData) (lanes : List (ℕ × OpenLaneData)) (ids : List ℕ) (first event : EventRows) → IsIndexed index lanes →
+    ((id : ℕ) → is_listed ids id ≡ touches index first id) → ((id : ℕ) → touches index event id ≡ true → touches index first id ≡ true) →
+    (q : ℕ) → is_listed ids q ≡ false → due_at lanes q event ≡ None
+untold_with index lanes ids first event indexed exact goes =
+    untold index lanes ids event (object_of event.before) (object_of event.now) indexed refl refl
+    (λ id s found selected. exact id ∙ goes id (event_touches s index.field (object_of event.before) (object_of event.now) (lane_at index.lanes id) found selected))
+
+-- the lanes that the index answers for the objects of an event are those that it touches
+pub touches_is : (index : IndexData) (event : EventRows) (old new : Option Obj) (ids : List ℕ) → old ≡ object_of event.before → new ≡ object_of event.now →
+    ((id : ℕ) → is_listed ids id ≡ is_touched index.field old new (lane_at index.lanes id)) → (id : ℕ) → is_listed ids id ≡ touches index event id
+touches_is index event old new ids was is exact id =
+    exact id ∙ ap (λ x. is_touched index.field x new (lane_at index.lanes id)) was ∙ ap (λ x. is_touched index.field (object_of event.before) x (lane_at index.lanes id)) is
 
 -- the object of a row that is shared
 pub object_is : {A : Type 0} (row : A → RowData) (x : Option A) → option_map (λ s. (row s).obj) x ≡ object_of (option_map row x)

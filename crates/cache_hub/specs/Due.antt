@@ -1,15 +1,15 @@
 -- What lanes have to be told of events.
-use Rattle.std.specs.Prelude.{◌≡◌, ◌≢◌, ◌==◌, ℕ, true, false, not, ◌&&◌, List, [], ◌∷◌, ◌++◌, ◌⊎◌, filter_map, Option, Some, None, is_some, nat_lt, if◌then◌else◌}
+use Rattle.std.specs.Prelude.{◌≡◌, ◌≢◌, ◌==◌, ℕ, Bool, true, false, not, ◌&&◌, List, [], ◌∷◌, ◌++◌, ◌⊎◌, filter_map, Option, Some, None, is_some, nat_lt, if◌then◌else◌}
 use Rattle.std.specs.List.{list_any}
 use Rattle.std.specs.Map.{lookup}
 use Rattle.std.specs.Ordering.{is_eq, nat_cmp}
 use Rattle.select_all.specs.declared.selection.Selection.{Selection}
 use Rattle.select_all.specs.Selecting.{selects}
-use Rattle.select_all.specs.Streams.{EventData, TransitionData, transition_by, transitions}
+use Rattle.select_all.specs.Streams.{EventData, TransitionData, object_of, transition_by, transitions}
 use Rattle.event_ring.specs.Events.{EventRows}
 use Rattle.rev_log.specs.Logs.{Log}
 use Rattle.watch_lane.specs.Batches.{PieceData}
-use Rattle.watch_lane.specs.Index.{is_listed}
+use Rattle.watch_lane.specs.Index.{IndexData, is_listed, is_touched, lane_at}
 use Rattle.cache_world.specs.Lanes.{LaneData, unsent}
 use Rattle.cache_hub.specs.OpenLanes.{OpenLaneData, open_at, left_behind}
 
@@ -60,6 +60,10 @@ IsReady log end events o = o.lane.behind ≡ false → all_due o.lane events ≡
 -- and so for all lanes
 abbrev pub AreReady : Log → ℕ → List EventRows → List (ℕ × OpenLaneData) → Type 0
 AreReady log end events lanes = (id : ℕ) (o : OpenLaneData) → open_at lanes id ≡ Some o → IsReady log end events o
+
+-- whether an event may concern the lane under a number, by an index
+abbrev pub touches : IndexData → EventRows → ℕ → Bool
+touches index event id = is_touched index.field (object_of event.before) (object_of event.now) (lane_at index.lanes id)
 
 -- lanes beside these numbers have to be told nothing of an event
 abbrev pub AreUntold : List (ℕ × OpenLaneData) → EventRows → List ℕ → Type 0

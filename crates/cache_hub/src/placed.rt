@@ -4,7 +4,8 @@ ghost use Rattle.std.specs.Prelude.{◌≡◌, ◌≤◌, ℕ, Bool, true, [], �
 ghost use Rattle.std.specs.List.Sorted.{IsStrictlyIncreasing};
 ghost use Rattle.rev_front.specs.Passes.{end_from};
 ghost use Rattle.up_api.specs.Sections.{log_of};
-ghost use Rattle.cache_hub.specs.Due.{AddsEach, AddsTo, AllDue, AreReady, AreSilent, AreUntold, AreWaiting, IsWaiting, due_at, missed};
+ghost use Rattle.watch_lane.specs.Index.{is_listed};
+ghost use Rattle.cache_hub.specs.Due.{AddsEach, AddsTo, AllDue, AreReady, AreSilent, AreUntold, AreWaiting, IsWaiting, due_at, missed, touches};
 ghost use Rattle.cache_hub.specs.OpenLanes.{OpenLaneData, SetsLane, AreChanged, AreTold, IsIndexed, told_lane, open_at};
 
 use crate::due::{Waiting, put_line};
@@ -44,7 +45,8 @@ pub(crate) fn tell_placed<N: LogFacts>(
     }
 }
 
-// The lanes that the events may concern, where each may concern the same.
+// The lanes that the events may concern, where none concerns others than the first may. Each of the others costs a few
+// looks, and not the lanes.
 fn touched_alike(index: &LaneIndex, events: &[Event]) -> Option<Vec<u64>>
     ensures rising { IfSome result (λ ids. IsStrictlyIncreasing ids.items) }
     ensures others { IfSome result (λ ids. (lanes : List (ℕ × OpenLaneData)) → IsIndexed index.now lanes → AreSilent lanes events.now ids.items) }
@@ -56,26 +58,29 @@ fn touched_alike(index: &LaneIndex, events: &[Event]) -> Option<Vec<u64>>
         return None;
     };
     for event in rest {
-        if !touches(index, event, &ids) {
+        if !goes_with(index, first, event) {
             return None;
         }
     }
     Some(ids)
 }
 
-// Whether these are known as the lanes that an event may concern.
-fn touches(index: &LaneIndex, event: &Event, ids: &[u64]) -> bool
-    ensures { IsTrue result → (lanes : List (ℕ × OpenLaneData)) → IsIndexed index.now lanes → AreUntold lanes event.entry.now ids.now }
+// Whether each lane that an event may concern is surely one that another may.
+fn goes_with(index: &LaneIndex, first: &Event, event: &Event) -> bool
+    ensures { IsTrue result → (id : ℕ) → touches index.now event.entry.now id ≡ true → touches index.now first.entry.now id ≡ true }
 {
-    match touched(index, event) {
-        Ok(found) => found.as_slice() == ids,
-        Err(Memory) => false,
+    match object(&first.now).or(object(&first.before)) {
+        Some(by) => {
+            index.covers(by, object(&event.before)) && index.covers(by, object(&event.now))
+        }
+        None => false,
     }
 }
 
 // The lanes that an event may concern.
 fn touched(index: &LaneIndex, event: &Event) -> Result<Vec<u64>, Memory>
     ensures rising { IfOk result (λ ids. IsStrictlyIncreasing ids.items) }
+    ensures exact { IfOk result (λ ids. (id : ℕ) → is_listed ids.items id ≡ touches index.now event.entry.now id) }
     ensures others { IfOk result (λ ids. (lanes : List (ℕ × OpenLaneData)) → IsIndexed index.now lanes → AreUntold lanes event.entry.now ids.items) }
 {
     index.touched(object(&event.before), object(&event.now))

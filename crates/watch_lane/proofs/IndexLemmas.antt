@@ -173,12 +173,32 @@ asked_found : (field : ℕ) (obj : Obj) (lane : Option Selection) → IsKey obj.
 asked_found field obj None is = refl
 asked_found field obj (Some s) is = same_found field obj (place_of field s) is
 
+-- one of three, where each has another that holds with it
+or_each : (a b c a' b' c' : Bool) → (a ≡ true → a' ≡ true) → (b ≡ true → b' ≡ true) → (c ≡ true → c' ≡ true) → (a || (b || c)) ≡ true → (a' || (b' || c')) ≡ true
+or_each true b c a' b' c' f g h one = rw (f refl) refl
+or_each false true c a' b' c' f g h one = rw (g refl) (grind (arith))
+or_each false false true a' b' c' f g h one = rw (h refl) (grind (arith))
+or_each false false false a' b' c' f g h one = absurd (false≢true one)
+
 -- a lane stands there where it is found
 found_at : (field : ℕ) (places : Places) (obj : Obj) (lane : Option Selection) (id : ℕ) (name value ns : List ℕ) → IsKey obj.key →
     name ≡ name_of obj.key → value ≡ value_in field obj → ns ≡ namespace_of obj.key → ((p : Option (List ℕ)) → stands places p id ≡ asks field p lane) →
     (stands places (Some name) id || (stands places (Some value) id || stands places (Some ns) id)) ≡ finds field (Some obj) lane
 found_at field places obj lane id name value ns is name_is value_is ns_is indexed =
     rw (indexed (Some name), indexed (Some value), indexed (Some ns), name_is, value_is, ns_is) (asked_found field obj lane is)
+
+-- what is found at an object is found at another one, where who stands under its texts stands under those of the other
+pub found_by : (now : IndexData) (field : ℕ) (lanes : List (ℕ × Selection)) (places : Places) (own by : Obj) (id : ℕ) (name value ns name' value' ns' : List ℕ) →
+    record { field = field; lanes = lanes } ≡ now → ((p : Option (List ℕ)) → stands places p id ≡ asks field p (lane_at lanes id)) → IsKey own.key → IsKey by.key →
+    name ≡ name_of own.key → value ≡ value_in field own → ns ≡ namespace_of own.key → name' ≡ name_of by.key → value' ≡ value_in field by → ns' ≡ namespace_of by.key →
+    (stands places (Some name) id ≡ true → stands places (Some name') id ≡ true) → (stands places (Some value) id ≡ true → stands places (Some value') id ≡ true) →
+    (stands places (Some ns) id ≡ true → stands places (Some ns') id ≡ true) →
+    finds now.field (Some own) (lane_at now.lanes id) ≡ true → finds now.field (Some by) (lane_at now.lanes id) ≡ true
+found_by now field lanes places own by id name value ns name' value' ns' view indexed is is' n v s n' v' s' names values spaces found =
+    let at = found_at field places own (lane_at lanes id) id name value ns is n v s indexed in
+    let at' = found_at field places by (lane_at lanes id) id name' value' ns' is' n' v' s' indexed in
+    let here : finds field (Some own) (lane_at lanes id) ≡ true = subst (λ x. finds x.field (Some own) (lane_at x.lanes id) ≡ true) (sym view) found in
+    subst (λ x. finds x.field (Some by) (lane_at x.lanes id) ≡ true) view (sym at' ∙ or_each _ _ _ _ _ _ names values spaces (at ∙ here))
 
 -- a list that was joined with the lanes under the three texts of an object
 pub found_joined : (now : IndexData) (field : ℕ) (lanes : List (ℕ × Selection)) (places : Places) (obj : Option Obj) (own : Obj) (id : ℕ) (none some more all : Bool) (name value ns : List ℕ) →

@@ -1,6 +1,6 @@
 //! Which lanes a change may concern.
 
-ghost use Rattle.std.specs.Prelude.{◌≡◌, ℕ, ◌||◌, [], Some, None, IfOk, OnOk, OnErr, IsTrue, option_copied};
+ghost use Rattle.std.specs.Prelude.{◌≡◌, ℕ, ◌||◌, true, [], Some, None, IfOk, OnOk, OnErr, IsTrue, option_copied};
 ghost use Rattle.std.specs.List.Sorted.{IsStrictlyIncreasing};
 ghost use Rattle.select_all.specs.Selecting.{holds};
 ghost use Rattle.select_all.specs.declared.selection.Selection.{Selection as Asked};
@@ -97,6 +97,30 @@ impl LaneIndex {
         let before = self.join_found(Vec::new(self.alloc), old)?;
         let found = self.join_found(before, new)?;
         join(self.alloc, found, &self.places.others)
+    }
+
+    /// Whether each lane that stands where an object is, if it is there, surely stands where another one is too. This
+    /// looks under the object's three texts, and at no lane.
+    pub fn covers(&self, by: &Obj, obj: Option<&Obj>) -> bool
+        ensures covered { IsTrue result → (id : ℕ) → finds self.now.field (option_copied obj.entry) (lane_at self.now.lanes id) ≡ true → finds self.now.field (Some by.now) (lane_at self.now.lanes id) ≡ true }
+        ensures own { option_copied obj.entry ≡ Some by.now → IsTrue result }
+    {
+        match obj {
+            Some(obj) => self.covers_each(by, obj),
+            None => true,
+        }
+    }
+
+    // The same of an object that is there.
+    fn covers_each(&self, by: &Obj, obj: &Obj) -> bool
+        ensures covered { IsTrue result → (id : ℕ) → finds self.now.field (Some obj.now) (lane_at self.now.lanes id) ≡ true → finds self.now.field (Some by.now) (lane_at self.now.lanes id) ≡ true }
+        ensures own { obj.now ≡ by.now → IsTrue result }
+    {
+        if !self.places.covers(obj.key.name(), by.key.name()) {
+            return false;
+        }
+        let (value, by_value) = (value_in(self.field, obj), value_in(self.field, by));
+        self.places.covers(value, by_value) && self.places.covers(obj.key.ns(), by.key.ns())
     }
 
     // Rising numbers with those of the lanes that stand where an object is, in rising order.

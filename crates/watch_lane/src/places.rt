@@ -1,6 +1,6 @@
 //! Where lanes stand: under a text, or under none.
 
-ghost use Rattle.std.specs.Prelude.{◌≡◌, ◌==◌, ℕ, false, true, not, ◌&&◌, ◌||◌, List, Option, Some, None, bytes_eq, IfOk, OnOk, OnErr, option_copied};
+ghost use Rattle.std.specs.Prelude.{◌≡◌, ◌==◌, ℕ, false, true, not, ◌&&◌, ◌||◌, List, Option, Some, None, bytes_eq, IfOk, IsTrue, OnOk, OnErr, option_copied};
 ghost use Rattle.std.specs.Ordering.{nat_cmp};
 ghost use Rattle.std.specs.BTreeSet.{contains};
 ghost use Rattle.std.specs.HashMap.{get_by_text};
@@ -53,6 +53,15 @@ impl Places {
                 self.others.remove(&id);
             }
         }
+    }
+
+    /// Whether each lane that stands under a text surely stands under another one: they are the same, or none stands
+    /// under the first.
+    pub fn covers(&self, text: &str, by: &str) -> bool
+        ensures covered { IsTrue result → (id : ℕ) → stands self.now (Some text.now) id ≡ true → stands self.now (Some by.now) id ≡ true }
+        ensures own { text.now ≡ by.now → IsTrue result }
+    {
+        text == by || self.by_text.get(text).is_none()
     }
 
     /// Rising numbers with those of the lanes that stand under a text, in rising order.
