@@ -25,14 +25,15 @@ abbrev pub all_served : Resources
 all_served = record { pods = true; config_maps = true; deployments = true }
 
 -- The watch, if there is one; the greatest time that was told; how many changes of a resource the caches keep at
--- least; where nobody else holds the log, how many revisions its floor is behind its end at most; and which resources
--- the server has. No call changes the last three.
+-- least; where nobody else holds the log, how many revisions its floor is behind its end at most; which resources the
+-- server has; and whether it takes operations on its log. No call changes the last four.
 pub record Facts : Type 0 where
   pub watching : Option Watched
   pub heard : ℕ
   pub window : ℕ
   pub sole_history : Option ℕ
   pub resources : Resources
+  pub operable : Bool
 
 -- how often the store's states and histories were read, and where the cache of each resource ends
 pub record Cached : Type 0 where

@@ -152,6 +152,10 @@ pub trait Client {
     fn resources(&self) -> Resources
         ensures { result ≡ (facts self.now).resources };
 
+    /// Whether its server takes operations on its log. That of a cluster's replica takes none.
+    fn is_operable(&self) -> bool
+        ensures { result ≡ (facts self.now).operable };
+
     /// Whether the log is kept up to date. That of a mirror isn't while it has lost its peer; any other always is.
     fn is_ready(&self) -> bool
         ensures { mirror ≡ false → result ≡ true };

@@ -57,7 +57,7 @@ impl<N: LogFacts> LocalClient<N> {
 }
 
 impl<N: LogFacts> Client for LocalClient<N> {
-    ghost use Rattle.std.specs.Prelude.{Some};
+    ghost use Rattle.std.specs.Prelude.{Some, true};
     ghost use Rattle.client_api.specs.Facts.{all_served};
     ghost use Rattle.up_store.specs.Stores.{KnowsAll};
     ghost use Rattle.local_client.specs.Caches.{cached_in, times_of, window_in};
@@ -74,6 +74,7 @@ impl<N: LogFacts> Client for LocalClient<N> {
       window = window_in c.caches.caches;
       sole_history = Some c.caches.store.history;
       resources = all_served;
+      operable = true;
     } };
 
     ghost whole = { λ c. KnowsAll c.caches.store.whole c.told };
@@ -132,6 +133,10 @@ impl<N: LogFacts> Client for LocalClient<N> {
 
     fn resources(&self) -> Resources {
         Resources::ALL
+    }
+
+    fn is_operable(&self) -> bool {
+        true
     }
 
     fn is_ready(&self) -> bool {

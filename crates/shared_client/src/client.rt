@@ -108,7 +108,7 @@ impl<N: LogFacts, R: Wait + Copy> Drop for SharedClient<'_, N, R> {
 }
 
 impl<N: LogFacts, R: Wait + Copy> Client for SharedClient<'_, N, R> {
-    ghost use Rattle.std.specs.Prelude.{None};
+    ghost use Rattle.std.specs.Prelude.{None, true};
     ghost use Rattle.client_api.specs.Facts.{all_served};
 
     ghost base = { N.base };
@@ -123,6 +123,7 @@ impl<N: LogFacts, R: Wait + Copy> Client for SharedClient<'_, N, R> {
       window = N.window;
       sole_history = None;
       resources = all_served;
+      operable = true;
     } };
 
     // others hold the log too
@@ -189,6 +190,10 @@ impl<N: LogFacts, R: Wait + Copy> Client for SharedClient<'_, N, R> {
     // Its server knows better where it is a mirror's, and tells that in its place.
     fn resources(&self) -> Resources {
         Resources::ALL
+    }
+
+    fn is_operable(&self) -> bool {
+        true
     }
 
     fn is_ready(&self) -> bool {
