@@ -1,6 +1,7 @@
 -- Where nobody else holds the log, what is due is served.
 use Rattle.std.specs.Prelude.{Result, Ok, Err, IsSomeAnd}
-use Rattle.std.proofs.Common.{◌≡◌, ℕ, inl, inr, List, [], ◌∷◌, Option, Some, None, refl, ap, sym, subst}
+use Rattle.std.proofs.Common.{◌≡◌, ◌∙◌, ℕ, inl, inr, true, List, [], ◌∷◌, Option, Some, None, refl, ap, sym, subst}
+use Rattle.std.proofs.lemmas.Bool.{true≢false}
 use Rattle.route_req.specs.declared.documents.Document.TheVariants as document
 use Rattle.rev_front.specs.Passes.{Pass, IsPass, Whole}
 use Rattle.rev_log.specs.Changes.{RevisionData}
@@ -25,7 +26,7 @@ use Rattle.client_api.specs.declared.answers.ListNo.{ListNo}
 use Rattle.client_api.specs.declared.resources.Resources.{Resources}
 use Rattle.client_api.specs.declared.answers.ListNo.TheVariants.{Expired, TooLarge, Absent, Memory}
 use Rattle.client_api.specs.Told.{IsToldWrite, IsToldTx, IsToldOperation}
-use Rattle.sess_reply.specs.Replies.{unrouted, wrote, transacted, got, listed, operated, described, metered, unready, unwatched, bad_upgrade}
+use Rattle.sess_reply.specs.Replies.{unrouted, wrote, transacted, got, listed, operated, unoperated, described, metered, unready, unwatched, bad_upgrade}
 use Rattle.sess_turns.specs.Terms.{Terms}
 use Rattle.sess_serve.specs.Answers.{Answer, Stream, gone, begun, replied, streamed, IsAnswerTo}
 use Rattle.sess_serve.specs.Steps.{Exchange, Says, StreamSays, UnwatchedSays, IsAlone, IsAloneStream}
@@ -79,10 +80,10 @@ module _ (terms : Terms) (p q : Pass RevisionData) (req : Req) (lawful : IsPass 
 
   -- ---- operations
 
-  done : (ask : Operate) (answer : Result ℕ OpNo) → IsToldOperation answer → IsOperationReply p ask answer q → SoleOperate p ask answer q → MayBeDone p ask →
+  done : (ask : Operate) (answer : Result ℕ OpNo) → terms.operable ≡ true → IsToldOperation answer → IsOperationReply p ask answer q → SoleOperate p ask answer q → MayBeDone p ask →
       IsServed terms p (answered (replied (operated ask answer))) (routed.Operate ask)
-  done ask (Ok number) told is sole may = (number, record { answer_is = refl; status_is = refl }, is)
-  done ask (Err fault) told is sole may = absurd (operation_clash p q ask fault may told is sole)
+  done ask (Ok number) takes told is sole may = (takes, number, record { answer_is = refl; status_is = refl }, is)
+  done ask (Err fault) takes told is sole may = absurd (operation_clash p q ask fault may told is sole)
 
   -- ---- watches
 
@@ -119,7 +120,8 @@ module _ (terms : Terms) (p q : Pass RevisionData) (req : Req) (lawful : IsPass 
     served_of (replied (listed ask answer)) to says sole = same-due (routed.List ask) _ to (λ in_reach.
         unless-hindered terms p (answered (replied (listed ask answer))) (routed.List ask) (list_outcome terms p q req ask answer says.0 says.1)
         (reach_clash p q ask.meaning lawful (floor-stays sole) in_reach))
-    served_of (replied (operated ask answer)) to says sole = same-due (routed.Operate ask) _ to (done ask answer says.0 says.1 sole)
+    served_of (replied (operated ask answer)) to says sole = same-due (routed.Operate ask) _ to (λ due. done ask answer says.0 says.1 says.2 sole due.1)
+    served_of (replied (unoperated ask)) to says sole = same-due (routed.Operate ask) _ to (λ due. absurd (true≢false (sym due.0 ∙ says.0)))
     served_of (replied (described served document)) to says sole =
         same-due (routed.Describe document) _ to (λ _. inl (record { answer_is = ap (λ (r : Resources). replied (described r document)) says.0; status_is = refl }))
     served_of (replied (metered told)) to says sole = same-due routed.Metrics _ to (λ _. (told, record { answer_is = refl; status_is = refl }, says))

@@ -1,6 +1,6 @@
 -- Each answer serves its request, or tells what stands in its way.
 use Rattle.std.specs.Prelude.{Result, Ok, Err, IfSome}
-use Rattle.std.proofs.Common.{ℕ, ◌⊎◌, inl, inr, List, [], ◌∷◌, Option, Some, None, refl, ap, sym, subst}
+use Rattle.std.proofs.Common.{◌≡◌, ℕ, ◌⊎◌, inl, inr, true, List, [], ◌∷◌, Option, Some, None, refl, ap, sym, subst}
 use Rattle.route_req.specs.declared.documents.Document.TheVariants as document
 use Rattle.rev_front.specs.Passes.{Pass}
 use Rattle.rev_log.specs.Changes.{RevisionData}
@@ -33,7 +33,7 @@ use Rattle.client_api.specs.Told.{IsToldRead, IsToldWrite, IsToldTx, IsToldOpera
 use Rattle.client_api.specs.declared.answers.ListNo.{ListNo}
 use Rattle.client_api.specs.declared.resources.Resources.{Resources}
 use Rattle.client_api.specs.declared.answers.ListNo.TheVariants.{Expired, TooLarge, Absent, Memory}
-use Rattle.sess_reply.specs.Replies.{unrouted, wrote, transacted, got, listed, operated, described, metered, unready, unwatched, bad_upgrade}
+use Rattle.sess_reply.specs.Replies.{unrouted, wrote, transacted, got, listed, operated, unoperated, described, metered, unready, unwatched, bad_upgrade}
 use Rattle.sess_turns.specs.Terms.{Terms}
 use Rattle.sess_serve.specs.Answers.{Answer, Stream, gone, begun, replied, streamed, IsAnswerTo, IsUnrouted}
 use Rattle.sess_serve.specs.Http.{FailsUpgrade}
@@ -98,10 +98,10 @@ module _ (terms : Terms) (p q : Pass RevisionData) (req : Req) where
   transaction_outcome asks (Err (tx_no.ReadOnly at)) told is = all-turned-down asks (tx_no.ReadOnly at) is
   transaction_outcome asks (Err tx_no.Memory) told is = absurd told
 
-  pub operation_outcome : (ask : Operate) (answer : Result ℕ OpNo) → IsToldOperation answer → IsOperationReply p ask answer q →
+  pub operation_outcome : (ask : Operate) (answer : Result ℕ OpNo) → terms.operable ≡ true → IsToldOperation answer → IsOperationReply p ask answer q →
       Outcome terms p (exchange req (replied (operated ask answer)) q) (routed.Operate ask)
-  operation_outcome ask (Ok number) told is = inl (number, record { answer_is = refl; status_is = refl }, is)
-  operation_outcome ask (Err fault) told is = inr (barred p q ask fault told is)
+  operation_outcome ask (Ok number) takes told is = inl (takes, number, record { answer_is = refl; status_is = refl }, is)
+  operation_outcome ask (Err fault) takes told is = inr (inr (barred p q ask fault told is))
 
   unwatched_outcome : (ask : WatchAsk) (fault : ListNo) → UnwatchedSays terms p ask fault q →
       Outcome terms p (exchange req (replied (unwatched ask fault)) q) (routed.Watch ask)
@@ -148,7 +148,8 @@ module _ (terms : Terms) (p q : Pass RevisionData) (req : Req) where
     outcome_of (replied (transacted asks answer)) to says = same-route _ _ to (transaction_outcome asks answer says.0 says.1)
     outcome_of (replied (got ask answer)) to says = same-route _ _ to (get_outcome ask answer says.0 says.1)
     outcome_of (replied (listed ask answer)) to says = same-route _ _ to (list_outcome ask answer says.0 says.1)
-    outcome_of (replied (operated ask answer)) to says = same-route _ _ to (operation_outcome ask answer says.0 says.1)
+    outcome_of (replied (operated ask answer)) to says = same-route _ _ to (operation_outcome ask answer says.0 says.1 says.2)
+    outcome_of (replied (unoperated ask)) to says = same-route (routed.Operate ask) _ to (inr (inl says.0))
     outcome_of (replied (described served document)) to says =
         same-route _ _ to (inl (inl (record { answer_is = ap (λ (r : Resources). replied (described r document)) says.0; status_is = refl })))
     outcome_of (replied (metered told)) to says = same-route routed.Metrics _ to (inl (told, record { answer_is = refl; status_is = refl }, says))

@@ -1,6 +1,7 @@
 -- Where nobody else holds the log, two runs of the same requests have the same answers.
 use Rattle.std.specs.Prelude.{Result, Ok, Err, IsSomeAnd, IfSome}
 use Rattle.std.proofs.Common.{◌≡◌, ◌≢◌, ℕ, ◌≤◌, ◌⊎◌, inl, inr, Bool, true, false, List, [], ◌∷◌, length, map, Option, Some, None, refl, ap, sym, ◌∙◌, subst, length-append, arith}
+use Rattle.std.proofs.lemmas.Bool.{true≢false}
 use Rattle.route_req.specs.declared.documents.Document.{Document}
 use Rattle.route_req.specs.declared.documents.Document.TheVariants as document
 use Rattle.route_req.specs.declared.documents.Probe.{Probe}
@@ -44,7 +45,7 @@ use Rattle.client_api.specs.declared.answers.ListNo.{ListNo}
 use Rattle.client_api.specs.declared.resources.Resources.{Resources}
 use Rattle.client_api.specs.declared.answers.ListNo.TheVariants.{TooLarge, Expired, Absent, Memory}
 use Rattle.client_api.specs.Starts.{StartsTooLarge}
-use Rattle.sess_reply.specs.Replies.{unrouted, wrote, transacted, got, listed, operated, described, metered, unready, unwatched, bad_upgrade}
+use Rattle.sess_reply.specs.Replies.{unrouted, wrote, transacted, got, listed, operated, unoperated, described, metered, unready, unwatched, bad_upgrade}
 use Rattle.sess_turns.specs.Terms.{Terms}
 use Rattle.sess_serve.specs.Answers.{Answer, replied, streamed, is_stream, IsAnswerTo, IsUnrouted}
 use Rattle.sess_serve.specs.Http.{IsPlainOrUpgrade, FailsUpgrade}
@@ -162,7 +163,9 @@ ByRoute terms history p req a q (routed.Transact asks) =
     (x : Result (List Written) TxWriteNo) × (a ≡ replied (transacted asks x)) × IsToldTx x
     × IsTransactionAnswer terms.base terms.mirror history asks (known p) (known q) x
 ByRoute terms history p req a q (routed.Operate ask) =
-    (x : Result ℕ OpNo) × (a ≡ replied (operated ask x)) × IsToldOperation x × IsOperationReply p ask x q × SoleOperate p ask x q
+    ((x : Result ℕ OpNo) × (a ≡ replied (operated ask x)) × (terms.operable ≡ true) × IsToldOperation x × IsOperationReply p ask x q
+    × SoleOperate p ask x q)
+    ⊎ ((a ≡ replied (unoperated ask)) × (terms.operable ≡ false) × IsSoleRead p q)
 ByRoute terms history p req a q (routed.Describe document) = IsDescribedBy terms.mirror terms.resources document a × IsSoleRead p q
 ByRoute terms history p req a q routed.Metrics =
     (told : Metrics) × (a ≡ replied (metered told)) × AreMetrics terms.base p told q × IsSoleRead p q
@@ -194,7 +197,9 @@ module _ (terms : Terms) (history : ℕ) (if-sole : (P : ℕ → Type 0) → IsS
       inl (record { route = routed.Transact asks; is = to; by = (x, refl, says.0, as_answered terms.base terms.mirror history p q asks x says.0 (if-sole (λ h. SoleTransact terms.base terms.mirror h p asks x q) sole)) })
   routes p q req (replied (got ask x)) to says sole plain = inl (record { route = routed.Get ask; is = to; by = (x, refl, says.0, says.1, sole) })
   routes p q req (replied (listed ask x)) to says sole plain = inl (record { route = routed.List ask; is = to; by = (x, refl, says.0, says.1, sole) })
-  routes p q req (replied (operated ask x)) to says sole plain = inl (record { route = routed.Operate ask; is = to; by = (x, refl, says.0, says.1, sole) })
+  routes p q req (replied (operated ask x)) to says sole plain =
+      inl (record { route = routed.Operate ask; is = to; by = inl (x, refl, says.0, says.1, says.2, sole) })
+  routes p q req (replied (unoperated ask)) to says sole plain = inl (record { route = routed.Operate ask; is = to; by = inr (refl, says.0, sole) })
   routes p q req (replied (described served text)) to says sole plain =
       inl (record { route = routed.Describe text; is = to; by = (inl (ap (λ (r : Resources). replied (described r text)) says.0), sole) })
   routes p q req (replied (metered told)) to says sole plain = inl (record { route = routed.Metrics; is = to; by = (told, refl, says, sole) })
@@ -218,7 +223,10 @@ module _ (terms : Terms) (history : ℕ) (if-sole : (P : ℕ → Type 0) → IsS
   low-after p q req a (routed.Get ask) by is = low-read p q by.4 is
   low-after p q req a (routed.Write ask) by is = low-written terms history ask (known p) (known q) by.0 by.2 by.3 is
   low-after p q req a (routed.Transact asks) by is = low-transacted terms history asks (known p) (known q) by.0 by.2 by.3 is
-  low-after p q req a (routed.Operate ask) by is = low-operated ask (known p) (known q) by.0 (made_of p q ask by.0 by.2 by.4) is
+  low-after p q req a (routed.Operate ask) by is = elim by [
+    | inl x ↦ low-operated ask (known p) (known q) x.0 (made_of p q ask x.0 x.3 x.5) is
+    | inr x ↦ low-read p q x.2 is
+  ]
   low-after p q req a (routed.Describe text) by is = low-read p q by.1 is
   low-after p q req a routed.Metrics by is = low-read p q by.3 is
   low-after p q req a (routed.Watch ask) by is = elim by [
@@ -249,8 +257,18 @@ module _ (terms : Terms) (history : ℕ) (if-sole : (P : ℕ → Type 0) → IsS
         (subst (λ (w : Whole RevisionData). IsTransactionAnswer terms.base terms.mirror history asks w (known r) by'.0) same by'.3) in
         (are-one a b (replied (transacted asks by.0)) (replied (transacted asks by'.0)) by.1 by'.1 (ap (λ (x : Result (List Written) TxWriteNo). replied (transacted asks x)) one.0), one.1)
     by-one req a b (routed.Operate ask) by by' =
-        let one = one_operation p q o r sound lawful lawful' same ask by.0 by'.0 by.2 by'.2 by.3 by'.3 by.4 by'.4 in
-        (are-one a b (replied (operated ask by.0)) (replied (operated ask by'.0)) by.1 by'.1 (ap (λ (x : Result ℕ OpNo). replied (operated ask x)) one.0), one.1)
+        elim by [
+          | inl x ↦ elim by' [
+            | inl y ↦
+                let one = one_operation p q o r sound lawful lawful' same ask x.0 y.0 x.3 y.3 x.4 y.4 x.5 y.5 in
+                (are-one a b (replied (operated ask x.0)) (replied (operated ask y.0)) x.1 y.1 (ap (λ (z : Result ℕ OpNo). replied (operated ask z)) one.0), one.1)
+            | inr y ↦ absurd (true≢false (sym x.2 ∙ y.1))
+          ]
+          | inr x ↦ elim by' [
+            | inl y ↦ absurd (true≢false (sym y.2 ∙ x.1))
+            | inr y ↦ (are-one a b (replied (unoperated ask)) (replied (unoperated ask)) x.0 y.0 refl, reads-same x.2 y.2)
+          ]
+        ]
     by-one req a b (routed.Describe text) by by' = (described-one terms.mirror terms.resources text a b by.0 by'.0, reads-same by.1 by'.1)
     by-one req a b routed.Metrics by by' =
         let again : known r ≡ known q = reads-same by.3 by'.3 in

@@ -19,7 +19,7 @@ use Rattle.up_api.specs.Sections.{log_of}
 use Rattle.up_api.specs.Settings.{usual}
 use Rattle.client_api.specs.Alone.{known}
 use Rattle.client_api.specs.declared.answers.ListNo.TheVariants as list_no
-use Rattle.sess_reply.specs.Replies.{unrouted, wrote, transacted, got, listed, operated, described, metered, unready, unwatched, bad_upgrade}
+use Rattle.sess_reply.specs.Replies.{unrouted, wrote, transacted, got, listed, operated, unoperated, described, metered, unready, unwatched, bad_upgrade}
 use Rattle.sess_serve.specs.Answers.{Answer, replied, streamed, is_stream}
 use Rattle.sess_serve.specs.Ends.{Stays, IsKeptOpen, Last, IsClosed}
 use Rattle.sess_serve.specs.Laws.{SessionsSettle, EndsAreExact, finished, heard, requests_in, EndsWith, AgreeOnStreams}
@@ -69,6 +69,7 @@ same-code req (replied (listed ask (Err (list_no.TooLarge asked current)))) b is
 same-code req (replied (listed ask (Err (list_no.Absent at)))) b is = ap (reply_code req) is
 same-code req (replied (listed ask (Err list_no.Memory))) b is = ap (reply_code req) is
 same-code req (replied (operated ask answer)) b is = ap (reply_code req) is
+same-code req (replied (unoperated ask)) b is = ap (reply_code req) is
 same-code req (replied (described served document.Version)) b is = ap (reply_code req) is
 same-code req (replied (described served document.CoreVersions)) b is = ap (reply_code req) is
 same-code req (replied (described served document.Groups)) b is = ap (reply_code req) is

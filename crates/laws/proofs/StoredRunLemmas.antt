@@ -16,7 +16,7 @@ use Rattle.up_store.specs.declared.writes.WriteNo.{WriteNo}
 use Rattle.up_store.specs.declared.writes.Written.{Written}
 use Rattle.client_api.specs.Alone.{known, SoleWrite, SoleTransact, IsSoleOperation}
 use Rattle.client_api.specs.Told.{IsToldWrite, IsToldTx}
-use Rattle.sess_reply.specs.Replies.{Reply, unrouted, wrote, transacted, got, listed, operated, described, metered, unready, unwatched, bad_upgrade}
+use Rattle.sess_reply.specs.Replies.{Reply, unrouted, wrote, transacted, got, listed, operated, unoperated, described, metered, unready, unwatched, bad_upgrade}
 use Rattle.sess_turns.specs.Terms.{Terms}
 use Rattle.sess_turns.specs.Turns.{Finish, timed_out, stopped, lost, spent, broken, AloneFinish}
 use Rattle.sess_serve.specs.Answers.{Answer, gone, begun, replied, streamed, IsAnswerTo}
@@ -89,7 +89,8 @@ module _ (terms : Terms) (p q : Pass RevisionData) (holds : HoldsStored (log_of 
   answers req (transacted asks answer) storable to says sole =
       let there = with_history terms.sole_history (λ history. SoleTransact terms.base terms.mirror history p asks answer q) sole in
       transacts there.0 asks answer (storable.transaction asks to) says.0 there.1
-  answers req (operated ask answer) storable to says sole = operates ask answer (made_of p q ask answer says.0 sole)
+  answers req (operated ask answer) storable to says sole = operates ask answer (made_of p q ask answer says.1 sole)
+  answers req (unoperated ask) storable to says sole = unchanged sole.same
   answers req (unrouted fault) storable to says sole = unchanged sole.same
   answers req (got ask answer) storable to says sole = unchanged sole.same
   answers req (listed ask answer) storable to says sole = unchanged sole.same

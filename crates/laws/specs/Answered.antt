@@ -13,7 +13,7 @@ use Rattle.laws.specs.Hindered.{IsHindered}
 use Rattle.laws.specs.Served.{IsServed}
 
 -- each of these requests that has a route gets its 200, its 201 or its stream, unless what it names isn't reached or isn't
--- kept, or the log refuses its write
+-- kept, the log refuses its write, or the server its operation
 abbrev pub AreServedOrHindered : Terms → Pass RevisionData → List Exchange → Type 0
 AreServedOrHindered terms p [] = Unit {0}
 AreServedOrHindered terms p (e ∷ es) =

@@ -1,5 +1,5 @@
 -- When a request is to be served, by the log as it stands before it: of a log that nobody else holds.
-use Rattle.std.specs.Prelude.{ℕ, ◌<◌, ◌≤◌, ◌^◌, [], ◌∷◌}
+use Rattle.std.specs.Prelude.{◌≡◌, ℕ, ◌<◌, ◌≤◌, ◌^◌, true, [], ◌∷◌}
 use Rattle.rev_front.specs.Passes.{Pass, end_from}
 use Rattle.rev_log.specs.Changes.{RevisionData}
 use Rattle.http_read.specs.declared.request.Req.{Req}
@@ -38,7 +38,7 @@ IsKept terms p ask (FromHere meaning) = IsInReach p meaning
 IsKept terms p ask (FromRevision at) =
     (n : ℕ) → ¬ (IsEvicted (log_of terms.base p) p.floor terms.window ask.selection.resource at n)
 
--- an operation can be done: a further cut, a compaction between the floor and the end of the log, and each restart and
+-- a log can do an operation: a further cut, a compaction between the floor and the end of the log, and each restart and
 -- disconnection
 abbrev pub MayBeDone : Pass RevisionData → Operate → Type 0
 MayBeDone p Cut = p.gen < 2 ^ 62
@@ -46,7 +46,8 @@ MayBeDone p (Compact at) = (p.floor ≤ at) × IsReached p at
 MayBeDone p Restart = Unit {0}
 MayBeDone p Disconnect = Unit {0}
 
--- a request that asks for this is due what it asks for: nothing stands in its way
+-- a request that asks for this is due what it asks for: nothing stands in its way; an operation also needs a server that
+-- takes any
 abbrev pub IsDue : Terms → Pass RevisionData → Req → Routed → Type 0
 IsDue terms p req (routed.Describe document) = Unit {0}
 IsDue terms p req routed.Metrics = Unit {0}
@@ -54,5 +55,5 @@ IsDue terms p req (routed.List ask) = IsInReach p ask.meaning
 IsDue terms p req (routed.Get ask) = IsInReach p ask.meaning
 IsDue terms p req (routed.Write ask) = Takes terms.mirror (log_of terms.base p) (ask ∷ [])
 IsDue terms p req (routed.Transact asks) = Takes terms.mirror (log_of terms.base p) asks
-IsDue terms p req (routed.Operate ask) = MayBeDone p ask
+IsDue terms p req (routed.Operate ask) = (terms.operable ≡ true) × MayBeDone p ask
 IsDue terms p req (routed.Watch ask) = IsPlainOrUpgrade req × IsKept terms p ask ask.start

@@ -1,5 +1,5 @@
 -- What may stand in the way of a request that has a route.
-use Rattle.std.specs.Prelude.{◌≡◌, ℕ, ◌<◌, ◌^◌, ◌⊎◌, List, [], ◌∷◌}
+use Rattle.std.specs.Prelude.{◌≡◌, ℕ, ◌<◌, ◌^◌, ◌⊎◌, false, List, [], ◌∷◌}
 use Rattle.rev_front.specs.Passes.{Pass}
 use Rattle.rev_log.specs.Changes.{RevisionData}
 use Rattle.select_all.specs.declared.selection.Meaning.{Meaning}
@@ -44,7 +44,7 @@ IsCutOff terms p ask (FromRevision at) q =
 abbrev pub IsTurnedDown : Terms → Pass RevisionData → List WriteAsk → Pass RevisionData → Type 0
 IsTurnedDown terms p asks q = (at : ℕ) × IsKnown p at q × TakesNot terms.mirror (log_upto terms.base q at) asks
 
--- an operation can't be done: no cut can follow the last one; or a compaction is above all that was shown, or below the
+-- a log can't do an operation: no cut can follow the last one; or a compaction is above all that was shown, or below the
 -- floor
 abbrev pub IsBarred : Pass RevisionData → Operate → Pass RevisionData → Type 0
 IsBarred p Cut q = q.gen ≡ 2 ^ 62
@@ -53,7 +53,7 @@ IsBarred p Restart q = ⊥
 IsBarred p Disconnect q = ⊥
 
 -- What stands in the way of a request that asks for this: nothing, where it asks what describes the server or for metrics;
--- for a watch also that it asks for a WebSocket, and not as it must.
+-- for an operation also that the server takes none; for a watch also that it asks for a WebSocket, and not as it must.
 abbrev pub IsHindered : Terms → Pass RevisionData → Exchange → Routed → Type 0
 IsHindered terms p e (routed.Describe document) = ⊥
 IsHindered terms p e routed.Metrics = ⊥
@@ -61,5 +61,5 @@ IsHindered terms p e (routed.List ask) = IsOutOfReach p ask.meaning e.pass
 IsHindered terms p e (routed.Get ask) = IsOutOfReach p ask.meaning e.pass
 IsHindered terms p e (routed.Write ask) = IsTurnedDown terms p (ask ∷ []) e.pass
 IsHindered terms p e (routed.Transact asks) = IsTurnedDown terms p asks e.pass
-IsHindered terms p e (routed.Operate ask) = IsBarred p ask e.pass
+IsHindered terms p e (routed.Operate ask) = (terms.operable ≡ false) ⊎ IsBarred p ask e.pass
 IsHindered terms p e (routed.Watch ask) = FailsUpgrade e.request.upgrade ⊎ IsCutOff terms p ask ask.start e.pass

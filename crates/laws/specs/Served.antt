@@ -52,7 +52,7 @@ GetsDescribed terms e text =
 -- with those of the log and its caches. A list: 200, with its page at a fresh
 -- revision. A get: 200 with the object that stands at a fresh revision, or 404 where none stands there. A write: 201
 -- where it creates and 200 where it replaces or removes, and its change is in the log. A transaction: 200, and its
--- revision is in the log. An operation: 200, and it is done. A watch: its stream.
+-- revision is in the log. An operation, of a server that takes any: 200, and it is done. A watch: its stream.
 abbrev pub IsServed : Terms → Pass RevisionData → Exchange → Routed → Type 0
 IsServed terms p e (routed.Describe document) = GetsDescribed terms e document
 IsServed terms p e routed.Metrics =
@@ -67,5 +67,5 @@ IsServed terms p e (routed.Write ask) =
 IsServed terms p e (routed.Transact asks) =
     (answers : List Written) × Gets e (transacted asks (Ok answers)) 200 × IsTxAccepted terms.base terms.mirror p asks answers e.pass
 IsServed terms p e (routed.Operate ask) =
-    (number : ℕ) × Gets e (operated ask (Ok number)) 200 × IsOperationReply p ask (Ok number) e.pass
+    (terms.operable ≡ true) × (number : ℕ) × Gets e (operated ask (Ok number)) 200 × IsOperationReply p ask (Ok number) e.pass
 IsServed terms p e (routed.Watch ask) = GetsStream terms p e ask

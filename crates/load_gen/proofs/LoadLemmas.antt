@@ -34,7 +34,7 @@ use Rattle.local_client.specs.CachedLogs.{CachedLogData, IsNewLog, KnowsWhole, w
 use Rattle.http_send.specs.declared.replies.ContentType.{ContentType}
 use Rattle.http_send.specs.declared.replies.ContentType.TheVariants.{Json, PlainText, MetricsText}
 use Rattle.sess_reply.specs.Contents.{Content, refusal_content, refused, content_type_of}
-use Rattle.sess_reply.specs.Replies.{Reply, unrouted, wrote, transacted, got, listed, operated, described, metered, unready, unwatched, bad_upgrade, content_of, form_of, content_text}
+use Rattle.sess_reply.specs.Replies.{Reply, unrouted, wrote, transacted, got, listed, operated, unoperated, described, metered, unready, unwatched, bad_upgrade, content_of, form_of, content_text}
 use Rattle.sess_serve.specs.Answers.{Answer, replied, streamed, is_stream}
 use Rattle.sess_serve.specs.Ends.{Traffic, Ended}
 use Rattle.sess_serve.specs.Steps.{Exchange}
@@ -52,17 +52,17 @@ use Rattle.load_gen.specs.Replies.{code_in, reply_code, codes_of, IsCode, AreRep
 
 served_new : (first : ℕ) (base : List RowData) (mirror : Bool) (facts : Facts) (log : CachedLogData) (settings : Settings)
     (session written : List ℕ) (q : Pass RevisionData) → first ≡ 1 → base ≡ [] → mirror ≡ false → settings ≡ usual →
-    facts.window ≡ window_of log → facts.sole_history ≡ Some log.store.history → facts.resources ≡ all_served → IsNewLog first settings log →
+    facts.window ≡ window_of log → facts.sole_history ≡ Some log.store.history → facts.resources ≡ all_served → facts.operable ≡ true → IsNewLog first settings log →
     IsLoadServed (terms_of base mirror facts settings) (KnowsWhole log) log.pass session written q →
     IsLoadServed (terms usual) (Unit {0}) (new_pass log.pass.seat) session written q
-served_new first base mirror facts log settings session written q first-is base-is own settings-are window-is alone-is all-is new s =
+served_new first base mirror facts log settings session written q first-is base-is own settings-are window-is alone-is all-is takes new s =
     let in-settings : IsLoadServed (terms settings) (Unit {0}) (new_pass log.pass.seat) session written q =
     record {
       taken = s.taken;
       left = s.left;
       readings = s.readings;
       parted = s.parted;
-      served = of_new_log first base mirror facts log settings _ q Done first-is base-is own window-is alone-is all-is new s.served;
+      served = of_new_log first base mirror facts log settings _ q Done first-is base-is own window-is alone-is all-is takes new s.served;
     } in
     subst (λ (x : Settings). IsLoadServed (terms x) (Unit {0}) (new_pass log.pass.seat) session written q) settings-are in-settings
 
@@ -102,6 +102,7 @@ known_code form (listed ask (Ok answer)) c e = of_said 200 Json _ c is_accepted 
 known_code form (listed ask (Err fault)) c e = of_told _ c e
 known_code form (operated ask (Ok value)) c e = of_said 200 Json _ c is_accepted e
 known_code form (operated ask (Err fault)) c e = of_told _ c e
+known_code form (unoperated ask) c e = of_told (Some errors.read_only) c e
 known_code form (described served document) c e = of_said 200 (content_type_of document) _ c is_accepted e
 known_code form (metered told) c e = of_said 200 MetricsText _ c is_accepted e
 known_code form (unready probe) c e = of_content (record { code = 503; retry = true; kind = PlainText; text = _ }) c (inr (inr (inl refl))) e
@@ -229,6 +230,7 @@ pub record IsPlayed (first : ℕ) (base : List RowData) (mirror : Bool) (facts :
   pub window_is : facts.window ≡ window_of log
   pub history_is : facts.sole_history ≡ Some log.store.history
   pub resources_are : facts.resources ≡ all_served
+  pub operable_is : facts.operable ≡ true
   pub new : IsNewLog first settings log
   pub served : IfOk played (λ sink. IsLoadServed (terms_of base mirror facts settings) (KnowsWhole log) log.pass session sink.written after.pass)
   pub kept : IfOk played (λ sink. KnowsWhole after)
@@ -244,7 +246,7 @@ figures_told first base mirror facts settings log after session requests q (Err 
 figures_told first base mirror facts settings log after session requests q (Ok sink) (Err memory) (Ok f) is tallies = absurd tallies
 figures_told first base mirror facts settings log after session requests q (Ok sink) (Ok list) (Ok f) is tallies =
     figures_are base log.pass.seat session requests sink list after.pass q f is.base_is
-    (served_new first base mirror facts log settings session sink.written after.pass is.first_is is.base_is is.own is.settings_are is.window_is is.history_is is.resources_are is.new is.served)
+    (served_new first base mirror facts log settings session sink.written after.pass is.first_is is.base_is is.own is.settings_are is.window_is is.history_is is.resources_are is.operable_is is.new is.served)
     is.kept.1 is.listed_all (is.sole is.kept) tallies
 
 pub requests_told : (requests : ℕ) (played : Result SinkState AllocError) (answered : Result ListedData AllocError) (result : Result Figures AllocError) →

@@ -28,8 +28,9 @@ use Rattle.metrics.specs.declared.caches.Metrics.{Metrics}
 use Rattle.sess_reply.specs.Contents.{Content, refused, refusal_content, written_content, transacted_content, got_content, listed_content, operated_content, described_content, metered_content, unready_content, read_told}
 
 -- an answer that is a reply, with what was asked: the request has no route; what its write, transaction, get, list or
--- operation came to; what describes the server, which has these resources; what a monitor is told; the probe failed; its watch is refused before
--- it began; its watch asks to go on as a WebSocket, and that isn't one
+-- operation came to; its operation isn't done, as the server takes none; what describes the server, which has these
+-- resources; what a monitor is told; the probe failed; its watch is refused before it began; its watch asks to go on as a
+-- WebSocket, and that isn't one
 pub data Reply : Type 0 where
   unrouted : RouteNo → Reply
   wrote : WriteAsk → Result Written WriteNo → Reply
@@ -37,6 +38,7 @@ pub data Reply : Type 0 where
   got : GetAsk → Result GotData ListNo → Reply
   listed : ListAsk → Result ListedData ListNo → Reply
   operated : Operate → Result ℕ OpNo → Reply
+  unoperated : Operate → Reply
   described : Resources → Document → Reply
   metered : Metrics → Reply
   unready : Probe → Reply
@@ -51,6 +53,7 @@ content_of form (transacted asks answer) = transacted_content asks answer
 content_of form (got ask answer) = got_content form ask answer
 content_of form (listed ask answer) = listed_content form ask answer
 content_of form (operated ask answer) = operated_content answer
+content_of form (unoperated ask) = Some (refused errors.read_only)
 content_of form (described served document) = described_content served document
 content_of form (metered told) = metered_content told
 content_of form (unready probe) = unready_content probe

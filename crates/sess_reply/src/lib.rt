@@ -23,4 +23,4 @@ pub use form::form_of;
 pub use metered::{send_metered, send_unready};
 pub use reads::{send_got, send_listed, send_unwatched};
 pub use refusals::{send_bad_upgrade, send_request_refusal, send_unrouted};
-pub use writes::{send_operated, send_transacted, send_written};
+pub use writes::{send_operated, send_transacted, send_unoperated, send_written};

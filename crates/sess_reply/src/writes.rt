@@ -5,14 +5,14 @@ ghost use Rattle.edge_io.specs.Sent.{sent_through};
 ghost use Rattle.meta_view.specs.declared.form.Form.TheVariants.{Whole};
 ghost use Rattle.up_store.specs.Transacting.{answers_in};
 ghost use Rattle.sess_reply.specs.Contents as contents;
-ghost use Rattle.sess_reply.specs.Replies.{reply_text, content_text, wrote, transacted, operated};
+ghost use Rattle.sess_reply.specs.Replies.{reply_text, content_text, wrote, transacted, operated, unoperated};
 ghost use Rattle.sess_reply.specs.Sending.{Sends};
 
 use crate::Broken;
 use crate::body::send_pieces;
 use crate::faults::{fault_told, transaction_told};
 use crate::refusals::send_told;
-use api_errors::operation_told;
+use api_errors::{operation_told, read_only};
 use edge_io::Sink;
 use itoa::Buffer;
 use json_obj::value_pieces;
@@ -108,6 +108,20 @@ pub fn send_operated<K: Sink>(
             send_told(alloc, sink, close, told)
         }
     }
+}
+
+/// Replies to an operation that isn't done, as the server takes none.
+pub fn send_unoperated<K: Sink>(
+    alloc: Global,
+    sink: &mut K,
+    close: bool,
+    ask: Operate,
+) -> Result<(), Broken>
+    ensures { Sends result (reply_text Whole close (unoperated ask)) (sent_through K.written K.settled K.faults sink.old sink.new) }
+{
+    let _ = ask;
+    let told = read_only(alloc)?;
+    send_told(alloc, sink, close, Some(told))
 }
 
 // Replies with a number.

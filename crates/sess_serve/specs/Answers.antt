@@ -9,7 +9,7 @@ use Rattle.watch_rules.specs.declared.ask.WatchAsk.{WatchAsk}
 use Rattle.route_req.specs.declared.routing.Routed.TheVariants as routed
 use Rattle.route_req.specs.declared.routing.RouteNo.{RouteNo}
 use Rattle.route_req.specs.declared.routing.RouteNo.TheVariants as route_no
-use Rattle.sess_reply.specs.Replies.{Reply, unrouted, wrote, transacted, got, listed, operated, described, metered, unready, unwatched, bad_upgrade}
+use Rattle.sess_reply.specs.Replies.{Reply, unrouted, wrote, transacted, got, listed, operated, unoperated, described, metered, unready, unwatched, bad_upgrade}
 use Rattle.sess_turns.specs.Turns.{Turns, readings_of}
 use Rattle.sess_serve.specs.Wire.{Wire}
 use Rattle.sess_serve.specs.Http.{http}
@@ -40,6 +40,7 @@ IsReplyToBy wire req (transacted asks answer) = wire.is_route req (routed.Transa
 IsReplyToBy wire req (got ask answer) = wire.is_route req (routed.Get ask)
 IsReplyToBy wire req (listed ask answer) = wire.is_route req (routed.List ask)
 IsReplyToBy wire req (operated ask answer) = wire.is_route req (routed.Operate ask)
+IsReplyToBy wire req (unoperated ask) = wire.is_route req (routed.Operate ask)
 IsReplyToBy wire req (described served document) = wire.is_route req (routed.Describe document)
 IsReplyToBy wire req (metered told) = wire.is_route req routed.Metrics
 IsReplyToBy wire req (unready probe) = wire.is_route req (routed.Describe (document.Probe probe))

@@ -1,5 +1,5 @@
 -- A new log that nobody else holds: what its client knows at first, and what a session is told once of them.
-use Rattle.std.specs.Prelude.{ℕ, [], false, Some}
+use Rattle.std.specs.Prelude.{ℕ, [], false, true, Some}
 use Rattle.rev_front.specs.Passes.{Pass, empty_log, pass_from}
 use Rattle.rev_log.specs.Changes.{RevisionData}
 use Rattle.client_api.specs.Facts.{all_served}
@@ -11,7 +11,7 @@ abbrev pub new_pass : ℕ → Pass RevisionData
 new_pass seat = pass_from (empty_log 1) seat
 
 -- a log with no base rows, which is no mirror's and which nobody else holds; watches that are served from so many changes
--- back as the settings say, and the states of so many revisions; all resources
+-- back as the settings say, and the states of so many revisions; all resources, and operations
 abbrev pub terms : Settings → Terms
 terms settings = record {
   base = [];
@@ -19,5 +19,6 @@ terms settings = record {
   window = settings.window;
   sole_history = Some settings.history;
   resources = all_served;
+  operable = true;
   settings = settings;
 }

@@ -1,5 +1,5 @@
 -- Each answer stands between what was known before and what is known afterwards.
-use Rattle.std.specs.Prelude.{◌≡◌, List, [], ◌∷◌, true, Ok, Err, IsSomeAnd}
+use Rattle.std.specs.Prelude.{◌≡◌, List, [], ◌∷◌, true, false, Ok, Err, IsSomeAnd}
 use Rattle.rev_front.specs.Passes.{Pass}
 use Rattle.rev_log.specs.Changes.{RevisionData}
 use Rattle.http_read.specs.declared.request.Req.{Req}
@@ -14,7 +14,7 @@ use Rattle.client_api.specs.Lists.{IsListAnswer}
 use Rattle.client_api.specs.Metered.{AreMetrics}
 use Rattle.client_api.specs.Starts.{IsWatchAnswer}
 use Rattle.client_api.specs.Told.{IsToldRead, IsToldWrite, IsToldTx, IsToldOperation}
-use Rattle.sess_reply.specs.Replies.{Reply, unrouted, wrote, transacted, got, listed, operated, described, metered, unready, unwatched, bad_upgrade}
+use Rattle.sess_reply.specs.Replies.{Reply, unrouted, wrote, transacted, got, listed, operated, unoperated, described, metered, unready, unwatched, bad_upgrade}
 use Rattle.sess_turns.specs.Terms.{Terms}
 use Rattle.sess_turns.specs.Turns.{IsWatchTurns, AloneFinish}
 use Rattle.sess_serve.specs.Wire.{Wire}
@@ -30,15 +30,17 @@ UnwatchedSays terms p ask (Expired asked floor) q = ⊥
 UnwatchedSays terms p ask (Absent at) q = ⊥
 UnwatchedSays terms p ask Memory q = ⊥
 
--- a reply tells what the client answered, which wasn't want of memory; where it wasn't asked nothing has changed; what is
--- described are the server's resources; none but a mirror fails a probe
+-- a reply tells what the client answered, which wasn't want of memory; where it wasn't asked nothing has changed; an
+-- operation is asked for where the server takes any, and there alone; what is described are the server's resources; none
+-- but a mirror fails a probe
 abbrev pub ReplySays : Terms → Pass RevisionData → Reply → Pass RevisionData → Type 0
 ReplySays terms p (unrouted fault) q = p ≡ q
 ReplySays terms p (wrote ask answer) q = IsToldWrite answer × IsWriteReply terms.base terms.mirror p ask answer q
 ReplySays terms p (transacted asks answer) q = IsToldTx answer × IsTransactionReply terms.base terms.mirror p asks answer q
 ReplySays terms p (got ask answer) q = IsToldRead answer × IsGetAnswer terms.base p ask answer q
 ReplySays terms p (listed ask answer) q = IsToldRead answer × IsListAnswer terms.base p ask answer q
-ReplySays terms p (operated ask answer) q = IsToldOperation answer × IsOperationReply p ask answer q
+ReplySays terms p (operated ask answer) q = (terms.operable ≡ true) × IsToldOperation answer × IsOperationReply p ask answer q
+ReplySays terms p (unoperated ask) q = (terms.operable ≡ false) × (p ≡ q)
 ReplySays terms p (described served document) q = (served ≡ terms.resources) × (p ≡ q)
 ReplySays terms p (metered told) q = AreMetrics terms.base p told q
 ReplySays terms p (unready probe) q = (terms.mirror ≡ true) × (p ≡ q)
@@ -89,6 +91,7 @@ abbrev pub IsAloneReply : Terms → Pass RevisionData → Reply → Pass Revisio
 IsAloneReply terms p (wrote ask answer) q = IsSomeAnd terms.sole_history (λ history. SoleWrite terms.base terms.mirror history p ask answer q)
 IsAloneReply terms p (transacted asks answer) q = IsSomeAnd terms.sole_history (λ history. SoleTransact terms.base terms.mirror history p asks answer q)
 IsAloneReply terms p (operated ask answer) q = SoleOperate p ask answer q
+IsAloneReply terms p (unoperated ask) q = IsSoleRead p q
 IsAloneReply terms p (unrouted fault) q = IsSoleRead p q
 IsAloneReply terms p (got ask answer) q = IsSoleRead p q
 IsAloneReply terms p (listed ask answer) q = IsSoleRead p q

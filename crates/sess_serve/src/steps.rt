@@ -10,7 +10,9 @@ ghost use Rattle.sess_turns.specs.Terms.{terms_of};
 ghost use Rattle.up_api.specs.declared.settings.Settings.{Settings};
 ghost use Rattle.sess_serve.specs.Serving.{Replied, UnlessMemory};
 
+use crate::refused::tell_refused;
 use crate::watching::by_reply;
+use api_errors::Reason;
 use client_api::{Client, ListNo};
 use edge_io::Sink;
 use http_read::Req;
@@ -18,7 +20,7 @@ use list_rules::{GetAsk, ListAsk};
 use route_req::{Document, Probe};
 use sess_reply::{
     Broken, form_of, send_described, send_got, send_listed, send_metered, send_operated,
-    send_transacted, send_unready, send_written,
+    send_transacted, send_unoperated, send_unready, send_written,
 };
 use sess_turns::WatchEnd;
 use std::alloc::Global;
@@ -138,7 +140,7 @@ pub fn step_list<C: Client, K: Sink>(
     }
 }
 
-/// An operation on the log and its server.
+/// An operation on the log and its server, which is refused where that takes none, whatever it is.
 pub fn step_operate<C: Client, K: Sink>(
     alloc: Global,
     client: &mut C,
@@ -147,6 +149,33 @@ pub fn step_operate<C: Client, K: Sink>(
     ask: Operate,
 ) -> Result<Option<WatchEnd>, Broken>
     requires { IsRoute req.now (routed.Operate ask) }
+    ensures replied { (s : Settings) → Replied (terms_of C.base C.mirror (C.facts client.old) s) (C.whole client.old)
+        (C.pass client.old) req.now (sent_through K.written K.settled K.faults sink.old sink.new) (C.pass client.new) result }
+    ensures facts { C.facts client.new ≡ C.facts client.old }
+    ensures kept { C.whole client.old → UnlessMemory result (C.whole client.new) }
+{
+    if client.is_operable() {
+        operate(alloc, client, sink, req, ask)
+    } else {
+        tell_refused(
+            client,
+            req.method.as_str(),
+            Some(Reason::MethodNotAllowed.code()),
+        );
+        by_reply(send_unoperated(alloc, sink, req.close, ask))
+    }
+}
+
+// An operation, where the server takes them.
+fn operate<C: Client, K: Sink>(
+    alloc: Global,
+    client: &mut C,
+    sink: &mut K,
+    req: &Req,
+    ask: Operate,
+) -> Result<Option<WatchEnd>, Broken>
+    requires route { IsRoute req.now (routed.Operate ask) }
+    requires operable { (C.facts client.old).operable ≡ true }
     ensures replied { (s : Settings) → Replied (terms_of C.base C.mirror (C.facts client.old) s) (C.whole client.old)
         (C.pass client.old) req.now (sent_through K.written K.settled K.faults sink.old sink.new) (C.pass client.new) result }
     ensures facts { C.facts client.new ≡ C.facts client.old }

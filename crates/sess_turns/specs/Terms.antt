@@ -6,13 +6,14 @@ use Rattle.client_api.specs.Facts.{Facts}
 use Rattle.client_api.specs.declared.resources.Resources.{Resources}
 
 -- the log's base rows, and whether it is a mirror's; how many changes the client's caches keep at least; its history,
--- where nobody else holds the log; which resources the server has; and the settings
+-- where nobody else holds the log; which resources the server has, and whether it takes operations; and the settings
 pub record Terms : Type 0 where
   pub base : List RowData
   pub mirror : Bool
   pub window : ℕ
   pub sole_history : Option ℕ
   pub resources : Resources
+  pub operable : Bool
   pub settings : Settings
 
 -- what a session is told of its log, of what its client tells of itself, and of its settings
@@ -24,6 +25,7 @@ terms_of base mirror facts settings =
       window = facts.window;
       sole_history = facts.sole_history;
       resources = facts.resources;
+      operable = facts.operable;
       settings = settings;
     }
 

@@ -1,22 +1,14 @@
-use Rattle.std.proofs.Common.{refl}
-use Rattle.sess_reply.specs.Replies.{operated}
-use Rattle.sess_serve.proofs.Replying.{lacks, lacks-operate, sends, unless-memory}
+use Rattle.std.proofs.Common.{refl, sym, ◌∙◌}
+use Rattle.sess_reply.specs.Replies.{unoperated}
+use Rattle.sess_turns.proofs.AloneLemmas.{sole-same}
+use Rattle.sess_serve.proofs.Replying.{sends, onward-is, unless-memory}
 use Rattle.sess_serve.proofs.steps.step_operate.Goals as goal
 
-pub returns-then-is_told_operation-clause-replied : goal.returns-then-is_told_operation-clause-replied
-returns-then-is_told_operation-clause-replied g c = λ s.
-    let told = rw c.if-is_told_operation.true at c.is_told_operation.ensures in
-    sends _ _ _ _ _ _ c.by_reply.result c.send_operated.result c.by_reply.ensures (operated c.args.ask c.operate-answer.result) c.requires
-    (told, c.operate-answer.ensures.answer) c.operate-answer.ensures.onward c.operate-answer.ensures.sole
-    c.send_operated.ensures
+pub returns-else-is_operable-clause-replied : goal.returns-else-is_operable-clause-replied
+returns-else-is_operable-clause-replied g c = λ s.
+    sends _ _ _ _ _ _ c.by_reply.result c.send_unoperated.result c.by_reply.ensures (unoperated c.args.ask) c.requires
+    (sym c.is_operable.ensures ∙ c.if-is_operable.false, sym c.tell_refused.ensures.pass) (onward-is _ _ (sym c.tell_refused.ensures.pass))
+    (λ w. sole-same _ _ c.tell_refused.ensures.pass) c.send_unoperated.ensures
 
-pub returns-then-is_told_operation-clause-kept : goal.returns-then-is_told_operation-clause-kept
-returns-then-is_told_operation-clause-kept g c = λ whole.
-    let told = rw c.if-is_told_operation.true at c.is_told_operation.ensures in
-    unless-memory c.by_reply.result (c.operate-answer.ensures.kept whole told)
-
-pub returns-else-is_told_operation-clause-replied : goal.returns-else-is_told_operation-clause-replied
-returns-else-is_told_operation-clause-replied g c = λ s.
-    let lacked = rw c.if-is_told_operation.false at c.is_told_operation.ensures in
-    lacks _ _ _ _ _ _ refl refl c.operate-answer.ensures.onward
-    (λ w. lacks-operate g.C.Client.base g.C.Client.mirror (g.C.Client.facts c.args.client.now) s _ _ c.args.req.now c.args.ask c.operate-answer.result lacked (c.operate-answer.ensures.sole w))
+pub returns-else-is_operable-clause-kept : goal.returns-else-is_operable-clause-kept
+returns-else-is_operable-clause-kept g c = λ whole. unless-memory c.by_reply.result (c.tell_refused.ensures.kept whole)
