@@ -1,8 +1,8 @@
 //! A client that rings the bell behind each write, counts its answers, notes when its watch has something to do, and
 //! ends all watches where it is asked to.
 
-ghost use Rattle.std.specs.Prelude.{◌≡◌, ◌⊎◌, true, false, None, IsSome};
-ghost use Rattle.net_front.specs.Probes.{facts_at};
+ghost use Rattle.std.specs.Prelude.{◌≡◌, ◌⊎◌, true, false, None, Some, IsSome};
+ghost use Rattle.net_front.specs.Probes.{facts_of};
 
 use crate::probes::{is_live, is_ready};
 use crate::schedule::Schedule;
@@ -31,6 +31,7 @@ impl<'a, C: Client> RingingClient<'a, C> {
         requires mirrored { IsSome desk.now.followed → C.mirror ≡ true }
         ensures client { result.client ≡ client }
         ensures desk { result.desk.now ≡ desk.now }
+        ensures alone { result.own ≡ None }
     {
         RingingClient {
             client,
@@ -40,10 +41,11 @@ impl<'a, C: Client> RingingClient<'a, C> {
         }
     }
 
-    /// The same, of a log that has this resource alone.
+    /// The same, of a log that has this resource alone, as each has one at its server, which takes no operations.
     pub fn of(self, own: Resource) -> RingingClient<'a, C>
         ensures client { result.client ≡ self.entry.client }
         ensures desk { result.desk.now ≡ self.entry.desk.now }
+        ensures alone { result.own ≡ Some own }
     {
         RingingClient {
             client: self.client,
@@ -91,7 +93,7 @@ impl<'a, C: Client> Client for RingingClient<'a, C> {
 
     ghost pass = { λ c. C.pass c.client };
 
-    ghost facts = { λ c. facts_at c.desk.now.followed (C.facts c.client) };
+    ghost facts = { λ c. facts_of c.own c.desk.now.followed (C.facts c.client) };
 
     ghost whole = { λ c. C.whole c.client };
 
@@ -182,6 +184,13 @@ impl<'a, C: Client> Client for RingingClient<'a, C> {
 
     fn resources(&self) -> Resources {
         self.desk.resources()
+    }
+
+    fn is_operable(&self) -> bool {
+        match self.own {
+            Some(_) => false,
+            None => self.client.is_operable(),
+        }
     }
 
     fn is_ready(&self) -> bool {

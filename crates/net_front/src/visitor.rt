@@ -2,7 +2,7 @@
 
 ghost use Rattle.std.specs.Prelude.{◌≡◌, ◌+◌, ◌<◌, ◌^◌, true, None, IsSome, IfOk, IfNone, IfSome};
 ghost use Rattle.edge_io.specs.Net.{handed_out, failures};
-ghost use Rattle.net_front.specs.Probes.{facts_at};
+ghost use Rattle.net_front.specs.Probes.{facts_at, facts_in_each};
 ghost use Rattle.net_front.specs.Visits.{IsEachVisit, IsVisit, visit_ends};
 ghost use Rattle.rev_front.specs.Passes.{Pass};
 ghost use Rattle.rev_log.specs.Changes.{RevisionData};
@@ -138,7 +138,7 @@ where
         (end, source, sink)
     }
 
-    /// The same, over a client for each resource, each of a log of its own.
+    /// The same, over a client for each resource, each of a log of its own. No operation is taken.
     pub fn serve_each<P: Client + Drop, M: Client + Drop, D: Client + Drop, R: Wait>(
         self,
         rt: &R,
@@ -156,9 +156,9 @@ where
         requires mirrored_deployments { IsSome desk.now.followed → D.mirror ≡ true }
         requires room { sessions.old < 2 ^ 63 }
         ensures session { IsEachVisit (λ (p m d : Pass RevisionData). strands
-            (strand_of self.settings P.base P.mirror (facts_at desk.now.followed (P.facts clients.pods)) (P.whole clients.pods) (P.pass clients.pods) p)
-            (strand_of self.settings M.base M.mirror (facts_at desk.now.followed (M.facts clients.config_maps)) (M.whole clients.config_maps) (M.pass clients.config_maps) m)
-            (strand_of self.settings D.base D.mirror (facts_at desk.now.followed (D.facts clients.deployments)) (D.whole clients.deployments) (D.pass clients.deployments) d))
+            (strand_of self.settings P.base P.mirror (facts_in_each desk.now.followed (P.facts clients.pods)) (P.whole clients.pods) (P.pass clients.pods) p)
+            (strand_of self.settings M.base M.mirror (facts_in_each desk.now.followed (M.facts clients.config_maps)) (M.whole clients.config_maps) (M.pass clients.config_maps) m)
+            (strand_of self.settings D.base D.mirror (facts_in_each desk.now.followed (D.facts clients.deployments)) (D.whole clients.deployments) (D.pass clients.deployments) d))
             (visit_ends (L.S.left self.source) (L.S.faults self.source) (L.K.written self.sink) (L.K.faults self.sink))
             (visit_ends (L.S.left result.1) (L.S.faults result.1) (L.K.written result.2) (L.K.faults result.2))
             result.0 }

@@ -1,5 +1,6 @@
 -- The session over the clients that ring is one over the clients that they were made of.
 use Rattle.std.proofs.Common.{◌∙◌, ap}
+use Rattle.kube_meta.specs.declared.resources.Resource.TheVariants.{Pods, ConfigMaps, Deployments}
 use Rattle.net_front.specs.declared.shared.Desk.{Desk}
 use Rattle.net_front.proofs.VisitLemmas.{each_at}
 use Rattle.net_front.proofs.visitor.Visitor.serve_each.Goals as goal
@@ -25,12 +26,16 @@ returns-clause-session g c =
           c.of.result.client c.args.clients.pods
           c.of-2.result.client c.args.clients.config_maps
           c.of-3.result.client c.args.clients.deployments
+          c.of.result.own c.of-2.result.own c.of-3.result.own Pods ConfigMaps Deployments
           c.of.result.desk.now.followed c.of-2.result.desk.now.followed c.of-3.result.desk.now.followed c.args.desk.now.followed
           (c.of.ensures.client ∙ c.new.ensures.client)
+          c.of.ensures.alone
           (ap (λ (d : Desk). d.followed) (c.of.ensures.desk ∙ c.new.ensures.desk))
           (c.of-2.ensures.client ∙ c.new-2.ensures.client)
+          c.of-2.ensures.alone
           (ap (λ (d : Desk). d.followed) (c.of-2.ensures.desk ∙ c.new-2.ensures.desk))
           (c.of-3.ensures.client ∙ c.new-3.ensures.client)
+          c.of-3.ensures.alone
           (ap (λ (d : Desk). d.followed) (c.of-3.ensures.desk ∙ c.new-3.ensures.desk))
           _ _ _ _ _ e.6;
     }
