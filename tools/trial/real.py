@@ -1,6 +1,7 @@
-"""A real cluster beside which a replica is tried: etcd, kube-apiserver and `kubectl proxy`, what etcd says was written, and the
-replica."""
+"""A real cluster beside which a replica is tried: etcd, kube-apiserver and `kubectl proxy`, what etcd says was written, the replica,
+and a port between them that cuts connections."""
 import base64
+import contextlib
 import json
 import os
 import re
@@ -202,15 +203,15 @@ class Log:
         return lines
 
 
-class Replica:
-    """The program as a replica of what is at a port, and what it says."""
+class Server:
+    """The program as a server, and what it says."""
 
-    def __init__(self, program, cluster, resources, *words):
+    def __init__(self, program, *words):
         self.port, self.said = free_port(), []
-        self.running = subprocess.Popen([program, "serve", "--port", str(self.port), "--cluster", str(cluster), "--resources", ",".join(resources), *words],
-                                        stderr=subprocess.PIPE, text=True, env={**os.environ, "MALLOC_MMAP_THRESHOLD_": "131072"})
+        self.running = subprocess.Popen([program, "serve", "--port", str(self.port), *words], stderr=subprocess.PIPE, text=True,
+                                        env={**os.environ, "MALLOC_MMAP_THRESHOLD_": "131072"})
         threading.Thread(target=lambda: [self.said.append(line.strip()) for line in self.running.stderr], daemon=True).start()
-        until("a replica that is ready", lambda: self.running.poll() is None and self.is_ready())
+        until("a server that is ready", lambda: self.running.poll() is None and self.is_ready())
 
     def is_ready(self):
         try:
@@ -218,14 +219,73 @@ class Replica:
         except (OSError, HTTPException):
             return False
 
-    def ask(self, path):
+    def ask(self, path, method="GET", body=None):
         connection = HTTPConnection("127.0.0.1", self.port, timeout=WAIT)
-        connection.request("GET", path)
+        connection.request(method, path, json.dumps(body) if body is not None else None)
         reply = connection.getresponse()
         text = reply.read()
         connection.close()
         return reply.status, json.loads(text) if text[:1] == b"{" else text
 
+    def fill(self, objects):
+        """Creates these objects."""
+        connection = HTTPConnection("127.0.0.1", self.port, timeout=WAIT)
+        for it in objects:
+            metadata = {name: value for name, value in it["metadata"].items() if name != "resourceVersion"}
+            path = path_of(KINDS[it["kind"]], metadata["namespace"])
+            connection.request("POST", path, json.dumps({**it, "metadata": metadata}, ensure_ascii=False).encode())
+            reply = connection.getresponse()
+            assert reply.status == 201, reply.read()
+            reply.read()
+
     def resident(self):
         with open(f"/proc/{self.running.pid}/status", encoding="ascii") as it:
             return int(re.search(r"VmRSS:\s*(\d+)", it.read())[1]) * 1024
+
+
+class Replica(Server):
+    """The program as a replica of what is at a port."""
+
+    def __init__(self, program, cluster, resources, *words):
+        super().__init__(program, "--cluster", str(cluster), "--resources", ",".join(resources), *words)
+
+    def figure(self, name, of):
+        """What a monitor is told of how it follows a resource."""
+        return int(re.search(rf'^watchcache_mirror_{name}{{resource="{of}"}} (\d+)', self.ask("/metrics")[1].decode(), re.M)[1])
+
+
+class Cutter:
+    """A port that hands on to another what comes, both ways. While it cuts, each connection ends behind as many bytes of what comes
+    back as are drawn, wherever in a line or a list that is."""
+
+    def __init__(self, to, draw):
+        self.listening = socket.create_server(("127.0.0.1", 0))
+        self.port, self.to, self.draw, self.cuts, self.is_cutting = self.listening.getsockname()[1], to, draw, 0, False
+        threading.Thread(target=self.accept, daemon=True).start()
+
+    def accept(self):
+        while True:
+            here = self.listening.accept()[0]
+            try:
+                there = socket.create_connection(("127.0.0.1", self.to))
+            except OSError:
+                here.close()
+                continue
+            for pair in [(here, there, False), (there, here, True)]:
+                threading.Thread(target=self.hand_on, args=pair, daemon=True).start()
+
+    def hand_on(self, one, other, is_back):
+        room = None
+        try:
+            while room != 0 and (data := one.recv(65536)):
+                if is_back and self.is_cutting:
+                    room = int(10 ** self.draw.uniform(0, 6)) if room is None else room
+                    data = data[:room]
+                    room -= len(data)
+                other.sendall(data)
+        except OSError:
+            pass
+        self.cuts += room == 0
+        for it in [one, other]:
+            with contextlib.suppress(OSError):
+                it.shutdown(socket.SHUT_RDWR)
