@@ -14,6 +14,9 @@ const LOOK_MS: u64 = 100;
 
 /// The system's clock, at a connection. Once the peer has left it asks to stop, so that a quiet watch ends, which would
 /// else go on until its time is up. Its rests end as its bell is rung, or its peer leaves.
+///
+/// A burst wakes many watches at once, and each would be due before whoever asks for something meanwhile. Each turn of
+/// a watch begins with a reading, so a reading gives way first to the threads that wait for a processor.
 #[derive(Drop)]
 pub struct PeerClock<R> {
     clock: SystemClock<R>,
@@ -53,6 +56,7 @@ impl<R: std::time::Clock> Clock for PeerClock<R> {
     ghost readings = { λ _. None };
 
     fn now(&mut self) -> Reading {
+        libc::sched_yield();
         let ms = self.clock.now().ms;
         if ms.saturating_sub(self.looked) >= LOOK_MS {
             self.looked = ms;
