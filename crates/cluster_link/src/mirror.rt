@@ -79,6 +79,11 @@ impl<N: LogFacts, R: Wait + Copy> Model for ClusterMirror<N, R> {
 }
 
 impl<N: LogFacts, R: Wait + Copy> ClusterMirror<N, R> {
+    /// Lets the mirror go, and with it the door to its log.
+    pub fn close(self) {
+        drop(self);
+    }
+
     /// A mirror that begins with a list: its log is empty at revision 1, and is taken to the list. Its store keeps
     /// `history` revisions at least. No stream was asked for yet: that is for [`ClusterMirror::resume`].
     pub fn new(

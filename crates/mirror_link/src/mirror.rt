@@ -84,6 +84,11 @@ impl<N: LogFacts, R: Wait + Copy> Model for Mirror<N, R> {
 }
 
 impl<N: LogFacts, R: Wait + Copy> Mirror<N, R> {
+    /// Lets the mirror go, and with it the door to its log.
+    pub fn close(self) {
+        drop(self);
+    }
+
     /// A mirror that begins with an opening. Its store keeps `history` revisions at least.
     pub fn new(
         rt: R,
