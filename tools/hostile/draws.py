@@ -13,7 +13,7 @@ MIB = 1_048_576
 
 
 def plain(text):
-    """What a row's text stands for, as crates/case_rows reads it."""
+    """What a row's text stands for, as crates/cases reads it."""
     def piece(found):
         count, of, what = found[1].partition(" of ")
         return WORDS.get(found[1]) or (WORDS.get(what, what) * int(count) if of and count.isdigit() else found[0])
@@ -28,9 +28,9 @@ def request(method, target, body="", *fields):
 
 
 def stored_sessions():
-    """The sessions of crates/session_cases: the words of the command line, and the bytes."""
+    """The sessions of crates/cases: the words of the command line, and the bytes."""
     found = []
-    for path in sorted(glob.glob(f"{ROOT}/crates/session_cases/data/*.txt")):
+    for path in sorted(glob.glob(f"{ROOT}/crates/cases/data/sessions/*.txt")):
         for case in re.split(r"(?m)^case .*\n", open(path, encoding="utf-8").read())[1:]:
             words, data, fields = [], b"", []
             for line in case.split("\n"):

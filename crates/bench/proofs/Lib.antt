@@ -1,2 +1,0 @@
-pub mod SceneLemmas
-pub mod QuietLemmas

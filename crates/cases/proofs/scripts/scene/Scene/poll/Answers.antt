@@ -1,0 +1,5 @@
+use Rattle.cases.proofs.SceneLemmas.{learns_on}
+use Rattle.cases.proofs.scripts.scene.Scene.poll.Goals as goal
+
+pub invariant_of-self : goal.invariant_of-self
+invariant_of-self g c = learns_on g.N.LogFacts.base c.self.inside.hub c.self.inside.told c.poll.new.told c.self.inside.reflector c.poll.ensures.learns c.self.invariant

@@ -1,0 +1,4 @@
+pub mod Rows
+pub mod Wordings
+pub mod Words
+pub mod Scenes

@@ -1,9 +1,0 @@
-use Rattle.std.proofs.Common.{true}
-use Rattle.part_cases.proofs.mirrors.links.begin.Given as goal
-
--- the log of the opening is a mirror's, and begins with its rows
-abbrev pub ghosts-follow-N-LogName : goal.ghosts-follow-N-LogName
-ghosts-follow-N-LogName g a = record { log = a.made }
-
-abbrev pub ghosts-follow-N-LogFacts : goal.ghosts-follow-N-LogFacts
-ghosts-follow-N-LogFacts g a = record { base = a.opening.rows; mirror = true; window = 1 }

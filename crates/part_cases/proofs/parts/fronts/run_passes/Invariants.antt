@@ -1,5 +1,0 @@
-use Rattle.part_cases.proofs.parts.fronts.run_passes.Given as goal
-
--- the log that was just made
-abbrev pub ghosts-run_log : goal.ghosts-run_log
-ghosts-run_log a = record { log = a.made }
