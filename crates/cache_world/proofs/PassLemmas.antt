@@ -21,8 +21,6 @@ store_knows world seat whole =
     let reached = whole.reached in
     record {
       lawful = record {
-        looks_is = refl;
-        last_is = refl;
         rising = IsNonDecreasingBy-short (λ (n : ℕ). n) [] (omega arith);
         told = All-nil (λ (n : ℕ). n ≤ revision (whole_of world));
         within = omega arith;
@@ -43,8 +41,6 @@ look_knows world pass whole is =
     let most = whole.bounded in
     record {
       lawful = record {
-        looks_is = let was = is.lawful.looks_is in omega (arith, length-append pass.loads (end_of world.log ∷ []));
-        last_is = sym (last_push 0 (end_of world.log) pass.loads);
         rising = rising_push pass.loads pass.shown (end_of world.log) shown is.lawful.told is.lawful.rising;
         told = told_push pass.loads pass.shown (end_of world.log) shown is.lawful.told;
         within = omega arith;
@@ -61,7 +57,7 @@ load_knows world OfGeneration pass whole is =
     let bounded = is.lawful.bounded in
     let most = whole.bounded in
     record {
-      lawful = record { looks_is = is.lawful.looks_is; last_is = is.lawful.last_is; rising = is.lawful.rising; told = is.lawful.told; within = is.lawful.within; from = is.lawful.from; bounded = (bounded.0, bounded.1, most.1); fitting = is.lawful.fitting };
+      lawful = record { rising = is.lawful.rising; told = is.lawful.told; within = is.lawful.within; from = is.lawful.from; bounded = (bounded.0, bounded.1, most.1); fitting = is.lawful.fitting };
       covered = record { first_is = is.covered.first_is; seen = is.covered.seen; shown = is.covered.shown; floor = is.covered.floor; gen = omega arith };
     }
 load_knows world OfFloor pass whole is =
@@ -71,7 +67,7 @@ load_knows world OfFloor pass whole is =
     let first = is.covered.first_is in
     let from = whole.from in
     record {
-      lawful = record { looks_is = is.lawful.looks_is; last_is = is.lawful.last_is; rising = is.lawful.rising; told = is.lawful.told; within = is.lawful.within; from = omega arith; bounded = (bounded.0, omega arith, bounded.2); fitting = is.lawful.fitting };
+      lawful = record { rising = is.lawful.rising; told = is.lawful.told; within = is.lawful.within; from = omega arith; bounded = (bounded.0, omega arith, bounded.2); fitting = is.lawful.fitting };
       covered = record { first_is = is.covered.first_is; seen = is.covered.seen; shown = is.covered.shown; floor = omega arith; gen = is.covered.gen };
     }
 
@@ -101,8 +97,6 @@ module _ (world : World) (pass : Pass RevisionData) (seen : List RevisionData) (
       let e = is.covered.gen in
       record {
         lawful = record {
-          looks_is = is.lawful.looks_is;
-          last_is = is.lawful.last_is;
           rising = is.lawful.rising;
           told = told_more pass.loads pass.shown (max pass.shown shown) (omega arith) is.lawful.told;
           within = longer_is (λ (l : List RevisionData). end_from pass.first l ≤ max pass.shown shown) pass.seen seen (λ _. omega arith) (λ _. omega arith);

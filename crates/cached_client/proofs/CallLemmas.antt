@@ -42,7 +42,7 @@ loads_around p m n q before is after = record {
 
 -- a pass that stays as it is
 pub learns_self : (p : Pass RevisionData) → Learns p p
-learns_self p = record { extends = extends_self p; loads_stay = refl; last_stays = refl }
+learns_self p = record { extends = extends_self p; loads_stay = refl }
 
 pub loads_on : (p n q : Pass RevisionData) → LoadsBetween p n → Learns n q → LoadsBetween p q
 loads_on p n q is after = loads_around p p n q (learns_self p) is after

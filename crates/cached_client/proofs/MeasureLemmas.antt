@@ -3,7 +3,7 @@ use Rattle.std.proofs.Common.{◌≡◌, ℕ, ◌≤◌, List, Some, None, ap, l
 use Rattle.kube_meta.specs.Rows.{RowData}
 use Rattle.kube_meta.specs.declared.resources.Resource.{Resource}
 use Rattle.kube_meta.specs.declared.resources.Resource.TheVariants.{Pods, ConfigMaps, Deployments}
-use Rattle.rev_front.specs.Passes.{Pass, Extends, end_from}
+use Rattle.rev_front.specs.Passes.{Pass, Extends, end_from, last_of}
 use Rattle.rev_front.proofs.Beginnings.{prefix_length}
 use Rattle.rev_front.proofs.Passing.{extends_trans}
 use Rattle.rev_log.specs.Changes.{RevisionData}
@@ -28,7 +28,7 @@ metered_on base resource p q cache later is = record {
 
 -- those of the caches, one after the other, and then a load
 pub metrics_are : (base : List RowData) (p one two three q : Pass RevisionData) (revision floor generation : ℕ) (pods config_maps deployments : CacheMetrics) → Learns p one → Learns one two → Learns two three → Extends three q →
-    HasLoaded three q → q.last ≤ end_from q.first q.seen → revision ≡ end_from q.first q.seen → floor ≡ q.floor → generation ≡ q.gen → IsCacheMetrics base Pods one pods → IsCacheMetrics base ConfigMaps two config_maps → IsCacheMetrics base Deployments three deployments →
+    HasLoaded three q → last_of q ≤ end_from q.first q.seen → revision ≡ end_from q.first q.seen → floor ≡ q.floor → generation ≡ q.gen → IsCacheMetrics base Pods one pods → IsCacheMetrics base ConfigMaps two config_maps → IsCacheMetrics base Deployments three deployments →
     AreMetrics base p (record {
       revision = revision;
       floor = floor;

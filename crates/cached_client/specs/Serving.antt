@@ -2,7 +2,7 @@
 use Rattle.std.specs.Prelude.{◌≡◌, ℕ, ◌<◌, ◌≤◌, Bool, true, false, nat_lt, List, IfSome}
 use Rattle.kube_meta.specs.Rows.{RowData}
 use Rattle.kube_meta.specs.declared.resources.Resource.{Resource}
-use Rattle.rev_front.specs.Passes.{Pass, end_from}
+use Rattle.rev_front.specs.Passes.{Pass, end_from, last_of}
 use Rattle.rev_log.specs.Changes.{RevisionData}
 use Rattle.rev_log.specs.States.{IsStateAt}
 use Rattle.up_api.specs.Sections.{log_of}
@@ -28,7 +28,7 @@ needs_load (Exact asked) shown = nat_lt shown asked
 
 -- where a revision has to be current, it was loaded in between, and what the load gave was shown
 abbrev pub IsLoadedFor : Meaning → Pass RevisionData → Pass RevisionData → Type 0
-IsLoadedFor MostRecent p q = HasLoaded p q × (q.last ≤ q.shown)
+IsLoadedFor MostRecent p q = HasLoaded p q × (last_of q ≤ q.shown)
 IsLoadedFor meaning p q = Unit {0}
 
 -- a read of this meaning may be served

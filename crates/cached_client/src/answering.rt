@@ -1,7 +1,7 @@
 //! What a client answers from caches, however they are held.
 
 ghost use Rattle.std.specs.Prelude.{◌≡◌, ◌≤◌, ℕ, IfOk, IfErr, IfSome, None};
-ghost use Rattle.rev_front.specs.Passes.{end_from};
+ghost use Rattle.rev_front.specs.Passes.{end_from, last_of};
 ghost use Rattle.rev_log.specs.States.{IsStateAt};
 ghost use Rattle.up_api.specs.Sections.{Learns, log_of};
 ghost use Rattle.client_api.specs.Caches.{UnlessExact};
@@ -135,7 +135,7 @@ pub(crate) fn load<N: LogFacts, C: Caches<N>>(caches: &mut C, told: &mut Pass<N>
     ensures loads { LoadsBetween told.old told.new }
     ensures knows { KnowsOwn (C.facts caches.new) told.new }
     ensures loaded { HasLoaded told.old told.new }
-    ensures last { told.new.last ≡ result }
+    ensures last { last_of told.new ≡ result }
     ensures shown { result ≤ told.new.shown }
 {
     let loaded = told.look();

@@ -1,7 +1,7 @@
 //! How clients ask caches, however they are held.
 
 ghost use Rattle.std.specs.Prelude.{◌≡◌, ◌≤◌, ℕ, IfOk, IfErr, IfSome, IfNone, OnOk, OnSome};
-ghost use Rattle.rev_front.specs.Passes.{Extends, Pass as PassData, end_from};
+ghost use Rattle.rev_front.specs.Passes.{Extends, Pass as PassData, end_from, last_of};
 ghost use Rattle.rev_log.specs.Changes.{RevisionData};
 ghost use Rattle.select_all.specs.declared.selection.Meaning.TheVariants.{Any, Exact};
 ghost use Rattle.up_api.specs.Sections.{Learns};
@@ -138,7 +138,7 @@ pub trait Watches<N: LogFacts>: Caches<N> {
         ms: u64,
     ) -> Result<Took, Memory>
         requires max { 1 ≤ max }
-        requires loaded { told.old.last ≤ told.old.shown }
+        requires loaded { last_of told.old ≤ told.old.shown }
         ensures facts { Self.facts self.new ≡ Self.facts self.old }
         ensures learns { Learns told.old told.new }
         ensures turn { IfOk result (λ took. IsLoadedTurn N.base (Self.facts self.old).window told.old (record { selection = selection.now; position = position }) took told.new) }

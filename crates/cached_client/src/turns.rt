@@ -1,7 +1,7 @@
 //! What a cache answers a watch, as what a turn gives; and how far the log is seen.
 
 ghost use Rattle.std.specs.Prelude.{◌≡◌, ◌≤◌, ◌<◌, ℕ, length, IfOk, IfErr, OnOk};
-ghost use Rattle.rev_front.specs.Passes.{Pass as PassData, end_from};
+ghost use Rattle.rev_front.specs.Passes.{Pass as PassData, end_from, last_of};
 ghost use Rattle.rev_log.specs.Changes.{RevisionData};
 ghost use Rattle.select_all.specs.declared.selection.Selection.{Selection as SelectionData};
 ghost use Rattle.up_api.specs.Sections.{Learns};
@@ -20,7 +20,7 @@ pub fn turn_of<N: LogFacts>(
     position: u64,
     answer: Result<Caught, CatchNo>,
 ) -> Result<Took, Memory>
-    ensures turn { (s : SelectionData) (r : PassData RevisionData) (window : ℕ) → r.last ≤ r.shown → Learns r told.now →
+    ensures turn { (s : SelectionData) (r : PassData RevisionData) (window : ℕ) → last_of r ≤ r.shown → Learns r told.now →
         IfOk answer (IsTold N.base s position r.shown told.now) → IfErr answer (IsLostAt N.base window s position told.now) →
         IfOk result (λ took. IsLoadedTurn N.base window r (record { selection = s; position = position }) took told.now) }
     ensures within { (end : ℕ) → IfOk answer (λ caught. 0 < length caught.lines → caught.upto ≤ end) → IfOk result (λ took. TakesWithin took end) }
@@ -34,7 +34,7 @@ pub fn turn_of<N: LogFacts>(
 
 /// What the cache tells a watch at a position, as what a turn gives.
 pub fn heard<N: LogFacts>(told: &Pass<N>, position: u64, caught: Caught) -> Took
-    ensures turn { (s : SelectionData) (r : PassData RevisionData) (window : ℕ) → r.last ≤ r.shown → Learns r told.now → IsTold N.base s position r.shown told.now caught →
+    ensures turn { (s : SelectionData) (r : PassData RevisionData) (window : ℕ) → last_of r ≤ r.shown → Learns r told.now → IsTold N.base s position r.shown told.now caught →
         IsLoadedTurn N.base window r (record { selection = s; position = position }) result told.now }
     ensures within { (end : ℕ) → (0 < length caught.lines → caught.upto ≤ end) → TakesWithin result end }
 {

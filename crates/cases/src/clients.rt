@@ -15,7 +15,7 @@ use crate::clients::play::Stage;
 use crate::rows::{Lines, Tally};
 use crate::settings::settings_of;
 use kube_meta::Memory;
-use rev_front::{Blank, blank};
+use rev_front::{Author, Blank, blank};
 use rev_log::Revision;
 use shared_client::Cacher;
 use std::alloc::Global;
@@ -55,9 +55,9 @@ fn run_script<N: LogFacts + Send + Sync, R: Host>(
     requires window { N.window ≡ settings.now.window }
     requires settings { AreInRange settings.now }
 {
-    let store: Store<N> = Store::new(alloc, made, settings.history)?;
+    let (store, author): (Store<N>, Author<N>) = Store::new(alloc, made, settings.history)?;
     let door = StoreDoor::new(rt, store)?;
-    let ran = run_rows_on(rt, alloc, &door, settings, rows, tally);
+    let ran = run_rows_on(rt, alloc, &door, author, settings, rows, tally);
     drop(door);
     ran
 }
@@ -67,6 +67,7 @@ fn run_rows_on<N: LogFacts + Send + Sync, R: Host>(
     rt: R,
     alloc: Global,
     door: &StoreDoor<N, R>,
+    author: Author<N>,
     settings: &Settings,
     rows: Lines<'_>,
     tally: &mut Tally,
@@ -74,7 +75,7 @@ fn run_rows_on<N: LogFacts + Send + Sync, R: Host>(
     requires window { N.window ≡ settings.now.window }
     requires settings { AreInRange settings.now }
 {
-    let cacher = Cacher::new(rt, alloc, door.again()?, settings)?;
+    let cacher = Cacher::new(rt, alloc, door.again()?, author, settings)?;
     let played = play_rows(rt, alloc, &cacher, door, rows, tally);
     cacher.close();
     played

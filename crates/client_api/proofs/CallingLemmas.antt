@@ -2,7 +2,7 @@
 use Rattle.std.proofs.Common.{◌≡◌, ℕ, ◌+◌, ◌≤◌, Bool, List, [], ◌∷◌, ◌++◌, Option, Some, refl, ap, sym, ◌∙◌, subst, length-append, arith}
 use Rattle.std.specs.Prelude.{Result, Ok, Err, IfOk}
 use Rattle.kube_meta.specs.Rows.{RowData}
-use Rattle.rev_front.specs.Passes.{Pass, IsPass, Whole, end_from}
+use Rattle.rev_front.specs.Passes.{Pass, IsPass, Whole, end_from, last_of}
 use Rattle.rev_log.specs.Changes.{RevisionData}
 use Rattle.rev_log.specs.Logs.{Fits, end_of}
 use Rattle.up_api.specs.Sections.{log_of}
@@ -32,7 +32,7 @@ pub newest-at-end : (base : List RowData) (p q : Pass RevisionData) (ask : ListA
     IsListAnswer base p ask answer q → SoleRead p answer q → IfOk answer (λ listed. listed.rev ≡ end_from q.first q.seen)
 newest-at-end base p q ask (Ok listed) lawful onward meant is sole =
     let meets : Meets p MostRecent listed.rev q = subst (λ m. Meets p m listed.rev q) meant is.fresh.meets in
-    let last : q.last ≡ end_from q.first q.seen = loads_do_end p q (onward.lawful lawful) meets.0 sole.loads in
+    let last : last_of q ≡ end_from q.first q.seen = loads_do_end p q meets.0 sole.loads in
     omega (arith, last, meets.1, is.fresh.seen)
 newest-at-end base p q ask (Err fault) lawful onward meant is sole = tt
 

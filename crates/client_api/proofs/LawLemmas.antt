@@ -3,9 +3,10 @@ use Rattle.std.proofs.Common.{◌≡◌, inl, inr, ℕ, suc, ◌+◌, ◌<◌, �
 use Rattle.std.specs.Prelude.{All}
 use Rattle.std.proofs.lemmas.Bool.{cases_lt}
 use Rattle.kube_meta.specs.Rows.{RowData, behind}
-use Rattle.rev_front.specs.Passes.{Pass, Extends, end_from, last_or}
+use Rattle.rev_front.specs.Passes.{Pass, Extends, end_from, last_or, last_of}
 use Rattle.rev_log.specs.Changes.{RevisionData}
 use Rattle.rev_log.specs.Logs.{Log}
+use Rattle.rev_front.proofs.Beginnings.{last_push}
 use Rattle.rev_front.proofs.Passing.{extends_self, extends_trans}
 use Rattle.up_api.specs.Sections.{log_of}
 use Rattle.select_all.specs.declared.selection.Meaning.{Meaning}
@@ -42,11 +43,11 @@ onwards_do_join = (
 
 pub looks_do_load : LooksLoad
 looks_do_load p m q n is later learns =
-    let last : q.last ≡ n = learns.last_stays ∙ ap (λ (x : Pass RevisionData). x.last) is in
+    let last : last_of q ≡ n = ap (last_or 0) (learns.loads_stay ∙ ap (λ (x : Pass RevisionData). x.loads) is) ∙ last_push 0 n p.loads in
     let grew : length q.loads ≡ length p.loads + 1 = ap length (learns.loads_stay ∙ ap (λ (x : Pass RevisionData). x.loads) is) ∙ length-append p.loads (n ∷ []) in
     ((omega (arith, grew), omega (arith, last, later)), last)
 
-fresh-for : (p m q : Pass RevisionData) (n at : ℕ) (meaning : Meaning) → HasLoaded p q × (q.last ≡ n) → p.shown ≤ n → n ≤ at → IsAtLeast meaning at → Meets p meaning at q
+fresh-for : (p m q : Pass RevisionData) (n at : ℕ) (meaning : Meaning) → HasLoaded p q × (last_of q ≡ n) → p.shown ≤ n → n ≤ at → IsAtLeast meaning at → Meets p meaning at q
 fresh-for p m q n at MostRecent loaded later within least = (loaded.0, omega (arith, loaded.1, within))
 fresh-for p m q n at Any loaded later within least = omega (arith, later, within)
 fresh-for p m q n at (NotOlder asked) loaded later within least = (least, omega (arith, later, within))
@@ -160,8 +161,8 @@ last-same e n (x ∷ []) some all = all 0 n (omega arith)
 last-same e n (x ∷ y ∷ ys) some all = last-same e x (y ∷ ys) (omega arith) (λ k d in_range. all (suc k) d (omega arith))
 
 pub loads_do_end : LoadsAreEnds
-loads_do_end p q lawful loaded loads =
+loads_do_end p q loaded loads =
     let grew : length q.loads ≡ length p.loads + length loads.more = ap length loads.loads ∙ length-append p.loads loads.more in
     let some : 0 < length loads.more = omega (arith, grew, loaded.0) in
-    lawful.last_is ∙ ap (last_or 0) loads.loads ∙ last-append 0 p.loads loads.more
+    ap (last_or 0) loads.loads ∙ last-append 0 p.loads loads.more
     ∙ last-same (end_from q.first q.seen) (last_or 0 p.loads) loads.more some loads.ends

@@ -1,7 +1,7 @@
 -- Laws of what clients answer.
 use Rattle.std.specs.Prelude.{◌≡◌, ℕ, ◌≤◌, List, [], ◌∷◌, ◌++◌, map, Option, option_map}
 use Rattle.kube_meta.specs.Rows.{RowData, behind}
-use Rattle.rev_front.specs.Passes.{Pass, IsPass, Extends, end_from, looked}
+use Rattle.rev_front.specs.Passes.{Pass, IsPass, Extends, end_from, looked, last_of}
 use Rattle.rev_log.specs.Changes.{RevisionData}
 use Rattle.rev_log.specs.Logs.{Fits}
 use Rattle.up_api.specs.Sections.{log_of, Learns}
@@ -32,7 +32,7 @@ OnwardsJoin =
 
 -- a load of this call was made, and its last one gave this
 abbrev pub LooksLoad : Type 0
-LooksLoad = (p m q : Pass RevisionData) (n : ℕ) → m ≡ looked p n → p.shown ≤ n → Learns m q → HasLoaded p q × (q.last ≡ n)
+LooksLoad = (p m q : Pass RevisionData) (n : ℕ) → m ≡ looked p n → p.shown ≤ n → Learns m q → HasLoaded p q × (last_of q ≡ n)
 
 -- what is seen and isn't older than a load of this call is fresh for each meaning that isn't of one revision alone
 abbrev pub LoadsAreFresh : Type 0
@@ -104,4 +104,4 @@ TurnsTell =
 -- what a call's last load gave is the end of the log
 abbrev pub LoadsAreEnds : Type 0
 LoadsAreEnds =
-    (p q : Pass RevisionData) → IsPass Fits q → HasLoaded p q → LoadsEnd p q → q.last ≡ end_from q.first q.seen
+    (p q : Pass RevisionData) → HasLoaded p q → LoadsEnd p q → last_of q ≡ end_from q.first q.seen

@@ -4,7 +4,7 @@ use Rattle.std.specs.declared.alloc.AllocError.{AllocError}
 use Rattle.kube_meta.specs.Rows.{RowData}
 use Rattle.kube_meta.specs.declared.resources.Resource.{Resource}
 use Rattle.kube_meta.specs.declared.resources.Resource.TheVariants.{Pods, ConfigMaps, Deployments}
-use Rattle.rev_front.specs.Passes.{Pass, end_from}
+use Rattle.rev_front.specs.Passes.{Pass, end_from, last_of}
 use Rattle.rev_log.specs.Changes.{RevisionData}
 use Rattle.rev_log.specs.States.{IsStateAt}
 use Rattle.up_api.specs.Sections.{log_of}
@@ -24,7 +24,7 @@ pub record IsCacheMetrics (base : List RowData) (resource : Resource) (q : Pass 
 -- its floor and its generation; and of each cache what holds of a cache.
 pub record AreMetrics (base : List RowData) (p : Pass RevisionData) (told : Metrics) (q : Pass RevisionData) : Type 0 where
   pub loaded : HasLoaded p q
-  pub fresh : q.last ≤ told.revision
+  pub fresh : last_of q ≤ told.revision
   pub revision : told.revision ≡ end_from q.first q.seen
   pub floor : told.floor ≡ q.floor
   pub generation : told.generation ≡ q.gen

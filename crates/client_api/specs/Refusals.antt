@@ -1,6 +1,6 @@
 -- Why a read at a revision is refused.
 use Rattle.std.specs.Prelude.{◌≡◌, ℕ, ◌<◌, ◌≤◌, nat_lt, Option, Some, None, option_and_then, if◌then◌else◌}
-use Rattle.rev_front.specs.Passes.{Pass}
+use Rattle.rev_front.specs.Passes.{Pass, last_of}
 use Rattle.rev_log.specs.Changes.{RevisionData}
 use Rattle.select_all.specs.declared.selection.Meaning.{Meaning}
 use Rattle.select_all.specs.declared.selection.Meaning.TheVariants.{MostRecent, Any, NotOlder, Exact}
@@ -19,7 +19,7 @@ revision_named (Exact asked) = Some asked
 pub record IsTooLarge (p : Pass RevisionData) (meaning : Meaning) (asked current : ℕ) (q : Pass RevisionData) : Type 0 where
   pub named : revision_named meaning ≡ Some asked
   pub loaded : HasLoaded p q
-  pub current_is : current ≡ q.last
+  pub current_is : current ≡ last_of q
   pub above : current < asked
 
 -- the refusal of a meaning that names a revision above this one

@@ -3,7 +3,7 @@
 use Rattle.std.specs.Prelude.{◌≡◌, ℕ, ◌<◌, ◌≤◌, ◌⊎◌, Bool, nat_le, List, [], length, Option, Some, None, option_and_then, Result, Ok, Err}
 use Rattle.std.specs.declared.alloc.AllocError.{AllocError}
 use Rattle.kube_meta.specs.Rows.{RowData}
-use Rattle.rev_front.specs.Passes.{Pass, end_from}
+use Rattle.rev_front.specs.Passes.{Pass, end_from, last_of}
 use Rattle.rev_log.specs.Changes.{RevisionData}
 use Rattle.up_api.specs.Sections.{log_of}
 use Rattle.select_all.specs.Floors.{IsEvicted}
@@ -23,8 +23,8 @@ pub record GivesEvents (base : List RowData) (watched : Watched) (from upto : �
 -- that. The position stays, or goes on to a revision that is seen; up to there is nothing to tell.
 pub record IsQuiet (base : List RowData) (p : Pass RevisionData) (watched : Watched) (upto : ℕ) (reached : Bool) (q : Pass RevisionData) : Type 0 where
   pub loaded : HasLoaded p q
-  pub followed : q.last ≤ end_from q.first q.seen
-  pub current : q.last ≤ upto
+  pub followed : last_of q ≤ end_from q.first q.seen
+  pub current : last_of q ≤ upto
   pub onward : watched.position ≤ upto
   pub seen : (upto ≡ watched.position) ⊎ (upto ≤ end_from q.first q.seen)
   pub nothing : transitions (log_of base q) watched.selection watched.position upto ≡ []

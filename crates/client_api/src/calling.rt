@@ -1,7 +1,7 @@
 //! That the contract is one that callers can use. Nothing calls this: it is here to be proved.
 
 ghost use Rattle.std.specs.Prelude.{◌≡◌, ◌≤◌, ℕ, List, Some, None, IfOk, IfErr, OnOk, IfSome};
-ghost use Rattle.rev_front.specs.Passes.{IsPass, end_from};
+ghost use Rattle.rev_front.specs.Passes.{IsPass, end_from, last_of};
 ghost use Rattle.rev_log.specs.Logs.{Fits};
 ghost use Rattle.up_api.specs.Sections.{log_of};
 ghost use Rattle.select_all.specs.declared.selection.Meaning.TheVariants.{MostRecent};
@@ -26,7 +26,7 @@ pub(crate) fn newest<C: Client>(client: &mut C, ask: &ListAsk) -> Result<Listed,
     requires lawful { IsPass Fits (C.pass client.old) }
     ensures onward { IsOnward (C.pass client.old) (C.pass client.new) }
     ensures loaded { OnOk result (HasLoaded (C.pass client.old) (C.pass client.new)) }
-    ensures current { IfOk result (λ listed. (C.pass client.new).last ≤ listed.rev) }
+    ensures current { IfOk result (λ listed. last_of (C.pass client.new) ≤ listed.rev) }
     ensures rows { IfOk result (λ listed. IsListing (log_of C.base (C.pass client.new)) ask.now.selection listed.rev listed.rows) }
     ensures no_more { IfOk result (λ listed. listed.more ≡ None) }
     ensures refused { IfErr result (λ no. no ≡ ListNo.Memory) }

@@ -6,6 +6,7 @@ ghost use Rattle.kube_meta.specs.declared.resources.Resource.{Resource};
 ghost use Rattle.rev_front.specs.Passes.{Pass};
 ghost use Rattle.rev_log.specs.Changes.{RevisionData};
 ghost use Rattle.up_store.specs.Replies.{IsWriteReply, IsTransactionReply, IsOperationReply};
+ghost use Rattle.up_store.specs.Stores.{commanded, paid};
 ghost use Rattle.up_store.specs.Transacting.{answers_in};
 ghost use Rattle.client_api.specs.Alone.{SoleRead, SoleTake, SoleWrite, SoleTransact, SoleOperate};
 ghost use Rattle.client_api.specs.Caches.{ListsCache, GetsCache, BeginsCache, TakesCache};
@@ -37,7 +38,7 @@ pub trait Client {
     // what the client knows of the log
     ghost pass: { Self → Pass RevisionData };
 
-    // its watch, and what else no read or write changes
+    // its watch, what of the log is its own doing, and what else no call changes
     ghost facts: { Self → Facts };
 
     // nobody else holds the log, and the pass knows it whole: its end, which is all that was shown, its floor and its
@@ -50,11 +51,12 @@ pub trait Client {
     // the greatest time that the cache of each resource was told, where there is a cache
     ghost times: { Self → Resource → Option ℕ };
 
-    /// Asks for a write. An accepted one adds exactly its change to the log, at a revision of its own.
+    /// Asks for a write. An accepted one adds exactly its change to the log, at a revision of its own, and nothing else
+    /// adds one: not a refused one, nor any of the calls below but `transact`.
     fn write(&mut self, ask: &WriteAsk) -> Result<Written, WriteNo>
         ensures onward { IsOnward (pass self.old) (pass self.new) }
         ensures answer { IsWriteReply base mirror (pass self.old) ask.now result (pass self.new) }
-        ensures facts { facts self.new ≡ facts self.old }
+        ensures facts { facts self.new ≡ record (facts self.old) { did = paid result (facts self.old).did } }
         ensures times { times self.new ≡ times self.old }
         ensures sole { whole self.old → IsSomeAnd (facts self.old).sole_history
             (λ history. SoleWrite base mirror history (pass self.old) ask.now result (pass self.new)) }
@@ -65,7 +67,7 @@ pub trait Client {
     fn transact(&mut self, ask: &Transaction) -> Result<Vec<Written>, TxWriteNo>
         ensures onward { IsOnward (pass self.old) (pass self.new) }
         ensures answer { IsTransactionReply base mirror (pass self.old) ask.now (answers_in result) (pass self.new) }
-        ensures facts { facts self.new ≡ facts self.old }
+        ensures facts { facts self.new ≡ record (facts self.old) { did = paid result (facts self.old).did } }
         ensures times { times self.new ≡ times self.old }
         ensures sole { whole self.old → IsSomeAnd (facts self.old).sole_history
             (λ history. SoleTransact base mirror history (pass self.old) ask.now (answers_in result) (pass self.new)) }
@@ -133,7 +135,7 @@ pub trait Client {
     fn operate(&mut self, ask: Operate) -> Result<u64, OpNo>
         ensures onward { IsOnward (pass self.old) (pass self.new) }
         ensures answer { IsOperationReply (pass self.old) ask result (pass self.new) }
-        ensures facts { facts self.new ≡ facts self.old }
+        ensures facts { facts self.new ≡ record (facts self.old) { did = commanded ask result (facts self.old).did } }
         ensures times { times self.new ≡ times self.old }
         ensures sole { whole self.old → SoleOperate (pass self.old) ask result (pass self.new) }
         ensures kept { whole self.old → IsToldOperation result → whole self.new };

@@ -1,6 +1,7 @@
 //! Mirrors of clusters.
 
 ghost use Rattle.std.specs.Prelude.{◌≡◌, ◌++◌, ◌≤◌, ℕ, List, [], IsNone, IfOk, IfSome, MatchResult, OnOk, true};
+ghost use Rattle.rev_front.specs.Passes.{idle_author};
 ghost use Rattle.edge_io.specs.Sent.{sent_through};
 ghost use Rattle.edge_io.specs.Told.{prepended};
 ghost use Rattle.line_stream.specs.AskAnswers.{Asks};
@@ -27,7 +28,7 @@ use edge_io::{Sink, Source};
 use kube_meta::Memory;
 use line_stream::{AskNo, LineReader, Step, ask_changes};
 use mirror_log::MirrorLog;
-use rev_front::Blank;
+use rev_front::{Author, Blank};
 use rev_log::Revision;
 use std::alloc::Global;
 use std::marker::Model;
@@ -139,6 +140,15 @@ impl<N: LogFacts, R: Wait + Copy> ClusterMirror<N, R> {
     /// Another door to the mirror's store.
     pub fn door(&self) -> Result<StoreDoor<N, R>, Memory> {
         self.log.door()
+    }
+
+    /// So many parts of the right to change the mirror's log, for its clients. None where there are no more.
+    pub fn author(&mut self, parts: u64) -> Option<Author<N>>
+        requires { 1 ≤ parts }
+        ensures author { IfSome result (λ author. author ≡ idle_author parts) }
+        ensures same { self.new ≡ self.old }
+    {
+        self.log.author(parts)
     }
 
     /// The end of the mirror's log, which is the base and the revisions that this mirror has committed.

@@ -110,8 +110,6 @@ counted-once codes others ok refused good bad same is is' =
 new-sound : (seat : ℕ) → IsSound (new_pass seat)
 new-sound seat = record {
   lawful = record {
-    looks_is = refl;
-    last_is = refl;
     rising = IsNonDecreasingBy-short (λ (n : ℕ). n) [] (omega arith);
     told = All-nil _;
     within = omega arith;

@@ -54,13 +54,13 @@ module _ (p q : Pass RevisionData) (sound : IsSound p) (lawful : IsPass Fits q) 
   floor-stays = ap (λ (w : Whole RevisionData). w.floor) sole.same
 
   pub fresh_at : (meaning : Meaning) (at : ℕ) → IsFresh p meaning at q → at ≡ read-at (end_from p.first p.seen) meaning
-  fresh_at MostRecent at is = omega (arith, is.seen, is.meets.1, loads_do_end p q lawful is.meets.0 sole.loads, end-stays)
+  fresh_at MostRecent at is = omega (arith, is.seen, is.meets.1, loads_do_end p q is.meets.0 sole.loads, end-stays)
   fresh_at Any at is = omega (arith, is.seen, is.meets, sound.lawful.within, end-stays)
   fresh_at (NotOlder asked) at is = omega (arith, is.seen, is.meets.1, sound.lawful.within, end-stays)
   fresh_at (Exact asked) at is = is.meets.0
 
   pub current_at : (meaning : Meaning) (asked current : ℕ) → IsTooLarge p meaning asked current q → current ≡ end_from p.first p.seen
-  current_at meaning asked current is = omega (arith, is.current_is, loads_do_end p q lawful is.loaded sole.loads, end-stays)
+  current_at meaning asked current is = omega (arith, is.current_is, loads_do_end p q is.loaded sole.loads, end-stays)
 
   -- a fresh revision is no lower than the one that is named
   pub named_low : (meaning : Meaning) (asked at : ℕ) → revision_named meaning ≡ Some asked → IsFresh p meaning at q → asked ≤ at

@@ -1,6 +1,6 @@
 -- What may stand in the way of a request that has a route.
 use Rattle.std.specs.Prelude.{◌≡◌, ℕ, ◌<◌, ◌^◌, ◌⊎◌, false, List, [], ◌∷◌}
-use Rattle.rev_front.specs.Passes.{Pass}
+use Rattle.rev_front.specs.Passes.{Pass, last_of}
 use Rattle.rev_log.specs.Changes.{RevisionData}
 use Rattle.select_all.specs.declared.selection.Meaning.{Meaning}
 use Rattle.select_all.specs.declared.selection.Meaning.TheVariants.{MostRecent, Any, NotOlder, Exact}
@@ -22,7 +22,7 @@ use Rattle.laws.specs.Writing.{TakesNot}
 
 -- a revision isn't reached: it is above all that was shown before, and above what the last load gave
 abbrev pub IsAhead : Pass RevisionData → ℕ → Pass RevisionData → Type 0
-IsAhead p asked q = (p.shown < asked) × (q.last < asked)
+IsAhead p asked q = (p.shown < asked) × (last_of q < asked)
 
 -- a read can't be at the revision that it names: that isn't reached, or it alone will do and is below the compaction
 -- floor; a read that names none always can

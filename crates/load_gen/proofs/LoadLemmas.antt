@@ -6,7 +6,7 @@ use Rattle.std.specs.declared.alloc.AllocError.{AllocError}
 use Rattle.edge_io.specs.Memory.{SinkState}
 use Rattle.std.proofs.lemmas.List.Elements.{All-head, All-tail, All-push}
 use Rattle.kube_meta.specs.Rows.{RowData, behind}
-use Rattle.rev_front.specs.Passes.{Pass, Whole, end_from}
+use Rattle.rev_front.specs.Passes.{Pass, Whole, end_from, last_of}
 use Rattle.rev_log.specs.Changes.{RevisionData}
 use Rattle.rev_log.specs.Logs.{Log}
 use Rattle.up_api.specs.Sections.{HasSeenAll, log_of}
@@ -159,9 +159,9 @@ pub listed_end : (base : List RowData) (p q : Pass RevisionData) (ask : ListAsk)
     (given.rev ≡ end_from p.first p.seen) × IsListing (log_of [] p) pods_of_load given.rev given.rows
 listed_end base p q ask given base-is seen whole is sole =
     let meets : Meets p MostRecent given.rev q = subst (λ (m : Meaning). Meets p m given.rev q) whole.meaning_is is.fresh.meets in
-    let low : p.shown ≤ q.last = meets.0.1 in
+    let low : p.shown ≤ last_of q = meets.0.1 in
     let high : given.rev ≤ end_from q.first q.seen = is.fresh.seen in
-    let reached : q.last ≤ given.rev = meets.1 in
+    let reached : last_of q ≤ given.rev = meets.1 in
     let end_of : Whole RevisionData → ℕ = λ w. end_from w.first w.log in
     let ends : end_from q.first q.seen ≡ end_from p.first p.seen = ap end_of sole.same in
     let rows : given.rows ≡ is.all =

@@ -2,6 +2,7 @@
 
 ghost use Rattle.std.specs.Prelude.{◌≡◌, ℕ, ◌≤◌, [], false, None, IfOk};
 ghost use Rattle.up_api.specs.Settings.{AreInRange};
+ghost use Rattle.rev_front.specs.Passes.{idle_author, whole_right};
 ghost use Rattle.local_client.specs.CachedLogs.{IsNewLog, known_log};
 
 use crate::making::new_caches;
@@ -11,7 +12,7 @@ use client_api::{Begun, Client, Got, ListNo, Listed, Resources, Took};
 use kube_meta::Memory;
 use list_rules::{GetAsk, ListAsk};
 use metrics::Metrics;
-use rev_front::Blank;
+use rev_front::{Author, Blank};
 use rev_log::Revision;
 use std::alloc::Global;
 use up_api::{LogFacts, Pass, Settings};
@@ -23,6 +24,7 @@ use watch_rules::WatchAsk;
 pub struct LocalClient<N: LogFacts> {
     caches: SoleCaches<N>,
     told: Pass<N>,
+    author: Author<N>,
     watch: Option<Watch<()>>,
     heard: u64,
 }
@@ -40,11 +42,13 @@ impl<N: LogFacts> LocalClient<N> {
         requires settings { AreInRange settings.now }
         ensures log { IfOk result (λ client. IsNewLog N.log.first settings.now (known_log client.caches client.told)) }
         ensures idle { IfOk result (λ client. (client.watch ≡ None) × (client.heard ≡ 0)) }
+        ensures author { IfOk result (λ client. client.author ≡ idle_author whole_right) }
     {
-        let (caches, told) = new_caches(alloc, blank, settings)?;
+        let (caches, told, author) = new_caches(alloc, blank, settings)?;
         Ok(LocalClient {
             caches,
             told,
+            author,
             watch: None,
             heard: 0,
         })
@@ -71,6 +75,7 @@ impl<N: LogFacts> Client for LocalClient<N> {
     ghost facts = { λ c. record {
       watching = c.watch;
       heard = c.heard;
+      did = c.author;
       window = window_in c.caches.caches;
       sole_history = Some c.caches.store.history;
       resources = all_served;
@@ -84,11 +89,11 @@ impl<N: LogFacts> Client for LocalClient<N> {
     ghost times = { λ c. times_of c.caches.caches };
 
     fn write(&mut self, ask: &WriteAsk) -> Result<Written, WriteNo> {
-        self.caches.write(ask, &mut self.told)
+        self.caches.write(ask, &mut self.told, &mut self.author)
     }
 
     fn transact(&mut self, ask: &Transaction) -> Result<Vec<Written>, TxWriteNo> {
-        self.caches.transact(ask, &mut self.told)
+        self.caches.transact(ask, &mut self.told, &mut self.author)
     }
 
     fn get(&mut self, ask: &GetAsk) -> Result<Got, ListNo> {
@@ -124,7 +129,7 @@ impl<N: LogFacts> Client for LocalClient<N> {
     }
 
     fn operate(&mut self, ask: Operate) -> Result<u64, OpNo> {
-        self.caches.operate(ask, &mut self.told)
+        self.caches.operate(ask, &mut self.told, &mut self.author)
     }
 
     fn metrics(&mut self) -> Result<Metrics, Memory> {

@@ -1,25 +1,25 @@
 //! New caches of a new log.
 
 ghost use Rattle.std.specs.Prelude.{◌≡◌, ◌≤◌, ◌⊎◌, [], false, Ok, IfOk, OnOk, OnErr};
-ghost use Rattle.rev_front.specs.Passes.{empty_log, pass_from};
+ghost use Rattle.rev_front.specs.Passes.{empty_log, idle_author, pass_from, whole_right};
 ghost use Rattle.up_api.specs.Settings.{AreInRange};
 ghost use Rattle.local_client.specs.Caches.{window_in};
 
 use crate::sole::SoleCaches;
 use cached_client::{CacheState, OfResource, SeenWindow};
 use kube_meta::Memory;
-use rev_front::Blank;
+use rev_front::{Author, Blank};
 use rev_log::Revision;
 use std::alloc::Global;
 use up_api::{LogFacts, Pass, Settings};
 use up_store::Store;
 
-/// The store of a new log, with its caches, and a pass that knows it whole.
+/// The store of a new log, with its caches, a pass that knows it whole, and the right to change it.
 pub fn new_caches<N: LogFacts>(
     alloc: Global,
     blank: Blank<Revision>,
     settings: &Settings,
-) -> Result<(SoleCaches<N>, Pass<N>), Memory>
+) -> Result<(SoleCaches<N>, Pass<N>, Author<N>), Memory>
     requires name { blank ≡ N.log }
     requires base { N.base ≡ [] }
     requires own { N.mirror ≡ false }
@@ -28,8 +28,9 @@ pub fn new_caches<N: LogFacts>(
     ensures history { IfOk result (λ r. r.0.store.history ≡ settings.now.history) }
     ensures window { IfOk result (λ r. window_in r.0.caches ≡ settings.now.window) }
     ensures pass { IfOk result (λ r. r.1 ≡ pass_from (empty_log N.log.first) r.1.seat) }
+    ensures author { IfOk result (λ r. r.2 ≡ idle_author whole_right) }
 {
-    let mut store = Store::new(alloc, blank, settings.history)?;
+    let (mut store, author) = Store::new(alloc, blank, settings.history)?;
     let pods = cache(alloc, settings, &mut store);
     let config_maps = cache(alloc, settings, &mut store);
     let deployments = cache(alloc, settings, &mut store);
@@ -45,7 +46,7 @@ pub fn new_caches<N: LogFacts>(
         config_maps,
         deployments,
     };
-    Ok((caches, told))
+    Ok((caches, told, author))
 }
 
 // A cache of one resource of the store.

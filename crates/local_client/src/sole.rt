@@ -3,7 +3,7 @@
 ghost use Rattle.std.specs.Prelude.{◌≡◌, ◌≤◌, ◌^◌, ℕ, IfOk, OnOk};
 ghost use Rattle.up_api.specs.Sections.{Learns};
 ghost use Rattle.up_store.specs.Replies.{IsWriteReply, IsTransactionReply, IsOperationReply};
-ghost use Rattle.up_store.specs.Stores.{KnowsAll};
+ghost use Rattle.up_store.specs.Stores.{KnowsAll, commanded, paid};
 ghost use Rattle.up_store.specs.Transacting.{answers_in};
 ghost use Rattle.up_store.specs.declared.operations.Operate.TheVariants as operations;
 ghost use Rattle.client_api.specs.Alone.{SoleWrite, SoleTransact, SoleOperate};
@@ -12,6 +12,7 @@ ghost use Rattle.local_client.specs.Caches.{AreBuiltAnew, cached_in, facts_in, t
 
 use cached_client::{CacheState, OfConfigMaps, OfDeployments, OfPods, SeenWindow};
 use kube_meta::{Memory, Resource};
+use rev_front::Author;
 use std::alloc::Global;
 use std::marker::Model;
 use up_api::{LogFacts, Pass};
@@ -42,14 +43,20 @@ impl<N: LogFacts> Model for SoleCaches<N> {
 
 impl<N: LogFacts> SoleCaches<N> {
     /// Makes a write.
-    pub fn write(&mut self, ask: &WriteAsk, told: &mut Pass<N>) -> Result<Written, WriteNo>
+    pub fn write(
+        &mut self,
+        ask: &WriteAsk,
+        told: &mut Pass<N>,
+        author: &mut Author<N>,
+    ) -> Result<Written, WriteNo>
         ensures onward { IsOnward told.old told.new }
         ensures answer { IsWriteReply N.base N.mirror told.old ask.now result told.new }
         ensures sole { KnowsAll self.old.store.whole told.old → SoleWrite N.base N.mirror self.old.store.history told.old ask.now result told.new }
         ensures whole { KnowsAll self.new.store.whole told.new }
+        ensures author { author.new ≡ paid result author.old }
         ensures rest { self.new ≡ record self.old { store = record self.old.store { whole = self.new.store.whole } } }
     {
-        let answer = self.store.write(ask, told);
+        let answer = self.store.write(ask, told, author);
         let _known = told.shown();
         answer
     }
@@ -59,24 +66,32 @@ impl<N: LogFacts> SoleCaches<N> {
         &mut self,
         ask: &Transaction,
         told: &mut Pass<N>,
+        author: &mut Author<N>,
     ) -> Result<Vec<Written>, TxWriteNo>
         ensures onward { IsOnward told.old told.new }
         ensures answer { IsTransactionReply N.base N.mirror told.old ask.now (answers_in result) told.new }
         ensures sole { KnowsAll self.old.store.whole told.old → SoleTransact N.base N.mirror self.old.store.history told.old ask.now (answers_in result) told.new }
         ensures whole { KnowsAll self.new.store.whole told.new }
+        ensures author { author.new ≡ paid result author.old }
         ensures rest { self.new ≡ record self.old { store = record self.old.store { whole = self.new.store.whole } } }
     {
-        let answer = self.store.transact(ask, told);
+        let answer = self.store.transact(ask, told, author);
         let _known = told.shown();
         answer
     }
 
     /// Does an operation. Where all open watches are to end, that is up to whoever serves them.
-    pub fn operate(&mut self, ask: Operate, told: &mut Pass<N>) -> Result<u64, OpNo>
+    pub fn operate(
+        &mut self,
+        ask: Operate,
+        told: &mut Pass<N>,
+        author: &mut Author<N>,
+    ) -> Result<u64, OpNo>
         ensures onward { IsOnward told.old told.new }
         ensures answer { IsOperationReply told.old ask result told.new }
         ensures sole { KnowsAll self.old.store.whole told.old → SoleOperate told.old ask result told.new }
         ensures whole { KnowsAll self.new.store.whole told.new }
+        ensures author { author.new ≡ commanded ask result author.old }
         ensures history { self.new.store.history ≡ self.old.store.history }
         ensures window { window_in self.new.caches ≡ window_in self.old.caches }
         ensures times { times_of self.new.caches ≡ times_of self.old.caches }
@@ -84,12 +99,12 @@ impl<N: LogFacts> SoleCaches<N> {
     {
         match ask {
             Operate::Cut => {
-                let answer = self.store.drop_feeds(told);
+                let answer = self.store.drop_feeds(told, author);
                 let _known = told.shown();
                 answer
             }
             Operate::Compact { at } => {
-                let answer = self.store.compact(at, told);
+                let answer = self.store.compact(at, told, author);
                 let _known = told.shown();
                 answer
             }

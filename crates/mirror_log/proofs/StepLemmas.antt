@@ -28,13 +28,12 @@ use Rattle.mirror_log.proofs.PassLemmas.{stays, seen_on}
 -- ---- passes
 
 pub learns_self : (p : Pass RevisionData) → Learns p p
-learns_self p = record { extends = extends_self p; loads_stay = refl; last_stays = refl }
+learns_self p = record { extends = extends_self p; loads_stay = refl }
 
 pub learns_on : (p q r : Pass RevisionData) → Learns p q → Learns q r → Learns p r
 learns_on p q r first second = record {
   extends = extends_trans p q r first.extends second.extends;
   loads_stay = second.loads_stay ∙ first.loads_stay;
-  last_stays = second.last_stays ∙ first.last_stays;
 }
 
 -- ---- the fields as contracts see them

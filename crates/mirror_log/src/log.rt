@@ -1,8 +1,9 @@
 //! The log of a mirror.
 
-ghost use Rattle.std.specs.Prelude.{◌≡◌, ◌⊎◌, ℕ, ◌+◌, ◌≤◌, ◌<◌, ◌^◌, List, [], ◌∷◌, All, IfOk, IfErr, OnOk, true, false};
+ghost use Rattle.std.specs.Prelude.{◌≡◌, ◌⊎◌, ℕ, ◌+◌, ◌≤◌, ◌<◌, ◌^◌, List, [], ◌∷◌, All, IfOk, IfErr, IfSome, OnOk, true, false};
 ghost use Rattle.kube_meta.specs.declared.resources.Resource.TheVariants.{Pods};
 ghost use Rattle.kube_meta.specs.Rows.{AreRising};
+ghost use Rattle.rev_front.specs.Passes.{idle_author};
 ghost use Rattle.rev_log.specs.Logs.{Log, IsLog, end_of};
 ghost use Rattle.select_all.specs.Streams.{TransitionData};
 ghost use Rattle.up_api.specs.Sections.{Learns, log_upto};
@@ -14,7 +15,7 @@ ghost use Rattle.mirror_log.specs.MirrorLogs.{Commits, Hears, HearsAlone};
 use crate::MirrorNo;
 use crate::intake::Intake;
 use kube_meta::{Memory, Obj, Resource, Row};
-use rev_front::Blank;
+use rev_front::{Author, Blank};
 use rev_log::Revision;
 use select_all::{Kind, Selection};
 use std::alloc::Global;
@@ -30,6 +31,7 @@ pub struct MirrorLog<N: LogFacts, R: Wait + Copy> {
     pub(crate) alloc: Global,
     pub(crate) door: StoreDoor<N, R>,
     pub(crate) told: Pass<N>,
+    pub(crate) author: Author<N>,
     pub(crate) intake: Intake,
 }
 
@@ -78,13 +80,14 @@ impl<N: LogFacts, R: Wait + Copy> MirrorLog<N, R> {
             × (m.log ≡ opened_log base rows.items) × (m.kept ≡ [])) }
     {
         let intake = Intake::new(alloc, selection, most_gap, &rows, base)?;
-        let mut store = Store::from_base(alloc, blank, rows, history)?;
+        let (mut store, author) = Store::from_base(alloc, blank, rows, history)?;
         let told = store.pass()?;
         let door = StoreDoor::new(rt, store)?;
         Ok(MirrorLog {
             alloc,
             door,
             told,
+            author,
             intake,
         })
     }
@@ -92,6 +95,15 @@ impl<N: LogFacts, R: Wait + Copy> MirrorLog<N, R> {
     /// Another door to the store.
     pub fn door(&self) -> Result<StoreDoor<N, R>, Memory> {
         self.door.again()
+    }
+
+    /// So many parts of the right to change the mirror's log, for its clients. None where there are no more.
+    pub fn author(&mut self, parts: u64) -> Option<Author<N>>
+        requires { 1 ≤ parts }
+        ensures author { IfSome result (λ author. author ≡ idle_author parts) }
+        ensures same { self.new ≡ self.old }
+    {
+        self.author.split(parts)
     }
 
     /// The end of the mirror's log.
@@ -142,7 +154,9 @@ impl<N: LogFacts, R: Wait + Copy> MirrorLog<N, R> {
         let revisions = alone(self.alloc, self.intake.revision(self.alloc)?)?;
         // What a pass is, the proof learns where it reads it.
         self.told.shown();
-        let _ = self.door.follow(to, revisions, upto, &mut self.told)?;
+        let _ = self
+            .door
+            .follow(to, revisions, upto, &mut self.told, &mut self.author)?;
         self.intake.commit(upto);
         Ok(())
     }

@@ -93,7 +93,9 @@ impl<N: LogFacts, R: Wait + Copy> MirrorLog<N, R> {
         let to = self.intake.to();
         // What a pass is, the proof learns where it reads it.
         self.told.shown();
-        let end = self.door.begin_anew(to, revisions, base, &mut self.told)?;
+        let end = self
+            .door
+            .begin_anew(to, revisions, base, &mut self.told, &mut self.author)?;
         self.intake.begin_anew(keys, end);
         Ok(end)
     }

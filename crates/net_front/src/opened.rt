@@ -13,13 +13,16 @@ use crate::shared::Host;
 use crate::tables::no_memory;
 use cluster_link::{ClusterList, ClusterMirror, ClusterNo};
 use kube_meta::{Memory, Resource};
-use rev_front::Blank;
+use rev_front::{Author, Blank};
 use rev_log::Revision;
 use shared_client::Cacher;
 use std::alloc::Global;
 use std::sync::Wait;
 use up_api::LogFacts;
 use up_store::{Store, StoreDoor};
+
+/// How many clients of a mirror's log there can be at once.
+const CLIENTS: u64 = 1 << 61;
 
 /// The caches of a log, and the mirror whose that is, where its resource is mirrored.
 #[derive(Drop)]
@@ -278,11 +281,18 @@ fn open_mirror<N: LogFacts, R: Host>(
     requires settings { AreInRange manner.now.settings }
     ensures { IfErr result IsOfStart }
 {
-    let mirror = match ClusterMirror::<N, R>::new(rt, alloc, list, made, manner.settings.history) {
+    let mut mirror = match ClusterMirror::<N, R>::new(
+        rt,
+        alloc,
+        list,
+        made,
+        manner.settings.history,
+    ) {
         Ok(mirror) => mirror,
         Err(why) => return Err(why),
     };
-    match cacher_of(rt, alloc, mirror.door(), manner) {
+    let author = mirror.author(CLIENTS);
+    match cacher_of(rt, alloc, mirror.door(), author, manner) {
         Ok(cacher) => Ok(Opened {
             cacher,
             mirror: Some(mirror),
@@ -308,25 +318,47 @@ fn open_empty<N: LogFacts, R: Host>(
     requires settings { AreInRange manner.now.settings }
 {
     let rows = Vec::new(alloc);
-    let store = Store::from_base(alloc, made, rows, manner.settings.history)?;
-    let cacher = cacher_of(rt, alloc, StoreDoor::new(rt, store), manner)?;
+    let (store, author) = Store::from_base(alloc, made, rows, manner.settings.history)?;
+    let cacher = cacher_of(rt, alloc, StoreDoor::new(rt, store), Some(author), manner)?;
     Ok(Opened {
         cacher,
         mirror: None,
     })
 }
 
-// The caches of the log behind a door, if there is one, to which the bytes are bounded.
+// The caches of the log behind a door, if there is one, to which the bytes are bounded by this author, and whose
+// clients change it by parts of its right.
 fn cacher_of<N: LogFacts, R: Host>(
     rt: R,
     alloc: Global,
     door: Result<StoreDoor<N, R>, Memory>,
+    author: Option<Author<N>>,
     manner: &Manner,
 ) -> Result<Cacher<N, R>, Memory>
     requires window { N.window ≡ manner.now.settings.window }
     requires settings { AreInRange manner.now.settings }
 {
-    let door = door?;
-    door.bound_bytes(manner.history_bytes);
-    Cacher::new(rt, alloc, door, &manner.settings)
+    match author {
+        Some(author) => match door {
+            Ok(door) => cacher_by(rt, alloc, door, author, manner),
+            Err(_) => Err(Memory),
+        },
+        None => Err(Memory),
+    }
+}
+
+// The same by an author.
+fn cacher_by<N: LogFacts, R: Host>(
+    rt: R,
+    alloc: Global,
+    door: StoreDoor<N, R>,
+    author: Author<N>,
+    manner: &Manner,
+) -> Result<Cacher<N, R>, Memory>
+    requires window { N.window ≡ manner.now.settings.window }
+    requires settings { AreInRange manner.now.settings }
+{
+    let mut author = author;
+    door.bound_bytes(manner.history_bytes, &mut author);
+    Cacher::new(rt, alloc, door, author, &manner.settings)
 }

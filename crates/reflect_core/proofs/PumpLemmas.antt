@@ -13,7 +13,7 @@ use Rattle.up_api.specs.Sections.{Knows, Learns}
 
 -- what two sections learn, one after the other
 pub learns-on : (p q r : Pass RevisionData) → Learns p q → Learns q r → Learns p r
-learns-on p q r one two = record { extends = extends_trans p q r one.extends two.extends; loads_stay = two.loads_stay ∙ one.loads_stay; last_stays = two.last_stays ∙ one.last_stays }
+learns-on p q r one two = record { extends = extends_trans p q r one.extends two.extends; loads_stay = two.loads_stay ∙ one.loads_stay }
 
 -- what is known of a log stays known behind an answer, behind which the pass `r` is as it was, `q`
 pub knows-on : (before now : Option (Whole RevisionData)) (p q r : Pass RevisionData) → now ≡ before → r ≡ q → IfSome now (λ w. Knows w q) → IfSome before (λ w. Knows w p → Knows w r)

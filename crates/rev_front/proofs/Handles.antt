@@ -1,15 +1,20 @@
 -- What the types of the table's handles keep stays true over a step.
-use Rattle.std.proofs.Common.{◌≡◌, ℕ, ◌+◌, ◌-◌, ◌<◌, ◌≤◌, ◌^◌, max, List, [], ◌∷◌, ◌++◌, length, refl, ap, sym, ◌∙◌, subst, arith, length-append}
+use Rattle.std.proofs.Common.{◌≡◌, ℕ, zero, suc, ◌+◌, ◌-◌, ◌<◌, ◌≤◌, ◌^◌, max, List, [], ◌∷◌, ◌++◌, length, refl, ap, sym, ◌∙◌, subst, arith, length-append}
 use mathlib.Core.Option.{none, some, some-injective}
 use lib.ListN.{get_elem?}
 use Rattle.atomic_table.specs.Seated.{TableId}
 use Rattle.atomic_table.specs.Table.{State, Me, step}
 use Rattle.rev_front.specs.declared.sight.Sight.{Sight}
-use Rattle.rev_front.specs.Passes.{LogId, Pass, Extends, Met, Whole, Covers, briefed, pass_from, revision, longer, last_or, looked, quiets}
+use Rattle.rev_front.specs.Passes.{LogId, Pass, Extends, Met, Whole, Covers, briefed, pass_from, revision, longer, looked, quiets}
 use Rattle.rev_front.specs.Rule.{looks, pass_of, whole_of, Rule, Stands, Leads}
 use Rattle.rev_front.specs.Kept.{Sits, Comes, Writes, IsReaderOf}
 use Rattle.rev_front.proofs.Beginnings.{prefix_self, prefix_grown, longer_of_prefix, last_push}
 use Rattle.rev_front.proofs.Passing.{looked_on, commit_leads, quiet_leads}
+
+-- so many quiet entries are so many
+pub quiets_count : {E : Type 0} (quiet : ℕ → E) (from n : ℕ) → length (quiets quiet from n) ≡ n
+quiets_count quiet from zero = refl
+quiets_count quiet from (suc n) = ap suc (quiets_count quiet (from + 1) n)
 
 -- a seat that sits at the table may step there
 pub seated : {E : Type 0} (id : LogId) (table : TableId) (key : ℕ) (seat : TableId) (carried : List (ℕ × E)) (at : TableId) → Sits id table key seat carried → at ≡ table → (seat ≡ at) × (0 < at.words) × (1 < at.words) × (2 < at.words)
@@ -30,11 +35,7 @@ module _ {E : Type 0} where
   -- a pass after a look
   pub looks_view : (first j k n : ℕ) (m m' : Me E (Sight E)) → k ≡ j → looks (step 0 0 0 0 none) m n m' → pass_of first k m'.0 ≡ looked (pass_of first j m.0) n
   looks_view first j k n m m' same e =
-      let v = m.0 in
-      let long : length (v.loads ++ n ∷ []) ≡ length v.loads + 1 = length-append v.loads (n ∷ []) in
-      let last : last_or 0 (v.loads ++ n ∷ []) ≡ n = last_push 0 n v.loads in
-      let moved : pass_of first k m'.0 ≡ pass_of first j (record v { loads = v.loads ++ n ∷ []; shown = n }) = λ i. pass_of first (same i) (e.2 i).0 in
-      moved ∙ (λ i. record { first = first; seen = v.seen; shown = n; loads = v.loads ++ n ∷ []; looks = long i; last = last i; floor = v.floor; gen = v.generation; seat = j })
+      λ i. pass_of first (same i) (e.2 i).0
 
   pub looks_reads : (fits : ℕ → E → Type 0) (first j k n : ℕ) (m m' : Me E (Sight E)) (end last told floor : ℕ) → k ≡ j → looks (step 0 0 0 0 none) m n m' → IsReaderOf fits first j m.0 end last told floor → IsReaderOf fits first k m'.0 end n told floor
   looks_reads fits first j k n m m' end last told floor same e r =
@@ -46,30 +47,35 @@ module _ {E : Type 0} where
       subst (λ (z : ℕ × Sight E). IsReaderOf fits first z.0 z.1 end n told floor) (λ i. (sym same i, sym (ap (λ (x : Me E (Sight E)). x.0) e.2) i)) now
 
   -- the pen after a commit
-  pub commit_writes : (fits : ℕ → E → Type 0) (first j k : ℕ) (m m' : Me E (Sight E)) (e : E) (reached gen floor : ℕ) → k ≡ j → m' ≡ (record m.0 { seen = m.0.seen ++ e ∷ []; shown = m.0.shown + 1 }, m.1)
-      → m.0.shown + 1 ≤ 2 ^ 62 → fits (m.0.shown + 1) e → Writes fits first j m.0 reached gen floor → Writes fits first k m'.0 (reached + 1) gen floor
-  commit_writes fits first j k m m' e reached gen floor same is room fit w =
+  pub commit_writes : (fits : ℕ → E → Type 0) (first j k : ℕ) (m m' : Me E (Sight E)) (e : E) (reached gen floor booked : ℕ) → k ≡ j → m' ≡ (record m.0 { seen = m.0.seen ++ e ∷ []; shown = m.0.shown + 1 }, m.1)
+      → m.0.shown + 1 ≤ 2 ^ 62 → fits (m.0.shown + 1) e → Writes fits first j m.0 reached gen floor booked → Writes fits first k m'.0 (reached + 1) gen floor (booked + 1)
+  commit_writes fits first j k m m' e reached gen floor booked same is room fit w =
       let v : Sight E = record m.0 { seen = m.0.seen ++ e ∷ []; shown = m.0.shown + 1 } in
-      let now : Writes fits first j v (reached + 1) gen floor = record {
+      let now : Writes fits first j v (reached + 1) gen floor (booked + 1) = record {
         first_seat = w.first_seat;
         leads = commit_leads fits first m.0 e w.leads room fit;
         revision_is = ap (λ (n : ℕ). n + 1) w.revision_is;
         gen_is = w.gen_is;
         floor_is = w.floor_is;
+        booked_is = ap (λ (n : ℕ). n + 1) w.booked_is ∙ sym (length-append m.0.seen (e ∷ []));
       } in
-      subst (λ (z : ℕ × Sight E). Writes fits first z.0 z.1 (reached + 1) gen floor) (λ i. (sym same i, sym (ap (λ (x : Me E (Sight E)). x.0) is) i)) now
+      subst (λ (z : ℕ × Sight E). Writes fits first z.0 z.1 (reached + 1) gen floor (booked + 1)) (λ i. (sym same i, sym (ap (λ (x : Me E (Sight E)). x.0) is) i)) now
 
   -- the pen behind quiet entries
-  pub pass_over_writes : (fits : ℕ → E → Type 0) (quiet : ℕ → E) → ((r : ℕ) → fits r (quiet r)) → (first j k : ℕ) (m m' : Me E (Sight E)) (reached upto gen floor : ℕ) → k ≡ j
-      → m' ≡ (record m.0 { seen = m.0.seen ++ quiets quiet reached (upto - reached); shown = upto }, m.1) → reached ≤ upto → upto ≤ 2 ^ 62 → Writes fits first j m.0 reached gen floor → Writes fits first k m'.0 upto gen floor
-  pass_over_writes fits quiet all first j k m m' reached upto gen floor same is on room w =
+  pub pass_over_writes : (fits : ℕ → E → Type 0) (quiet : ℕ → E) → ((r : ℕ) → fits r (quiet r)) → (first j k : ℕ) (m m' : Me E (Sight E)) (reached upto gen floor booked : ℕ) → k ≡ j
+      → m' ≡ (record m.0 { seen = m.0.seen ++ quiets quiet reached (upto - reached); shown = upto }, m.1) → reached ≤ upto → upto ≤ 2 ^ 62 → Writes fits first j m.0 reached gen floor booked → Writes fits first k m'.0 upto gen floor (booked + (upto - reached))
+  pass_over_writes fits quiet all first j k m m' reached upto gen floor booked same is on room w =
       let at = w.revision_is in
       let far : m.0.shown + (upto - reached) ≡ upto = omega (arith, at) in
       let v : Sight E = record m.0 { seen = m.0.seen ++ quiets quiet reached (upto - reached); shown = upto } in
       let grown = quiet_leads fits first quiet all m.0 (upto - reached) w.leads (omega (arith, far)) in
       let leads : Leads fits first v = subst (Leads fits first) (λ i. record m.0 { seen = m.0.seen ++ quiets quiet (sym at i) (upto - reached); shown = far i }) grown in
-      let now : Writes fits first j v upto gen floor = record { first_seat = w.first_seat; leads = leads; revision_is = refl; gen_is = w.gen_is; floor_is = w.floor_is } in
-      subst (λ (z : ℕ × Sight E). Writes fits first z.0 z.1 upto gen floor) (λ i. (sym same i, sym (ap (λ (x : Me E (Sight E)). x.0) is) i)) now
+      let more = length-append m.0.seen (quiets quiet reached (upto - reached)) in
+      let count = quiets_count quiet reached (upto - reached) in
+      let was = w.booked_is in
+      let all_booked : booked + (upto - reached) ≡ length v.seen = omega (arith, more, count) in
+      let now : Writes fits first j v upto gen floor (booked + (upto - reached)) = record { first_seat = w.first_seat; leads = leads; revision_is = refl; gen_is = w.gen_is; floor_is = w.floor_is; booked_is = all_booked } in
+      subst (λ (z : ℕ × Sight E). Writes fits first z.0 z.1 upto gen floor (booked + (upto - reached))) (λ i. (sym same i, sym (ap (λ (x : Me E (Sight E)). x.0) is) i)) now
 
   -- the words of a closed table stand in a state that meets the rule
   pub closes : (fits : ℕ → E → Type 0) (key j : ℕ) (v : Sight E) (ws : List ℕ) (a b c : ℕ) → j ≡ 0 → (s : State E (Sight E)) → Rule fits key s → get_elem? s.views j ≡ some v → s.words ≡ ws

@@ -35,22 +35,20 @@ extends_trans p q r a b = record {
 }
 
 -- what follows a look, and what has seen all
-pub looks_hold : {E : Type 0} (fits : ℕ → E → Type 0) → LooksStand fits
-looks_hold fits p q n lawful later = (
+pub looks_hold : {E : Type 0} → LooksStand E
+looks_hold p q n later = (
   omega (arith, prefix_length (p.loads ++ n ∷ []) q.loads later.loads_on, length-append p.loads (n ∷ [])),
-  λ stays. lawful.last_is ∙ ap (last_or 0) stays ∙ last_push 0 n p.loads,
+  λ stays. ap (last_or 0) stays ∙ last_push 0 n p.loads,
 )
 
 pub loads_hold : {E : Type 0} (fits : ℕ → E → Type 0) → LoadsAreSeen fits
 loads_hold fits p lawful all =
     let seen = told_more p.loads p.shown (end_from p.first p.seen) (omega (arith, all)) lawful.told in
-    (seen, subst (λ n. n ≤ end_from p.first p.seen) (sym lawful.last_is) (last_within 0 (end_from p.first p.seen) p.loads (omega arith) seen))
+    (seen, last_within 0 (end_from p.first p.seen) p.loads (omega arith) seen)
 
 module _ {E : Type 0} (fits : ℕ → E → Type 0) (first : ℕ) where
   pub looked_on : (j n : ℕ) (v : Sight E) → IsPass fits (pass_of first j v) → v.shown ≤ n → n ≤ 2 ^ 62 → IsPass fits (pass_of first j (record v { loads = v.loads ++ n ∷ []; shown = n }))
   looked_on j n v p later small = record {
-    looks_is = refl;
-    last_is = refl;
     rising = rising_push v.loads v.shown n later p.told p.rising;
     told = told_push v.loads v.shown n later p.told;
     within = let h = p.within in omega arith;
@@ -60,19 +58,17 @@ module _ {E : Type 0} (fits : ℕ → E → Type 0) (first : ℕ) where
   }
 
   pub gen_on : (j n : ℕ) (v : Sight E) → IsPass fits (pass_of first j v) → n ≤ 2 ^ 62 → IsPass fits (pass_of first j (record v { generation = n }))
-  gen_on j n v p small = record { looks_is = refl; last_is = refl; rising = p.rising; told = p.told; within = p.within; from = p.from; bounded = (p.bounded.0, p.bounded.1, small); fitting = p.fitting }
+  gen_on j n v p small = record { rising = p.rising; told = p.told; within = p.within; from = p.from; bounded = (p.bounded.0, p.bounded.1, small); fitting = p.fitting }
 
   pub floor_on : (j n : ℕ) (v : Sight E) → IsPass fits (pass_of first j v) → v.floor ≤ n → n ≤ 2 ^ 62 → IsPass fits (pass_of first j (record v { floor = n }))
-  floor_on j n v p later small = record { looks_is = refl; last_is = refl; rising = p.rising; told = p.told; within = p.within; from = let h = p.from in omega arith; bounded = (p.bounded.0, small, p.bounded.2); fitting = p.fitting }
+  floor_on j n v p later small = record { rising = p.rising; told = p.told; within = p.within; from = let h = p.from in omega arith; bounded = (p.bounded.0, small, p.bounded.2); fitting = p.fitting }
 
   pub copied_on : (j k : ℕ) (v : Sight E) → IsPass fits (pass_of first j v) → IsPass fits (pass_of first k (copied v))
-  copied_on j k v p = record { looks_is = refl; last_is = refl; rising = p.rising; told = p.told; within = p.within; from = p.from; bounded = p.bounded; fitting = p.fitting }
+  copied_on j k v p = record { rising = p.rising; told = p.told; within = p.within; from = p.from; bounded = p.bounded; fitting = p.fitting }
 
   -- the pen as a pass
   pub copied_pen : (k : ℕ) (v : Sight E) → Leads fits first v → IsPass fits (pass_of first k (copied v))
   copied_pen k v p = record {
-    looks_is = refl;
-    last_is = refl;
     rising = subst IsNonDecreasing (sym p.bare.0) (IsNonDecreasingBy-short (λ x. x) [] (omega arith));
     told = subst (All (λ n. n ≤ v.shown)) (sym p.bare.0) (All-nil (λ n. n ≤ v.shown));
     within = let h = p.shown in omega arith;
@@ -83,8 +79,6 @@ module _ {E : Type 0} (fits : ℕ → E → Type 0) (first : ℕ) where
 
   pub met_on : (j k : ℕ) (v w : Sight E) → IsPass fits (pass_of first j v) → IsPass fits (pass_of first k w) → IsPass fits (pass_of first j (met v w))
   met_on j k v w p q = record {
-    looks_is = refl;
-    last_is = refl;
     rising = p.rising;
     told = told_more v.loads v.shown (max v.shown w.shown) (omega arith) p.told;
     within = let a = p.within in let b = q.within in longer_is (λ l. end_from first l ≤ max v.shown w.shown) v.seen w.seen (λ _. omega arith) (λ _. omega arith);

@@ -1,5 +1,5 @@
 -- What the types of the table's handles keep: at which table they sit, and that their numbers are those that their seats know.
-use Rattle.std.specs.Prelude.{◌≡◌, ℕ, ◌≤◌, ◌^◌, max, List, []}
+use Rattle.std.specs.Prelude.{◌≡◌, ℕ, ◌≤◌, ◌^◌, max, List, [], length}
 use Rattle.atomic_table.specs.Seated.{TableId}
 use Rattle.atomic_table.specs.declared.shared.Seat.{Seat}
 use Rattle.rev_front.specs.declared.sight.Role.TheVariants.{Reader}
@@ -21,13 +21,14 @@ pub record Comes {E : Type 0} (id : LogId) (seat : TableId) (carried : List (ℕ
   pub seat_is : seat ≡ id.table
   pub bare : carried ≡ []
 
--- the numbers of the pen are those of the first seat
-pub record Writes {E : Type 0} (fits : ℕ → E → Type 0) (first seat : ℕ) (v : Sight E) (revision gen floor : ℕ) : Type 0 where
+-- the numbers of the pen are those of the first seat, and its book has each revision once
+pub record Writes {E : Type 0} (fits : ℕ → E → Type 0) (first seat : ℕ) (v : Sight E) (revision gen floor booked : ℕ) : Type 0 where
   pub first_seat : seat ≡ 0
   pub leads : Leads fits first v
   pub revision_is : revision ≡ v.shown
   pub gen_is : gen ≡ v.generation
   pub floor_is : floor ≡ v.floor
+  pub booked_is : booked ≡ length v.seen
 
 -- the numbers of a pass are those of its seat. The greatest revision that it was told came from its last load, or otherwise
 pub record IsReaderOf {E : Type 0} (fits : ℕ → E → Type 0) (first seat : ℕ) (v : Sight E) (end last told floor : ℕ) : Type 0 where

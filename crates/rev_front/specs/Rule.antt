@@ -1,17 +1,17 @@
 -- The rule of the table: what holds of its three words and of what all seats know, at every moment. And what each step tells.
-use Rattle.std.specs.Prelude.{◌≡◌, ℕ, ◌+◌, ◌-◌, ◌≤◌, ◌^◌, max, List, [], ◌∷◌, ◌++◌, length}
+use Rattle.std.specs.Prelude.{◌≡◌, ℕ, ◌+◌, ◌-◌, ◌≤◌, ◌^◌, max, List, [], ◌∷◌, ◌++◌}
 use mathlib.Core.Option.{some}
 use mathlib.Core.List.{IsPrefix}
 use lib.ListN.{get_elem?}
 use Rattle.atomic_table.specs.Table.{State, Me, Step}
 use Rattle.rev_front.specs.declared.sight.Role.TheVariants.{Writer, Reader, Gone}
 use Rattle.rev_front.specs.declared.sight.Sight.{Sight}
-use Rattle.rev_front.specs.Passes.{Pass, IsPass, Whole, IsWhole, end_from, last_or, longer, quiets}
+use Rattle.rev_front.specs.Passes.{Pass, IsPass, Whole, IsWhole, end_from, longer, quiets}
 
 module _ {E : Type 0} (first : ℕ) where
   -- a seat that reads, as a pass
   abbrev pub pass_of : ℕ → Sight E → Pass E
-  pass_of seat v = record { first = first; seen = v.seen; shown = v.shown; loads = v.loads; looks = length v.loads; last = last_or 0 v.loads; floor = v.floor; gen = v.generation; seat = seat }
+  pass_of seat v = record { first = first; seen = v.seen; shown = v.shown; loads = v.loads; floor = v.floor; gen = v.generation; seat = seat }
 
   -- the seat that writes, as the whole log
   abbrev pub whole_of : Sight E → Whole E

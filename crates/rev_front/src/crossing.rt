@@ -1,5 +1,6 @@
-//! That a blank, a pen and a pass may go to another thread wherever their entries and their name may. Nothing calls
-//! this: it is here to be proved.
+//! That a blank, a pen, an author and a pass may go to another thread wherever their entries and their name may.
+//! Nothing calls this: it is here to be proved.
+use crate::author::Author;
 use crate::blanks::Blank;
 use crate::entry::Entry;
 use crate::front::Front;
@@ -11,5 +12,6 @@ fn crosses<T: Send>() {}
 pub(crate) fn handles_cross<E: Entry + Send, N: LogName + Send>() {
     crosses::<Blank<E>>();
     crosses::<Pen<E, N>>();
+    crosses::<Author<N>>();
     crosses::<Front<E, N>>();
 }

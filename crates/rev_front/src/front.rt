@@ -1,7 +1,7 @@
 //! Passes.
 
 ghost use Rattle.std.specs.Prelude.{◌≡◌, ◌≤◌, IfOk, IsOk, MatchResult};
-ghost use Rattle.rev_front.specs.Passes.{Extends, IsPass, Met, end_from, looked};
+ghost use Rattle.rev_front.specs.Passes.{Extends, IsPass, Met, end_from, last_of, looked};
 
 use crate::entry::Entry;
 use crate::name::LogName;
@@ -92,7 +92,7 @@ impl<E: Entry, N: LogName> Front<E, N> {
 
     /// What its last `look` answered, or 0 where it made none.
     pub fn last(&self) -> u64
-        ensures { result ≡ self.now.last }
+        ensures { result ≡ last_of self.now }
     {
         self.last
     }

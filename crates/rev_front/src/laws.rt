@@ -5,7 +5,7 @@ use crate::entry::Entry;
 
 /// What follows a look has made its load, and has it as its last where no other load was made since.
 pub fn looks_stand<E: Entry>()
-    ensures { LooksStand E.fits }
+    ensures { LooksStand E }
 {}
 
 /// A pass that has seen all that it was told of has seen all that its loads gave.

@@ -4,12 +4,14 @@
 //! the entries. What threads share is a table of three words, the revision that the log has reached, the generation
 //! of its feeds and its compaction floor; the entries stand in contracts alone. One [`Pen`] writes the log, and any
 //! number of [`Front`]s are passes: each knows a beginning of the log, which grows as the pass makes loads and meets
-//! other passes.
+//! other passes. Each revision is committed by an [`Author`], and counted for it: authors that together have all parts
+//! of the right to commit have committed the whole log.
 //!
 //! In the terms of the Kubernetes API, a revision is a `resourceVersion`, and a `look` is the read of the current
 //! revision that a consistent read from the cache makes (KEP-2340).
 #![tactic(auto)]
 
+mod author;
 mod blanks;
 mod crossing;
 mod entry;
@@ -22,6 +24,7 @@ mod pen;
 mod sight;
 mod steps;
 
+pub use author::{Author, Commits, Orders};
 pub use blanks::{Blank, start};
 pub use entry::Entry;
 pub use front::Front;

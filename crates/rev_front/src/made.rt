@@ -2,12 +2,13 @@
 
 ghost use Rattle.std.specs.Prelude.{◌≡◌, ◌≤◌, ◌^◌, IfOk};
 
+use crate::author::PARTS;
 use crate::blanks::Blank;
 use crate::entry::Entry;
 use crate::sight::Law;
 use atomic_table::Table;
 use std::alloc::{AllocError, Global};
-use std::sync::Arc;
+use std::sync::{Arc, ledger};
 
 /// The table of a new, empty log.
 ///
@@ -19,5 +20,11 @@ pub fn blank<E: Entry>(alloc: Global, first: u64) -> Result<Blank<E>, AllocError
 {
     let (table, seat) = Table::of_words(alloc, &[first, 0, first], &first)?;
     let board = Arc::new(alloc, table)?;
-    Ok(Blank { board, seat, first })
+    Ok(Blank {
+        board,
+        seat,
+        first,
+        commits: ledger::Blank::new(PARTS),
+        orders: ledger::Blank::new(PARTS),
+    })
 }

@@ -1,9 +1,10 @@
 //! The writer of a log.
 
-ghost use Rattle.std.specs.Prelude.{◌≡◌, ℕ, ◌+◌, ◌-◌, ◌<◌, ◌≤◌, ◌^◌, [], ◌∷◌, ◌++◌, IfOk, IsOk, MatchResult};
-ghost use Rattle.rev_front.specs.Passes.{Covers, Extends, IsWhole, briefed, pass_from, quiets, revision as reached};
+ghost use Rattle.std.specs.Prelude.{◌≡◌, ℕ, ◌+◌, ◌-◌, ◌<◌, ◌≤◌, ◌^◌, [], ◌∷◌, ◌++◌, length, IfOk, IsOk, MatchResult};
+ghost use Rattle.rev_front.specs.Passes.{Covers, Extends, IsWhole, briefed, credited, ordered, pass_from, quiets, revision as reached, whole_right};
 ghost use Rattle.rev_front.specs.Rule.{Stands};
 
+use crate::author::{Author, Commits, Orders};
 use crate::entry::Entry;
 use crate::front::Front;
 use crate::name::LogName;
@@ -13,6 +14,7 @@ use crate::steps::{Commit, Copies, Learn, PassOver, RecallPen, SetFloor, SetGen}
 use std::alloc::{AllocError, Global};
 use std::marker::{Model, PhantomData};
 use std::sync::Arc;
+use std::sync::ledger::Book;
 
 /// The sole writer of a log. Contracts see the whole log and its numbers.
 #[derive(Drop)]
@@ -22,6 +24,8 @@ pub struct Pen<E: Entry, N: LogName> {
     pub(crate) revision: u64,
     pub(crate) generation: u64,
     pub(crate) floor: u64,
+    pub(crate) book: Book<Commits<N>>,
+    pub(crate) order_book: Book<Orders<N>>,
     pub(crate) of: PhantomData<N>,
 }
 
@@ -36,7 +40,7 @@ impl<E: Entry, N: LogName> Model for Pen<E, N> {
 
     ghost view = { λ p. whole_of N.log.first p.seat.me.0 };
 
-    ghost invariant = { λ p. Sits N.log (arc_value p.board).shared.table_id (arc_value p.board).shared.key p.seat.table_id p.seat.me.1 × Writes E.fits N.log.first p.seat.id p.seat.me.0 p.revision p.generation p.floor };
+    ghost invariant = { λ p. Sits N.log (arc_value p.board).shared.table_id (arc_value p.board).shared.key p.seat.table_id p.seat.me.1 × Writes E.fits N.log.first p.seat.id p.seat.me.0 p.revision p.generation p.floor p.book.total };
 }
 
 /// The three words of a log that was closed.
@@ -48,42 +52,68 @@ pub struct Words {
 }
 
 impl<E: Entry, N: LogName> Pen<E, N> {
-    /// Adds an entry, which fits the new revision, and answers that revision, the entry's `resourceVersion`.
-    pub fn commit(&mut self, entry: &E) -> u64
+    /// Adds an entry of this author's, which fits the new revision, and answers that revision, the entry's
+    /// `resourceVersion`.
+    pub fn commit(&mut self, author: &mut Author<N>, entry: &E) -> u64
         requires room { reached self.old < 2 ^ 62 }
         requires fits { E.fits (reached self.old + 1) entry.now }
         ensures answer { result ≡ reached self.old + 1 }
         ensures log { self.new ≡ record self.old { log = self.old.log ++ entry.now ∷ [] } }
+        ensures author { author.new ≡ credited author.old 1 }
     {
         let next = self.revision + 1;
         let shared = &self.board.shared;
         shared.compare_exchange_with::<Commit>(&mut self.seat, 0, self.revision, next, entry);
         self.revision = next;
+        self.book.add(&mut author.share, 1);
         next
     }
 
-    /// Passes over revisions at which nothing happens, up to this one.
-    pub fn pass_over(&mut self, upto: u64)
+    /// Passes over revisions at which nothing happens, up to this one. They too are counted for their author.
+    pub fn pass_over(&mut self, author: &mut Author<N>, upto: u64)
         requires onward { reached self.old ≤ upto }
         requires last { upto ≤ 2 ^ 62 }
         requires fits { (r : ℕ) → E.fits r (E.quiet r) }
         ensures log { self.new ≡ record self.old { log = self.old.log ++ quiets E.quiet (reached self.old) (upto - reached self.old) } }
+        ensures author { author.new ≡ credited author.old (upto - reached self.old) }
     {
         let shared = &self.board.shared;
         shared.compare_exchange::<PassOver>(&mut self.seat, 0, self.revision, upto);
+        self.book.add(&mut author.share, upto - self.revision);
         self.revision = upto;
     }
 
-    /// Raises the generation by one, which cuts all feeds of older ones, and answers it.
-    pub fn cut(&mut self) -> u64
+    /// Counts an order of this author.
+    pub fn obey(&mut self, author: &mut Author<N>)
+        ensures same { self.new ≡ self.old }
+        ensures author { author.new ≡ ordered author.old }
+    {
+        self.order_book.add(&mut author.given, 1);
+    }
+
+    /// Changes nothing, and shows that no author has committed more than there is, and that the one that has all parts
+    /// has committed the whole log.
+    pub fn audit(&mut self, author: &mut Author<N>)
+        ensures same { self.new ≡ self.old }
+        ensures author { author.new ≡ author.old }
+        ensures within { author.old.own ≤ length self.old.log }
+        ensures whole { author.old.parts ≡ whole_right → author.old.own ≡ length self.old.log }
+    {
+        self.book.audit(&mut author.share);
+    }
+
+    /// Raises the generation by one, which cuts all feeds of older ones, and answers it. It is an order of this author.
+    pub fn cut(&mut self, author: &mut Author<N>) -> u64
         requires { self.old.gen < 2 ^ 62 }
         ensures answer { result ≡ self.old.gen + 1 }
         ensures log { self.new ≡ record self.old { gen = result } }
+        ensures author { author.new ≡ ordered author.old }
     {
         let next = self.generation + 1;
         let shared = &self.board.shared;
         shared.store::<SetGen>(&mut self.seat, 1, next);
         self.generation = next;
+        self.order_book.add(&mut author.given, 1);
         next
     }
 
@@ -223,6 +253,8 @@ impl<E: Entry, N: LogName> Pen<E, N> {
             revision,
             generation,
             floor,
+            book,
+            order_book,
             of,
         } = self;
         match Arc::try_unwrap(board) {
@@ -242,6 +274,8 @@ impl<E: Entry, N: LogName> Pen<E, N> {
                 revision,
                 generation,
                 floor,
+                book,
+                order_book,
                 of,
             }),
         }

@@ -1,7 +1,7 @@
 //! The caches of a log, for many threads.
 
 ghost use Rattle.std.specs.Prelude.{◌≡◌, ◌≤◌, None, IfOk};
-ghost use Rattle.rev_front.specs.Passes.{Extends, IsPass, Whole, pass_from};
+ghost use Rattle.rev_front.specs.Passes.{Extends, IsPass, Whole, idle_author, pass_from};
 ghost use Rattle.rev_log.specs.Changes.{RevisionData};
 ghost use Rattle.rev_log.specs.Logs.{Fits};
 ghost use Rattle.up_api.specs.Sections.{Learns};
@@ -11,6 +11,7 @@ use crate::client::{SharedClient, WriteDoor};
 use bells::Calls;
 use cached_client::{CacheState, OfConfigMaps, OfDeployments, OfPods, OfResource};
 use kube_meta::Memory;
+use rev_front::Author;
 use std::alloc::Global;
 use std::sync::atomic::AtomicU64;
 use std::sync::atomic::Ordering::SeqCst;
@@ -34,11 +35,13 @@ pub struct Cacher<N: LogFacts, R: Wait + Copy> {
 }
 
 impl<N: LogFacts, R: Wait + Copy> Cacher<N, R> {
-    /// The caches of the log behind this door, which wait for their locks by `rt`.
+    /// The caches of the log behind this door, which wait for their locks by `rt`, and whose clients change the log by
+    /// parts of this author's right.
     pub fn new(
         rt: R,
         alloc: Global,
         door: StoreDoor<N, R>,
+        author: Author<N>,
         settings: &Settings,
     ) -> Result<Cacher<N, R>, Memory>
         requires settings { AreInRange settings.now }
@@ -52,7 +55,7 @@ impl<N: LogFacts, R: Wait + Copy> Cacher<N, R> {
             (Ok(pods), Ok(config_maps), Ok(deployments)) => Ok(Cacher {
                 rt,
                 alloc,
-                write_door: WriteDoor::new(door),
+                write_door: WriteDoor::new(rt, door, author),
                 pods,
                 config_maps,
                 deployments,
@@ -62,16 +65,27 @@ impl<N: LogFacts, R: Wait + Copy> Cacher<N, R> {
         }
     }
 
-    /// Lets the caches go, and with them the door to the log.
-    pub fn close(self) {
-        drop(self);
+    /// Lets the caches go, and with them the door to the log. The right to change it comes back, as far as no client
+    /// was lost, with all that was done by it.
+    pub fn close(self) -> Author<N> {
+        let Cacher {
+            rt: _,
+            alloc: _,
+            write_door,
+            pods: _,
+            config_maps: _,
+            deployments: _,
+            fed: _,
+        } = self;
+        write_door.close()
     }
 
-    /// A client of the log, with no watch.
+    /// A client of the log, with no watch, that has done nothing yet.
     pub fn client(&self) -> Result<SharedClient<'_, N, R>, Memory>
         ensures idle { IfOk result (λ client. (client.watch ≡ None) × (client.heard ≡ 0)) }
         ensures pass { IfOk result (λ client. (whole : Whole RevisionData) × (client.told ≡ pass_from whole client.told.seat)) }
         ensures lawful { IfOk result (λ client. IsPass Fits client.told) }
+        ensures author { IfOk result (λ client. client.author ≡ idle_author 1) }
     {
         SharedClient::new(self)
     }

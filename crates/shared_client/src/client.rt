@@ -1,11 +1,12 @@
 //! The shared client.
 
 ghost use Rattle.std.specs.Prelude.{◌≡◌, ◌≤◌, None, IfOk};
-ghost use Rattle.rev_front.specs.Passes.{IsPass, Whole, pass_from};
+ghost use Rattle.rev_front.specs.Passes.{IsPass, Whole, idle_author, pass_from};
 ghost use Rattle.rev_log.specs.Changes.{RevisionData};
 ghost use Rattle.rev_log.specs.Logs.{Fits};
 ghost use Rattle.up_api.specs.Sections.{Learns};
 ghost use Rattle.up_store.specs.Replies.{IsOperationReply};
+ghost use Rattle.up_store.specs.Stores.{commanded};
 
 use crate::cacher::Cacher;
 use crate::shared::SharedCaches;
@@ -15,24 +16,54 @@ use client_api::{Begun, Client, Got, ListNo, Listed, Resources, Took};
 use kube_meta::Memory;
 use list_rules::{GetAsk, ListAsk};
 use metrics::Metrics;
-use std::sync::{Arc, Wait};
+use rev_front::Author;
+use std::sync::{Arc, Mutex, Wait};
 use up_api::{LogFacts, Pass};
 use up_store::{
     OpNo, Operate, ReadDoor, StoreDoor, Transaction, TxWriteNo, WriteAsk, WriteNo, Written,
 };
 use watch_rules::WatchAsk;
 
-/// The door to the store by which the clients of a `Cacher` write. Nobody else can open it, so nothing but a client
-/// writes to the log, cuts its feeds or compacts it.
+/// The door to the store by which the clients of a `Cacher` write, and the right to write, of which each client has a
+/// part. Nobody else can open it, so nothing but a client writes to the log, cuts its feeds or compacts it.
 #[derive(Drop)]
 pub(crate) struct WriteDoor<N: LogFacts, R: Wait + Copy> {
+    rt: R,
     door: StoreDoor<N, R>,
+    authors: Mutex<Author<N>>,
 }
 
 impl<N: LogFacts, R: Wait + Copy> WriteDoor<N, R> {
-    /// The same door, for clients alone.
-    pub fn new(door: StoreDoor<N, R>) -> WriteDoor<N, R> {
-        WriteDoor { door }
+    /// The same door, for clients alone, each of which has a part of this author's right.
+    pub fn new(rt: R, door: StoreDoor<N, R>, author: Author<N>) -> WriteDoor<N, R> {
+        WriteDoor {
+            rt,
+            door,
+            authors: Mutex::new(author),
+        }
+    }
+
+    // A part of the right for a client, who has done nothing yet. There are more parts than clients can be at once.
+    fn lend(&self) -> Result<Author<N>, Memory>
+        ensures { IfOk result (λ author. author ≡ idle_author 1) }
+    {
+        match self.authors.lock(&self.rt).split(1) {
+            Some(author) => Ok(author),
+            None => Err(Memory),
+        }
+    }
+
+    // A client's part comes back, with what was done by it.
+    fn take_back(&self, author: Author<N>) {
+        self.authors.lock(&self.rt).merge(author);
+    }
+
+    /// The right to change the log, as far as it came back, with all that was done by it.
+    pub fn close(self) -> Author<N> {
+        let WriteDoor { rt, door, authors } = self;
+        drop(door);
+        let _ = rt;
+        authors.into_inner()
     }
 
     /// A door for who reads and follows the log.
@@ -49,13 +80,14 @@ impl<N: LogFacts, R: Wait + Copy> WriteDoor<N, R> {
 }
 
 /// One of many clients of a log. It answers from the caches of its `Cacher` and writes by the door there, which it
-/// shares with the others, and has a pass of its own, a door to read the store by, and the bell that ends the rests of
-/// its watches, if there is one.
+/// shares with the others, and has a pass of its own, a right of its own to change the log, a door to read the store
+/// by, and the bell that ends the rests of its watches, if there is one.
 ///
-/// Its lane is closed when its watch ends, and when it is let go.
+/// Its lane is closed when its watch ends, and when it is let go. Its part of the right to change the log goes back.
 pub struct SharedClient<'a, N: LogFacts, R: Wait + Copy> {
     caches: SharedCaches<'a, N, R>,
     pub(crate) told: Pass<N>,
+    pub(crate) author: Author<N>,
     pub(crate) watch: Option<Watch<WatchLane<N>>>,
     pub(crate) heard: u64,
 }
@@ -66,10 +98,12 @@ impl<'a, N: LogFacts, R: Wait + Copy> SharedClient<'a, N, R> {
         ensures idle { IfOk result (λ client. (client.watch ≡ None) × (client.heard ≡ 0)) }
         ensures pass { IfOk result (λ client. (whole : Whole RevisionData) × (client.told ≡ pass_from whole client.told.seat)) }
         ensures lawful { IfOk result (λ client. IsPass Fits client.told) }
+        ensures author { IfOk result (λ client. client.author ≡ idle_author 1) }
     {
         let door = cacher.write_door.reader()?;
         let told = cacher.write_door.pass()?;
         let _known = told.shown();
+        let author = cacher.write_door.lend()?;
         Ok(SharedClient {
             caches: SharedCaches {
                 cacher,
@@ -77,6 +111,7 @@ impl<'a, N: LogFacts, R: Wait + Copy> SharedClient<'a, N, R> {
                 bell: None,
             },
             told,
+            author,
             watch: None,
             heard: 0,
         })
@@ -88,6 +123,7 @@ impl<'a, N: LogFacts, R: Wait + Copy> SharedClient<'a, N, R> {
         ensures watch { result.watch ≡ self.entry.watch }
         ensures heard { result.heard ≡ self.entry.heard }
         ensures told { result.told ≡ self.entry.told }
+        ensures author { result.author ≡ self.entry.author }
     {
         let mut client = self;
         client.caches.ring_by(bell);
@@ -100,10 +136,12 @@ impl<N: LogFacts, R: Wait + Copy> Drop for SharedClient<'_, N, R> {
         let SharedClient {
             caches,
             told: _,
+            author,
             watch,
             heard: _,
         } = self;
         caches.end(watch);
+        caches.cacher.write_door.take_back(author);
     }
 }
 
@@ -120,6 +158,7 @@ impl<N: LogFacts, R: Wait + Copy> Client for SharedClient<'_, N, R> {
     ghost facts = { λ c. record {
       watching = c.watch;
       heard = c.heard;
+      did = c.author;
       window = N.window;
       sole_history = None;
       resources = all_served;
@@ -136,14 +175,16 @@ impl<N: LogFacts, R: Wait + Copy> Client for SharedClient<'_, N, R> {
 
     fn write(&mut self, ask: &WriteAsk) -> Result<Written, WriteNo> {
         let cacher = self.caches.cacher;
-        let answer = cacher.write_door.door.write(ask, &mut self.told);
+        let door = &cacher.write_door.door;
+        let answer = door.write(ask, &mut self.told, &mut self.author);
         let _known = self.told.shown();
         answer
     }
 
     fn transact(&mut self, ask: &Transaction) -> Result<Vec<Written>, TxWriteNo> {
         let cacher = self.caches.cacher;
-        let answer = cacher.write_door.door.transact(ask, &mut self.told);
+        let door = &cacher.write_door.door;
+        let answer = door.transact(ask, &mut self.told, &mut self.author);
         let _known = self.told.shown();
         answer
     }
@@ -178,7 +219,7 @@ impl<N: LogFacts, R: Wait + Copy> Client for SharedClient<'_, N, R> {
     }
 
     fn operate(&mut self, ask: Operate) -> Result<u64, OpNo> {
-        let answer = operated(self.caches.cacher, ask, &mut self.told);
+        let answer = operated(self.caches.cacher, ask, &mut self.told, &mut self.author);
         let _known = self.told.shown();
         answer
     }
@@ -210,13 +251,15 @@ fn operated<N: LogFacts, R: Wait + Copy>(
     cacher: &Cacher<N, R>,
     ask: Operate,
     told: &mut Pass<N>,
+    author: &mut Author<N>,
 ) -> Result<u64, OpNo>
     ensures learns { Learns told.old told.new }
     ensures reply { IsOperationReply told.old ask result told.new }
+    ensures author { author.new ≡ commanded ask result author.old }
 {
     match ask {
-        Operate::Cut => cacher.write_door.door.drop_feeds(told),
-        Operate::Compact { at } => cacher.write_door.door.compact(at, told),
+        Operate::Cut => cacher.write_door.door.drop_feeds(told, author),
+        Operate::Compact { at } => cacher.write_door.door.compact(at, told, author),
         Operate::Restart => Ok(cacher.restart(told)?),
         Operate::Disconnect => Ok(told.floor()),
     }

@@ -1,5 +1,6 @@
 //! How one of many clients asks the caches: each call is one section under the lock of one cache, or of the store.
 
+ghost use Rattle.rev_front.specs.Passes.{last_of};
 ghost use Rattle.std.specs.Prelude.{◌≡◌, ◌≤◌, IfOk, IfErr, IfSome};
 ghost use Rattle.up_api.specs.Sections.{Learns};
 ghost use Rattle.select_all.specs.declared.selection.Selection.{Selection as SelectionData};
@@ -145,7 +146,7 @@ impl<N: LogFacts, R: Wait + Copy> SharedCaches<'_, N, R> {
         turn: Turn,
     ) -> Result<Took, Memory>
         requires max { 1 ≤ turn.max }
-        requires loaded { told.old.last ≤ told.old.shown }
+        requires loaded { last_of told.old ≤ told.old.shown }
         ensures learns { Learns told.old told.new }
         ensures turn { IfOk result (λ took. IsLoadedTurn N.base N.window told.old (record { selection = selection.now; position = turn.at }) took told.new) }
     {

@@ -30,7 +30,6 @@ pub record StandsAt (stands_for : Log → Type 0) (base : List RowData) (p : Pas
 pub record Learns (p q : Pass RevisionData) : Type 0 where
   pub extends : Extends p q
   pub loads_stay : q.loads ≡ p.loads
-  pub last_stays : q.last ≡ p.last
 
 -- it has seen all that it was told of: the log of the section, whole
 abbrev pub HasSeenAll : Pass RevisionData → Type 0

@@ -1,10 +1,16 @@
 -- Revisions of a peer that follow a log, and the quiet ones between them.
 use Rattle.std.proofs.Common.{◌≡◌, ℕ, ◌+◌, ◌-◌, ◌≤◌, List, [], ◌∷◌, ◌++◌, length, append_assoc, length-append, sym, ap, ◌∙◌, arith}
-use Rattle.rev_front.specs.Passes.{Whole, quiets, revision as reached}
+use Rattle.rev_front.specs.Passes.{Authored, Whole, credited, quiets, revision as reached}
 use Rattle.rev_log.specs.Changes.{RevisionData}
 use Rattle.rev_log.specs.Logs.{quiet_at}
 use Rattle.up_store.specs.Hearing.{AreAscending, extended, filled}
 use Rattle.up_store.proofs.ChangedLemmas.{quiets-length}
+
+-- what an author committed in three steps
+pub credited-thrice : (a : Authored) (x y z n : ℕ) → x + y + z ≡ n → credited (credited (credited a x) y) z ≡ credited a n
+credited-thrice a x y z n is =
+    let all : a.own + x + y + z ≡ a.own + n = omega (arith, is) in
+    ap (λ (k : ℕ). record a { own = k }) all
 
 pub ascending-end : (from : ℕ) (revisions : List RevisionData) (to : ℕ) → AreAscending from revisions to → from ≤ to
 ascending-end from [] to is = is

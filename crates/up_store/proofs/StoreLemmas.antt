@@ -77,7 +77,7 @@ met-log base w p q met = ap (λ (z : ℕ × List RevisionData). record { first =
 
 -- what was learnt, and then more
 pub learns-join : (p m q : Pass RevisionData) → Learns p m → Learns m q → Learns p q
-learns-join p m q one two = record { extends = extends_trans p m q one.extends two.extends; loads_stay = two.loads_stay ∙ one.loads_stay; last_stays = two.last_stays ∙ one.last_stays }
+learns-join p m q one two = record { extends = extends_trans p m q one.extends two.extends; loads_stay = two.loads_stay ∙ one.loads_stay }
 
 -- what a history is made of, of the log as the pass knows it
 pub old-history-told : (base : List RowData) (w : Whole RevisionData) (p q : Pass RevisionData) (resource : Resource) (floor : ℕ) (old : OldHistory) → HasMet w p q → floor ≡ w.floor →

@@ -1,9 +1,10 @@
 -- Refusals of writes, and what accepted ones leave.
 use Rattle.std.proofs.Common.{◌≡◌, ℕ, ◌+◌, ◌^◌, ◌<◌, ◌⊎◌, inl, inr, Bool, false, ◌==◌, cond, List, [], ◌∷◌, Option, Some, None, Ok, Err, refl, sym, ap, ◌∙◌, subst, arith, eq-eqb}
 use Rattle.std.specs.Option.{option_or}
+use Rattle.std.specs.Prelude.{Result, IsErrAnd}
 use Rattle.std.proofs.lemmas.Bool.{ne_eqb}
 use Rattle.kube_meta.specs.Rows.{RowData}
-use Rattle.rev_front.specs.Passes.{Whole, revision}
+use Rattle.rev_front.specs.Passes.{Authored, Whole, revision}
 use Rattle.rev_log.specs.Changes.{ChangeData, RevisionData, HasItsKey, IsRevision}
 use Rattle.rev_log.specs.Logs.{Log, end_of, Fits}
 use Rattle.rev_log.proofs.ChangeLemmas.{IsRevision-single}
@@ -14,8 +15,13 @@ use Rattle.up_store.specs.declared.writes.Written.{Written}
 use Rattle.up_store.specs.declared.writes.WriteAsk.{WriteAsk}
 use Rattle.up_store.specs.declared.writes.WriteNo.{WriteNo}
 use Rattle.up_store.specs.declared.writes.WriteNo.TheVariants.{Exists, Absent, Stale, UsedUp, ReadOnly, Memory}
-use Rattle.up_store.specs.Stores.{log_in, accepted}
+use Rattle.up_store.specs.Stores.{log_in, accepted, paid}
 use Rattle.up_store.specs.Writes.{fault_at, fault_of, used_up, refusal_of, row_before, change_of, write_of, IsPrepared, IsWriteAnswer}
+
+-- nothing is paid for what is refused
+pub unpaid : {A E : Type 0} (Q : E → Type 0) (a : Authored) (answer : Result A E) → IsErrAnd answer Q → a ≡ paid answer a
+unpaid Q a (Ok x) h = absurd h
+unpaid Q a (Err fault) h = refl
 
 pub fault-there : (log : Log) (at : ℕ) (ask : WriteAsk) (row : Option RowData) (fault : Option WriteNo) → row ≡ row_before log ask → at ≡ end_of log → fault_at at ask row ≡ fault → fault_of log ask ≡ fault
 fault-there log at ask row fault found end is = ap (λ n. fault_at n ask (row_before log ask)) (sym end) ∙ ap (fault_at at ask) (sym found) ∙ is

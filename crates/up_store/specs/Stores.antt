@@ -1,11 +1,13 @@
 -- What contracts see of a store: its log, and what operations leave of it.
 use Rattle.std.specs.Prelude.{◌≡◌, ℕ, ◌+◌, ◌-◌, ◌^◌, ◌<◌, ◌≤◌, max, Bool, List, [], ◌∷◌, ◌++◌, Result, Ok, Err}
 use Rattle.kube_meta.specs.Rows.{RowData}
-use Rattle.rev_front.specs.Passes.{Pass, Whole, Covers, Extends, revision}
+use Rattle.rev_front.specs.Passes.{Authored, Pass, Whole, Covers, Extends, credited, ordered, revision}
 use Rattle.rev_log.specs.Changes.{RevisionData}
 use Rattle.rev_log.specs.Logs.{Log}
 use Rattle.up_api.specs.Sections.{Knows, HasSeenAll}
 use Rattle.up_store.specs.declared.kept.Kept.{Kept}
+use Rattle.up_store.specs.declared.operations.Operate.{Operate}
+use Rattle.up_store.specs.declared.operations.Operate.TheVariants.{Cut, Compact, Restart, Disconnect}
 use Rattle.up_store.specs.declared.operations.OpNo.{OpNo}
 use Rattle.up_store.specs.declared.operations.OpNo.TheVariants.{Compacted, Future, UsedUp}
 use Rattle.up_store.specs.Kept.{Keeps, floor_within}
@@ -47,6 +49,27 @@ accepted history w r = record w { log = w.log ++ r ∷ []; floor = max w.floor (
 -- the log whose floor has followed the bytes
 abbrev pub trimmed_to : ℕ → Whole RevisionData → Whole RevisionData
 trimmed_to bytes w = record w { floor = max w.floor (floor_within bytes w.log) }
+
+-- what an author has that asked for so many revisions: they are its own where they were accepted, and else none is
+abbrev pub paid_for : {A E : Type 0} → ℕ → Result A E → Authored → Authored
+paid_for n (Ok answer) a = credited a n
+paid_for n (Err fault) a = a
+
+-- the same of one revision
+abbrev pub paid : {A E : Type 0} → Result A E → Authored → Authored
+paid answer a = paid_for 1 answer a
+
+-- what an author has that gave an order
+abbrev pub obeyed : {A E : Type 0} → Result A E → Authored → Authored
+obeyed (Ok answer) a = ordered a
+obeyed (Err fault) a = a
+
+-- what an author has that asked for an operation: a cut or a compaction that was done is an order
+abbrev pub commanded : {E : Type 0} → Operate → Result ℕ E → Authored → Authored
+commanded Cut answer a = obeyed answer a
+commanded (Compact at) answer a = obeyed answer a
+commanded Restart answer a = a
+commanded Disconnect answer a = a
 
 -- it knows the log, its floor and its generation, and was told of nothing else
 abbrev pub KnowsAll : Whole RevisionData → Pass RevisionData → Type 0

@@ -1,12 +1,13 @@
 //! Doors to one store, for many threads.
 
-ghost use Rattle.std.specs.Prelude.{◌≡◌, ◌≤◌, ◌^◌, IfErr, IfOk, true};
-ghost use Rattle.rev_front.specs.Passes.{Whole, pass_from};
+ghost use Rattle.std.specs.Prelude.{◌≡◌, ◌-◌, ◌≤◌, ◌^◌, length, IfErr, IfOk, true};
+ghost use Rattle.rev_front.specs.Passes.{Whole, ordered, pass_from, whole_right};
 ghost use Rattle.rev_log.specs.Changes.{RevisionData};
 ghost use Rattle.rev_log.specs.States.{IsStateAt};
 ghost use Rattle.up_api.specs.Sections.{log_of, Learns, HasSeenAll, RefusesAt, Sections};
 ghost use Rattle.up_store.specs.Hearing.{AreAscending, IsHearReply, IsFollowReply, IsAnewReply};
 ghost use Rattle.up_store.specs.Replies.{IsWriteReply, IsTransactionReply, IsCutReply, IsCompactionReply};
+ghost use Rattle.up_store.specs.Stores.{obeyed, paid, paid_for};
 ghost use Rattle.up_store.specs.Transacting.{answers_in};
 
 use crate::transacting::share_all;
@@ -14,6 +15,7 @@ use crate::writing::share;
 use crate::{HearNo, OpNo, Store, Transaction, TxWriteNo, WriteAsk, WriteNo, Written};
 use kube_meta::{Memory, Resource, Row};
 use obj_tree::Snapshot;
+use rev_front::Author;
 use rev_log::Revision;
 use std::alloc::Global;
 use std::sync::{Arc, Mutex, Wait};
@@ -50,51 +52,71 @@ impl<N: LogFacts, R: Wait + Copy> StoreDoor<N, R> {
     }
 
     /// Bounds the bytes that the revisions above the floor carry: from now on the floor follows behind each change, in
-    /// the same section. The last revision with changes stays.
-    pub fn bound_bytes(&self, bytes: u64) {
+    /// the same section. The last revision with changes stays. It is an order of this author.
+    pub fn bound_bytes(&self, bytes: u64, author: &mut Author<N>)
+        ensures { author.new ≡ ordered author.old }
+    {
         let mut store = self.store.lock(&self.rt);
-        store.bound_bytes(bytes);
+        store.bound_bytes(bytes, author);
         store.trim();
     }
 
     /// Makes a write, if nothing refuses it; the first refusal that holds is answered. The object is copied before the
     /// lock is taken.
-    pub fn write(&self, ask: &WriteAsk, told: &mut Pass<N>) -> Result<Written, WriteNo>
+    pub fn write(
+        &self,
+        ask: &WriteAsk,
+        told: &mut Pass<N>,
+        author: &mut Author<N>,
+    ) -> Result<Written, WriteNo>
         ensures learns { Learns told.old told.new }
         ensures section { HasSeenAll told.new }
         ensures reply { IsWriteReply N.base N.mirror told.old ask.now result told.new }
+        ensures author { author.new ≡ paid result author.old }
     {
         let shared = share(self.alloc, ask);
         let mut store = self.store.lock(&self.rt);
-        let answer = store.write_shared(ask, shared, told);
+        let answer = store.write_shared(ask, shared, told, author);
         store.trim();
         answer
     }
 
     /// Makes a transaction: all its writes at one revision, or none of them. The answers stand in the order of the
     /// writes. The objects are copied before the lock is taken.
-    pub fn transact(&self, ask: &Transaction, told: &mut Pass<N>) -> Result<Vec<Written>, TxWriteNo>
+    pub fn transact(
+        &self,
+        ask: &Transaction,
+        told: &mut Pass<N>,
+        author: &mut Author<N>,
+    ) -> Result<Vec<Written>, TxWriteNo>
         ensures learns { Learns told.old told.new }
         ensures section { HasSeenAll told.new }
         ensures reply { IsTransactionReply N.base N.mirror told.old ask.now (answers_in result) told.new }
+        ensures author { author.new ≡ paid result author.old }
     {
         let shared = share_all(self.alloc, ask.items());
         let mut store = self.store.lock(&self.rt);
-        let answer = store.transact_shared(ask, shared, told);
+        let answer = store.transact_shared(ask, shared, told, author);
         store.trim();
         answer
     }
 
     /// Adds a revision of the peer's log, which is a mirror's next one, and answers its number.
-    pub fn hear(&self, revision: Revision, told: &mut Pass<N>) -> Result<u64, HearNo>
+    pub fn hear(
+        &self,
+        revision: Revision,
+        told: &mut Pass<N>,
+        author: &mut Author<N>,
+    ) -> Result<u64, HearNo>
         requires mirror { N.mirror ≡ true }
         requires last { revision.rev ≤ 2 ^ 62 }
         ensures learns { Learns told.old told.new }
         ensures section { HasSeenAll told.new }
         ensures reply { IsHearReply N.base told.old revision result told.new }
+        ensures author { author.new ≡ paid result author.old }
     {
         let mut store = self.store.lock(&self.rt);
-        let answer = store.hear_next(revision, told);
+        let answer = store.hear_next(revision, told, author);
         store.trim();
         answer
     }
@@ -108,6 +130,7 @@ impl<N: LogFacts, R: Wait + Copy> StoreDoor<N, R> {
         revisions: Vec<Revision>,
         to: u64,
         told: &mut Pass<N>,
+        author: &mut Author<N>,
     ) -> Result<u64, HearNo>
         requires mirror { N.mirror ≡ true }
         requires rising { AreAscending from revisions.items to }
@@ -115,9 +138,10 @@ impl<N: LogFacts, R: Wait + Copy> StoreDoor<N, R> {
         ensures learns { Learns told.old told.new }
         ensures section { HasSeenAll told.new }
         ensures reply { IsFollowReply N.base told.old from revisions.items to result told.new }
+        ensures author { author.new ≡ paid_for (to - from) result author.old }
     {
         let mut store = self.store.lock(&self.rt);
-        let answer = store.follow(from, revisions, to, told);
+        let answer = store.follow(from, revisions, to, told, author);
         store.trim();
         answer
     }
@@ -130,6 +154,7 @@ impl<N: LogFacts, R: Wait + Copy> StoreDoor<N, R> {
         revisions: Vec<Revision>,
         to: u64,
         told: &mut Pass<N>,
+        author: &mut Author<N>,
     ) -> Result<u64, HearNo>
         requires mirror { N.mirror ≡ true }
         requires rising { AreAscending from revisions.items to }
@@ -137,28 +162,43 @@ impl<N: LogFacts, R: Wait + Copy> StoreDoor<N, R> {
         ensures learns { Learns told.old told.new }
         ensures section { HasSeenAll told.new }
         ensures reply { IsAnewReply N.base told.old from revisions.items to result told.new }
+        ensures author { author.new ≡ paid_for (to - from) result author.old }
     {
         self.store
             .lock(&self.rt)
-            .begin_anew(from, revisions, to, told)
+            .begin_anew(from, revisions, to, told, author)
     }
 
     /// Cuts all feeds: their next polls are refused. Answers the new generation of feeds.
-    pub fn drop_feeds(&self, told: &mut Pass<N>) -> Result<u64, OpNo>
+    pub fn drop_feeds(&self, told: &mut Pass<N>, author: &mut Author<N>) -> Result<u64, OpNo>
         ensures learns { Learns told.old told.new }
         ensures section { HasSeenAll told.new }
         ensures reply { IsCutReply told.old result told.new }
+        ensures author { author.new ≡ obeyed result author.old }
     {
-        self.store.lock(&self.rt).drop_feeds(told)
+        self.store.lock(&self.rt).drop_feeds(told, author)
     }
 
     /// Compacts the log: states and feeds below the revision `at` are refused from then on. Answers the floor.
-    pub fn compact(&self, at: u64, told: &mut Pass<N>) -> Result<u64, OpNo>
+    pub fn compact(&self, at: u64, told: &mut Pass<N>, author: &mut Author<N>) -> Result<u64, OpNo>
         ensures learns { Learns told.old told.new }
         ensures section { HasSeenAll told.new }
         ensures reply { IsCompactionReply at told.old result told.new }
+        ensures author { author.new ≡ obeyed result author.old }
     {
-        self.store.lock(&self.rt).compact(at, told)
+        self.store.lock(&self.rt).compact(at, told, author)
+    }
+
+    /// Tells a pass the whole log, and shows that the author that has all parts of the right to commit has committed
+    /// all of it, and no other more than there is.
+    pub fn audit(&self, told: &mut Pass<N>, author: &mut Author<N>)
+        ensures learns { Learns told.old told.new }
+        ensures section { HasSeenAll told.new }
+        ensures author { author.new ≡ author.old }
+        ensures within { author.old.own ≤ length told.new.seen }
+        ensures all { author.old.parts ≡ whole_right → author.old.own ≡ length told.new.seen }
+    {
+        self.store.lock(&self.rt).audit(told, author)
     }
 
     /// A pass that knows the whole log.

@@ -1,13 +1,13 @@
 //! The store of a mirror: its log begins with pods, and its revisions come from a peer.
 
-ghost use Rattle.std.specs.Prelude.{◌≡◌, ◌+◌, ◌^◌, ◌<◌, ◌≤◌, All, IfOk, true};
+ghost use Rattle.std.specs.Prelude.{◌≡◌, ◌+◌, ◌-◌, ◌^◌, ◌<◌, ◌≤◌, All, IfOk, true};
 ghost use Rattle.kube_meta.specs.Rows.{AreRising};
-ghost use Rattle.rev_front.specs.Passes.{Covers, empty_log, revision as reached};
+ghost use Rattle.rev_front.specs.Passes.{Covers, empty_log, idle_author, revision as reached, whole_right};
 ghost use Rattle.rev_log.specs.Logs.{Fits};
 ghost use Rattle.up_api.specs.Sections.{Learns};
 ghost use Rattle.up_store.specs.Hearing.{AreAscending, IsHeard, IsHearAnswer, IsHearReply, IsAddAnswer, IsFollowAnswer, IsFollowReply, IsAnewAnswer, IsAnewReply, extended, filled};
 ghost use Rattle.up_store.specs.Kept.{Keeps};
-ghost use Rattle.up_store.specs.Stores.{KnowsAll, log_in, usual_bytes};
+ghost use Rattle.up_store.specs.Stores.{KnowsAll, log_in, paid, paid_for, usual_bytes};
 
 use crate::Store;
 use crate::committing::{commit, put_all, raise};
@@ -15,7 +15,7 @@ use crate::kept::Kept;
 use crate::revisions::{SharedRevision, shared};
 use crate::store::meet;
 use kube_meta::{Memory, Row};
-use rev_front::{Blank, Pen};
+use rev_front::{Author, Blank, Pen};
 use rev_log::Revision;
 use std::alloc::Global;
 use up_api::{LogFacts, Pass};
@@ -47,20 +47,26 @@ impl<N: LogFacts> Store<N> {
         blank: Blank<Revision>,
         rows: Vec<Row>,
         history: u64,
-    ) -> Result<Store<N>, Memory>
+    ) -> Result<(Store<N>, Author<N>), Memory>
         requires name { blank ≡ N.log }
         requires base { N.base ≡ rows.items }
         requires mirror { N.mirror ≡ true }
         requires rising { AreRising rows.items }
         requires old { All (λ row. row.rev ≤ blank.first) rows.items }
         requires history { 1 ≤ history }
-        ensures { IfOk result (λ store. store ≡ record { whole = empty_log N.log.first; history = history; bytes = usual_bytes; reads = 0 }) }
+        ensures store { IfOk result (λ r. r.0 ≡ record { whole = empty_log N.log.first; history = history; bytes = usual_bytes; reads = 0 }) }
+        ensures author { IfOk result (λ r. r.1 ≡ idle_author whole_right) }
     {
         Store::open(alloc, blank, rows, true, history)
     }
 
     /// Adds the next revision of the peer's log, and answers its number.
-    pub fn hear(&mut self, revision: Revision, told: &mut Pass<N>) -> Result<u64, Memory>
+    pub fn hear(
+        &mut self,
+        revision: Revision,
+        told: &mut Pass<N>,
+        author: &mut Author<N>,
+    ) -> Result<u64, Memory>
         requires mirror { N.mirror ≡ true }
         requires next { revision.rev ≡ reached self.old.whole + 1 }
         requires last { revision.rev ≤ 2 ^ 62 }
@@ -69,12 +75,14 @@ impl<N: LogFacts> Store<N> {
         ensures tells { KnowsAll self.new.whole told.new }
         ensures answer { IsHearAnswer self.old.history revision self.old.whole self.new.whole result }
         ensures reply { IfOk result (λ rev. IsHeard N.base told.old revision rev told.new) }
+        ensures author { author.new ≡ paid result author.old }
         ensures rest { self.new ≡ record self.old { whole = self.new.whole } }
     {
         meet(&mut self.pen, told);
         let answer = append(
             self.alloc,
             &mut self.pen,
+            author,
             &mut self.kept,
             self.history,
             revision,
@@ -84,7 +92,12 @@ impl<N: LogFacts> Store<N> {
     }
 
     /// Adds a revision of the peer's log, if it is the next one.
-    pub fn hear_next(&mut self, revision: Revision, told: &mut Pass<N>) -> Result<u64, HearNo>
+    pub fn hear_next(
+        &mut self,
+        revision: Revision,
+        told: &mut Pass<N>,
+        author: &mut Author<N>,
+    ) -> Result<u64, HearNo>
         requires mirror { N.mirror ≡ true }
         requires last { revision.rev ≤ 2 ^ 62 }
         ensures covered { Covers self.old.whole told.old }
@@ -92,6 +105,7 @@ impl<N: LogFacts> Store<N> {
         ensures tells { KnowsAll self.new.whole told.new }
         ensures answer { IsHearAnswer self.old.history revision self.old.whole self.new.whole result }
         ensures reply { IsHearReply N.base told.old revision result told.new }
+        ensures author { author.new ≡ paid result author.old }
         ensures rest { self.new ≡ record self.old { whole = self.new.whole } }
     {
         let at = self.pen.revision();
@@ -99,7 +113,7 @@ impl<N: LogFacts> Store<N> {
             meet(&mut self.pen, told);
             return Err(HearNo::Passed { at });
         }
-        match self.hear(revision, told) {
+        match self.hear(revision, told, author) {
             Ok(rev) => Ok(rev),
             Err(_) => Err(HearNo::Memory),
         }
@@ -115,6 +129,7 @@ impl<N: LogFacts> Store<N> {
         revisions: Vec<Revision>,
         to: u64,
         told: &mut Pass<N>,
+        author: &mut Author<N>,
     ) -> Result<u64, HearNo>
         requires mirror { N.mirror ≡ true }
         requires rising { AreAscending from revisions.items to }
@@ -124,12 +139,14 @@ impl<N: LogFacts> Store<N> {
         ensures tells { KnowsAll self.new.whole told.new }
         ensures answer { IsFollowAnswer self.old.history from revisions.items to self.old.whole self.new.whole result }
         ensures reply { IsFollowReply N.base told.old from revisions.items to result told.new }
+        ensures author { author.new ≡ paid_for (to - from) result author.old }
         ensures rest { self.new ≡ record self.old { whole = self.new.whole } }
     {
         meet(&mut self.pen, told);
         let answer = append_following(
             self.alloc,
             &mut self.pen,
+            author,
             &mut self.kept,
             self.history,
             from,
@@ -148,6 +165,7 @@ impl<N: LogFacts> Store<N> {
         revisions: Vec<Revision>,
         to: u64,
         told: &mut Pass<N>,
+        author: &mut Author<N>,
     ) -> Result<u64, HearNo>
         requires mirror { N.mirror ≡ true }
         requires rising { AreAscending from revisions.items to }
@@ -157,12 +175,14 @@ impl<N: LogFacts> Store<N> {
         ensures tells { KnowsAll self.new.whole told.new }
         ensures answer { IsAnewAnswer from revisions.items to self.old.whole self.new.whole result }
         ensures reply { IsAnewReply N.base told.old from revisions.items to result told.new }
+        ensures author { author.new ≡ paid_for (to - from) result author.old }
         ensures rest { self.new ≡ record self.old { whole = self.new.whole } }
     {
         meet(&mut self.pen, told);
         let answer = append_anew(
             self.alloc,
             &mut self.pen,
+            author,
             &mut self.kept,
             from,
             revisions,
@@ -177,6 +197,7 @@ impl<N: LogFacts> Store<N> {
 fn append<N: LogFacts>(
     alloc: Global,
     pen: &mut Pen<Revision, N>,
+    author: &mut Author<N>,
     kept: &mut Kept,
     history: u64,
     revision: Revision,
@@ -187,12 +208,13 @@ fn append<N: LogFacts>(
     requires keeps { Keeps (log_in N.base pen.old) pen.old.floor kept.old }
     ensures answer { IsHearAnswer history revision pen.old pen.new result }
     ensures keeps { Keeps (log_in N.base pen.new) pen.new.floor kept.new }
+    ensures author { author.new ≡ paid result author.old }
     ensures generation { pen.new.gen ≡ pen.old.gen }
 {
     let rev = revision.rev;
     let entry = SharedRevision::new(alloc, revision)?;
     kept.reserve(1)?;
-    let _ = commit(pen, kept, history, entry);
+    let _ = commit(pen, author, kept, history, entry);
     Ok(rev)
 }
 
@@ -200,6 +222,7 @@ fn append<N: LogFacts>(
 fn append_all<N: LogFacts>(
     alloc: Global,
     pen: &mut Pen<Revision, N>,
+    author: &mut Author<N>,
     kept: &mut Kept,
     from: u64,
     revisions: Vec<Revision>,
@@ -210,6 +233,7 @@ fn append_all<N: LogFacts>(
     requires keeps { Keeps (log_in N.base pen.old) pen.old.floor kept.old }
     ensures answer { IsAddAnswer from to pen.old (extended pen.old (filled from revisions.items to) pen.old.floor) pen.new result }
     ensures keeps { Keeps (log_in N.base pen.new) pen.new.floor kept.new }
+    ensures author { author.new ≡ paid_for (to - from) result author.old }
     ensures generation { pen.new.gen ≡ pen.old.gen }
 {
     let at = pen.revision();
@@ -218,7 +242,7 @@ fn append_all<N: LogFacts>(
     }
     let entries = shared(alloc, revisions)?;
     kept.reserve(entries.len())?;
-    put_all(pen, kept, entries, to);
+    put_all(pen, author, kept, entries, to);
     Ok(to)
 }
 
@@ -226,6 +250,7 @@ fn append_all<N: LogFacts>(
 fn append_following<N: LogFacts>(
     alloc: Global,
     pen: &mut Pen<Revision, N>,
+    author: &mut Author<N>,
     kept: &mut Kept,
     history: u64,
     from: u64,
@@ -237,9 +262,10 @@ fn append_following<N: LogFacts>(
     requires keeps { Keeps (log_in N.base pen.old) pen.old.floor kept.old }
     ensures answer { IsFollowAnswer history from revisions.items to pen.old pen.new result }
     ensures keeps { Keeps (log_in N.base pen.new) pen.new.floor kept.new }
+    ensures author { author.new ≡ paid_for (to - from) result author.old }
     ensures generation { pen.new.gen ≡ pen.old.gen }
 {
-    let end = append_all(alloc, pen, kept, from, revisions, to)?;
+    let end = append_all(alloc, pen, author, kept, from, revisions, to)?;
     let floor = pen.floor().max(kept.floor_behind(history));
     let _ = raise(pen, kept, floor);
     Ok(end)
@@ -249,6 +275,7 @@ fn append_following<N: LogFacts>(
 fn append_anew<N: LogFacts>(
     alloc: Global,
     pen: &mut Pen<Revision, N>,
+    author: &mut Author<N>,
     kept: &mut Kept,
     from: u64,
     revisions: Vec<Revision>,
@@ -259,9 +286,10 @@ fn append_anew<N: LogFacts>(
     requires keeps { Keeps (log_in N.base pen.old) pen.old.floor kept.old }
     ensures answer { IsAnewAnswer from revisions.items to pen.old pen.new result }
     ensures keeps { Keeps (log_in N.base pen.new) pen.new.floor kept.new }
+    ensures author { author.new ≡ paid_for (to - from) result author.old }
     ensures generation { pen.new.gen ≡ pen.old.gen }
 {
-    let end = append_all(alloc, pen, kept, from, revisions, to)?;
+    let end = append_all(alloc, pen, author, kept, from, revisions, to)?;
     let _ = raise(pen, kept, end);
     Ok(end)
 }

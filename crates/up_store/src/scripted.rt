@@ -5,12 +5,15 @@ ghost use Rattle.up_api.specs.Sections.{Learns, HasSeenAll};
 
 use crate::Store;
 use kube_meta::{Memory, Resource, Row};
+use rev_front::Author;
 use up_api::{Feed, History, LogFacts, Pass, Polled, UpNo, Upstream};
 
 /// An upstream that cuts all feeds, and compacts, just before given polls.
 #[derive(Drop)]
 pub struct ScriptedStore<N: LogFacts> {
     store: Store<N>,
+    // Whose orders the cuts and compactions are.
+    author: Author<N>,
     // The polls, counted from 0, before which all feeds are cut.
     cuts: Vec<u64>,
     // The polls before which the log is compacted, and at which revision.
@@ -20,13 +23,14 @@ pub struct ScriptedStore<N: LogFacts> {
 }
 
 impl<N: LogFacts> ScriptedStore<N> {
-    /// Cuts all feeds of this store just before the polls with these numbers, counted from 0.
-    pub fn new(store: Store<N>, cuts: Vec<u64>) -> ScriptedStore<N>
+    /// Cuts all feeds of this store just before the polls with these numbers, counted from 0, by order of this author.
+    pub fn new(store: Store<N>, author: Author<N>, cuts: Vec<u64>) -> ScriptedStore<N>
         ensures { result.store ≡ store }
     {
         let compactions = Vec::new(store.alloc);
         ScriptedStore {
             store,
+            author,
             cuts,
             compactions,
             polls: 0,
@@ -50,19 +54,26 @@ impl<N: LogFacts> ScriptedStore<N> {
 }
 
 // Cuts all feeds, if this poll is listed.
-fn cut_before<N: LogFacts>(store: &mut Store<N>, cuts: &[u64], poll: u64, told: &mut Pass<N>)
+fn cut_before<N: LogFacts>(
+    store: &mut Store<N>,
+    author: &mut Author<N>,
+    cuts: &[u64],
+    poll: u64,
+    told: &mut Pass<N>,
+)
     ensures learns { Learns told.old told.new }
     ensures seen { HasSeenAll told.new }
 {
     store.tell(told);
     if cuts.contains(&poll) {
-        let _ = store.drop_feeds(told);
+        let _ = store.drop_feeds(told, author);
     }
 }
 
 // Compacts the log at the revisions that are listed with this poll.
 fn compact_before<N: LogFacts>(
     store: &mut Store<N>,
+    author: &mut Author<N>,
     list: &[(u64, u64)],
     poll: u64,
     told: &mut Pass<N>,
@@ -73,7 +84,7 @@ fn compact_before<N: LogFacts>(
 {
     for (listed, at) in list {
         if *listed == poll {
-            let _ = store.compact(*at, told);
+            let _ = store.compact(*at, told, author);
         }
     }
 }
@@ -101,8 +112,20 @@ impl<N: LogFacts> Upstream<N> for ScriptedStore<N> {
     }
 
     fn poll(&mut self, feed: &mut Feed, max: usize, told: &mut Pass<N>) -> Result<Polled, UpNo> {
-        cut_before(&mut self.store, &self.cuts, self.polls, told);
-        compact_before(&mut self.store, &self.compactions, self.polls, told);
+        cut_before(
+            &mut self.store,
+            &mut self.author,
+            &self.cuts,
+            self.polls,
+            told,
+        );
+        compact_before(
+            &mut self.store,
+            &mut self.author,
+            &self.compactions,
+            self.polls,
+            told,
+        );
         self.polls = self.polls.saturating_add(1);
         self.store.poll(feed, max, told)
     }

@@ -1,19 +1,19 @@
 //! The store.
 
-ghost use Rattle.std.specs.Prelude.{◌≡◌, ◌≤◌, ◌^◌, [], false, IfOk};
+ghost use Rattle.std.specs.Prelude.{◌≡◌, ◌≤◌, ◌^◌, [], false, length, IfOk};
 ghost use Rattle.kube_meta.specs.Rows.{AreRising};
-ghost use Rattle.rev_front.specs.Passes.{Covers, IsWhole, empty_log, pass_from, revision};
+ghost use Rattle.rev_front.specs.Passes.{Covers, IsWhole, empty_log, idle_author, ordered, pass_from, revision, whole_right};
 ghost use Rattle.rev_log.specs.Logs.{Fits};
 ghost use Rattle.up_api.specs.Sections.{Learns};
 ghost use Rattle.up_store.specs.Replies.{IsCutReply, IsCompactionReply};
-ghost use Rattle.up_store.specs.Stores.{HasMet, KnowsAll, trimmed_to, usual_bytes, IsCutAnswer, IsCompactionAnswer};
+ghost use Rattle.up_store.specs.Stores.{HasMet, KnowsAll, obeyed, trimmed_to, usual_bytes, IsCutAnswer, IsCompactionAnswer};
 
 use crate::OpNo;
 use crate::committing::{compact, cut, raise};
 use crate::kept::Kept;
 use crate::tables::Tables;
 use kube_meta::{Memory, Row};
-use rev_front::{Blank, Pen, start};
+use rev_front::{Author, Blank, Pen, start};
 use rev_log::Revision;
 use std::alloc::Global;
 use std::collections::VecDeque;
@@ -55,35 +55,41 @@ impl<N: LogFacts> Model for Store<N> {
 }
 
 impl<N: LogFacts> Store<N> {
-    /// The store of a new log, whose floor follows its end `history` revisions behind.
-    pub fn new(alloc: Global, blank: Blank<Revision>, history: u64) -> Result<Store<N>, Memory>
+    /// The store of a new log, whose floor follows its end `history` revisions behind, and the right to commit to it.
+    pub fn new(
+        alloc: Global,
+        blank: Blank<Revision>,
+        history: u64,
+    ) -> Result<(Store<N>, Author<N>), Memory>
         requires name { blank ≡ N.log }
         requires base { N.base ≡ [] }
         requires own { N.mirror ≡ false }
         requires history { 1 ≤ history }
-        ensures { IfOk result (λ store. store ≡ record { whole = empty_log N.log.first; history = history; bytes = usual_bytes; reads = 0 }) }
+        ensures store { IfOk result (λ r. r.0 ≡ record { whole = empty_log N.log.first; history = history; bytes = usual_bytes; reads = 0 }) }
+        ensures author { IfOk result (λ r. r.1 ≡ idle_author whole_right) }
     {
         Store::open(alloc, blank, Vec::new(alloc), false, history)
     }
 
-    // The store of a new log that begins with these pods.
+    // The store of a new log that begins with these pods, and the right to commit to it.
     pub(crate) fn open(
         alloc: Global,
         blank: Blank<Revision>,
         pods: Vec<Row>,
         mirror: bool,
         history: u64,
-    ) -> Result<Store<N>, Memory>
+    ) -> Result<(Store<N>, Author<N>), Memory>
         requires name { blank ≡ N.log }
         requires base { N.base ≡ pods.items }
         requires rising { AreRising pods.items }
         requires mirror { mirror ≡ N.mirror }
         requires history { 1 ≤ history }
-        ensures { IfOk result (λ store. store ≡ record { whole = empty_log N.log.first; history = history; bytes = usual_bytes; reads = 0 }) }
+        ensures store { IfOk result (λ r. r.0 ≡ record { whole = empty_log N.log.first; history = history; bytes = usual_bytes; reads = 0 }) }
+        ensures author { IfOk result (λ r. r.1 ≡ idle_author whole_right) }
     {
         let floor_rows = Tables::of_pods(alloc, pods)?;
         let last_rows = floor_rows.copy()?;
-        let pen: Pen<Revision, N> = start(blank);
+        let (pen, author): (Pen<Revision, N>, Author<N>) = start(blank);
         let first = pen.revision();
         let kept = Kept {
             from: first,
@@ -94,7 +100,7 @@ impl<N: LogFacts> Store<N> {
             last_rows,
             last_at: first,
         };
-        Ok(Store {
+        let store = Store {
             alloc,
             pen,
             kept,
@@ -102,7 +108,8 @@ impl<N: LogFacts> Store<N> {
             history,
             bytes: USUAL_BYTES,
             reads: 0,
-        })
+        };
+        Ok((store, author))
     }
 
     /// A pass that knows the whole log.
@@ -123,6 +130,20 @@ impl<N: LogFacts> Store<N> {
         meet(&mut self.pen, told);
     }
 
+    /// Tells a pass the whole log, and shows that the author that has all parts of the right to commit has committed
+    /// all of it, and no other more than there is.
+    pub fn audit(&mut self, told: &mut Pass<N>, author: &mut Author<N>)
+        ensures same { self.new ≡ self.old }
+        ensures learns { Learns told.old told.new }
+        ensures tells { KnowsAll self.new.whole told.new }
+        ensures author { author.new ≡ author.old }
+        ensures within { author.old.own ≤ length told.new.seen }
+        ensures all { author.old.parts ≡ whole_right → author.old.own ≡ length told.new.seen }
+    {
+        meet(&mut self.pen, told);
+        self.pen.audit(author);
+    }
+
     /// The revision that the log has reached.
     pub fn revision(&self) -> u64
         ensures answer { result ≡ revision self.now.whole }
@@ -140,10 +161,12 @@ impl<N: LogFacts> Store<N> {
         self.reads
     }
 
-    /// Bounds the bytes that the revisions above the floor carry, behind each `trim`.
-    pub fn bound_bytes(&mut self, bytes: u64)
-        ensures { self.new ≡ record self.old { bytes = bytes } }
+    /// Bounds the bytes that the revisions above the floor carry, behind each `trim`. It is an order.
+    pub fn bound_bytes(&mut self, bytes: u64, author: &mut Author<N>)
+        ensures bytes { self.new ≡ record self.old { bytes = bytes } }
+        ensures author { author.new ≡ ordered author.old }
     {
+        self.pen.obey(author);
         self.bytes = bytes;
     }
 
@@ -157,32 +180,39 @@ impl<N: LogFacts> Store<N> {
     }
 
     /// Cuts all feeds: their next polls are refused. Answers the new generation of feeds. It takes no memory.
-    pub fn drop_feeds(&mut self, told: &mut Pass<N>) -> Result<u64, OpNo>
+    pub fn drop_feeds(&mut self, told: &mut Pass<N>, author: &mut Author<N>) -> Result<u64, OpNo>
         ensures covered { Covers self.old.whole told.old }
         ensures learns { Learns told.old told.new }
         ensures tells { KnowsAll self.new.whole told.new }
         ensures answer { IsCutAnswer self.old.whole self.new.whole result }
         ensures reply { IsCutReply told.old result told.new }
+        ensures author { author.new ≡ obeyed result author.old }
         ensures rest { self.new ≡ record self.old { whole = self.new.whole } }
     {
         meet(&mut self.pen, told);
-        let answer = cut(&mut self.pen);
+        let answer = cut(&mut self.pen, author);
         meet(&mut self.pen, told);
         answer
     }
 
     /// Compacts the log: states and feeds below the revision `at` are refused from then on. Answers the floor. That
     /// needs no memory; what falls below the floor is given up as far as there is memory for that.
-    pub fn compact(&mut self, at: u64, told: &mut Pass<N>) -> Result<u64, OpNo>
+    pub fn compact(
+        &mut self,
+        at: u64,
+        told: &mut Pass<N>,
+        author: &mut Author<N>,
+    ) -> Result<u64, OpNo>
         ensures covered { Covers self.old.whole told.old }
         ensures learns { Learns told.old told.new }
         ensures tells { KnowsAll self.new.whole told.new }
         ensures answer { IsCompactionAnswer at self.old.whole self.new.whole result }
         ensures reply { IsCompactionReply at told.old result told.new }
+        ensures author { author.new ≡ obeyed result author.old }
         ensures rest { self.new ≡ record self.old { whole = self.new.whole } }
     {
         meet(&mut self.pen, told);
-        let answer = compact(&mut self.pen, &mut self.kept, at);
+        let answer = compact(&mut self.pen, author, &mut self.kept, at);
         meet(&mut self.pen, told);
         answer
     }

@@ -6,7 +6,7 @@ ghost use Rattle.rev_log.specs.Logs.{Log, end_of};
 ghost use Rattle.up_api.specs.Sections.{Learns};
 ghost use Rattle.up_store.specs.Kept.{Keeps, HasRoom};
 ghost use Rattle.up_store.specs.Replies.{IsTransactionReply};
-ghost use Rattle.up_store.specs.Stores.{KnowsAll, log_in};
+ghost use Rattle.up_store.specs.Stores.{KnowsAll, log_in, paid};
 ghost use Rattle.up_store.specs.Transacting.{first_fault, tx_refusal_of, object_in, answers_in, AreWritten, IsTransactionAnswer, IsTxPrepared};
 ghost use Rattle.up_store.specs.Transactions.{AreTransaction};
 ghost use Rattle.up_store.specs.Writes.{change_of, new_object, IsWritten};
@@ -18,7 +18,7 @@ use crate::store::{LAST, meet};
 use crate::writing::{change, fault, object, share};
 use crate::{Store, Transaction, TxWriteNo, WriteAsk, Written};
 use kube_meta::{Memory, Obj, Row};
-use rev_front::Pen;
+use rev_front::{Author, Pen};
 use rev_log::{Change, Revision};
 use std::alloc::Global;
 use std::sync::Arc;
@@ -31,16 +31,18 @@ impl<N: LogFacts> Store<N> {
         &mut self,
         ask: &Transaction,
         told: &mut Pass<N>,
+        author: &mut Author<N>,
     ) -> Result<Vec<Written>, TxWriteNo>
         ensures covered { Covers self.old.whole told.old }
         ensures learns { Learns told.old told.new }
         ensures tells { KnowsAll self.new.whole told.new }
         ensures answer { IsTransactionAnswer N.base N.mirror self.old.history ask.now self.old.whole self.new.whole (answers_in result) }
         ensures reply { IsTransactionReply N.base N.mirror told.old ask.now (answers_in result) told.new }
+        ensures author { author.new ≡ paid result author.old }
         ensures rest { self.new ≡ record self.old { whole = self.new.whole } }
     {
         let shared = share_all(self.alloc, ask.items());
-        self.transact_shared(ask, shared, told)
+        self.transact_shared(ask, shared, told, author)
     }
 
     /// Makes a transaction whose new objects are shared already, as by `share_all` before a lock is taken, if there was
@@ -50,6 +52,7 @@ impl<N: LogFacts> Store<N> {
         ask: &Transaction,
         shared: Result<Vec<Option<Arc<Obj>>>, Memory>,
         told: &mut Pass<N>,
+        author: &mut Author<N>,
     ) -> Result<Vec<Written>, TxWriteNo>
         requires { IfOk shared (λ new. map object_in new.items ≡ map new_object ask.now) }
         ensures covered { Covers self.old.whole told.old }
@@ -57,12 +60,14 @@ impl<N: LogFacts> Store<N> {
         ensures tells { KnowsAll self.new.whole told.new }
         ensures answer { IsTransactionAnswer N.base N.mirror self.old.history ask.now self.old.whole self.new.whole (answers_in result) }
         ensures reply { IsTransactionReply N.base N.mirror told.old ask.now (answers_in result) told.new }
+        ensures author { author.new ≡ paid result author.old }
         ensures rest { self.new ≡ record self.old { whole = self.new.whole } }
     {
         meet(&mut self.pen, told);
         let answer = accept_all(
             self.alloc,
             &mut self.pen,
+            author,
             &mut self.kept,
             self.mirror,
             self.history,
@@ -90,6 +95,7 @@ pub fn share_all(alloc: Global, asks: &[WriteAsk]) -> Result<Vec<Option<Arc<Obj>
 fn accept_all<N: LogFacts>(
     alloc: Global,
     pen: &mut Pen<Revision, N>,
+    author: &mut Author<N>,
     kept: &mut Kept,
     mirror: bool,
     history: u64,
@@ -101,6 +107,7 @@ fn accept_all<N: LogFacts>(
     requires history { 1 ≤ history }
     requires keeps { Keeps (log_in N.base pen.old) pen.old.floor kept.old }
     ensures answer { IsTransactionAnswer N.base mirror history asks.now pen.old pen.new (answers_in result) }
+    ensures author { author.new ≡ paid result author.old }
     ensures keeps { Keeps (log_in N.base pen.new) pen.new.floor kept.new }
     ensures generation { pen.new.gen ≡ pen.old.gen }
 {
@@ -109,7 +116,7 @@ fn accept_all<N: LogFacts>(
         return Err(TxWriteNo::ReadOnly { at });
     }
     let (answers, revision) = prepare_all(alloc, kept, asks, shared, at)?;
-    let _ = commit(pen, kept, history, revision);
+    let _ = commit(pen, author, kept, history, revision);
     Ok(answers)
 }
 

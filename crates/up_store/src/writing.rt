@@ -6,7 +6,7 @@ ghost use Rattle.rev_log.specs.Logs.{Log, end_of};
 ghost use Rattle.up_api.specs.Sections.{Learns};
 ghost use Rattle.up_store.specs.Kept.{Keeps, HasRoom};
 ghost use Rattle.up_store.specs.Replies.{IsWriteReply};
-ghost use Rattle.up_store.specs.Stores.{KnowsAll, log_in};
+ghost use Rattle.up_store.specs.Stores.{KnowsAll, log_in, paid};
 ghost use Rattle.up_store.specs.Writes.{fault_at, stale_at, change_of, new_object, written_object, refusal_of, IsPrepared, IsWriteAnswer};
 
 use crate::committing::commit;
@@ -16,7 +16,7 @@ use crate::store::{LAST, meet};
 use crate::transactions::{key_of, resource_of};
 use crate::{Store, WriteAsk, WriteNo, Written};
 use kube_meta::{Memory, Obj, Row};
-use rev_front::Pen;
+use rev_front::{Author, Pen};
 use rev_log::{Change, Revision};
 use std::alloc::Global;
 use std::sync::Arc;
@@ -25,16 +25,22 @@ use up_api::{LogFacts, Pass};
 impl<N: LogFacts> Store<N> {
     /// Makes a write, if nothing refuses it; the first refusal that holds is answered. An accepted write is one
     /// revision, which the answer names.
-    pub fn write(&mut self, ask: &WriteAsk, told: &mut Pass<N>) -> Result<Written, WriteNo>
+    pub fn write(
+        &mut self,
+        ask: &WriteAsk,
+        told: &mut Pass<N>,
+        author: &mut Author<N>,
+    ) -> Result<Written, WriteNo>
         ensures covered { Covers self.old.whole told.old }
         ensures learns { Learns told.old told.new }
         ensures tells { KnowsAll self.new.whole told.new }
         ensures answer { IsWriteAnswer N.base N.mirror self.old.history ask.now self.old.whole self.new.whole result }
         ensures reply { IsWriteReply N.base N.mirror told.old ask.now result told.new }
+        ensures author { author.new ≡ paid result author.old }
         ensures rest { self.new ≡ record self.old { whole = self.new.whole } }
     {
         let shared = share(self.alloc, ask);
-        self.write_shared(ask, shared, told)
+        self.write_shared(ask, shared, told, author)
     }
 
     /// Makes a write whose new object is shared already, as by `share` before a lock is taken, if memory allowed it.
@@ -43,6 +49,7 @@ impl<N: LogFacts> Store<N> {
         ask: &WriteAsk,
         shared: Result<Option<Arc<Obj>>, Memory>,
         told: &mut Pass<N>,
+        author: &mut Author<N>,
     ) -> Result<Written, WriteNo>
         requires { IfOk shared (λ new. option_map (λ obj. obj.value) new ≡ new_object ask.now) }
         ensures covered { Covers self.old.whole told.old }
@@ -50,12 +57,14 @@ impl<N: LogFacts> Store<N> {
         ensures tells { KnowsAll self.new.whole told.new }
         ensures answer { IsWriteAnswer N.base N.mirror self.old.history ask.now self.old.whole self.new.whole result }
         ensures reply { IsWriteReply N.base N.mirror told.old ask.now result told.new }
+        ensures author { author.new ≡ paid result author.old }
         ensures rest { self.new ≡ record self.old { whole = self.new.whole } }
     {
         meet(&mut self.pen, told);
         let answer = accept(
             self.alloc,
             &mut self.pen,
+            author,
             &mut self.kept,
             self.mirror,
             self.history,
@@ -83,6 +92,7 @@ pub fn share(alloc: Global, ask: &WriteAsk) -> Result<Option<Arc<Obj>>, Memory>
 fn accept<N: LogFacts>(
     alloc: Global,
     pen: &mut Pen<Revision, N>,
+    author: &mut Author<N>,
     kept: &mut Kept,
     mirror: bool,
     history: u64,
@@ -93,6 +103,7 @@ fn accept<N: LogFacts>(
     requires history { 1 ≤ history }
     requires keeps { Keeps (log_in N.base pen.old) pen.old.floor kept.old }
     ensures answer { IsWriteAnswer N.base mirror history ask.now pen.old pen.new result }
+    ensures author { author.new ≡ paid result author.old }
     ensures keeps { Keeps (log_in N.base pen.new) pen.new.floor kept.new }
     ensures generation { pen.new.gen ≡ pen.old.gen }
 {
@@ -101,7 +112,7 @@ fn accept<N: LogFacts>(
         return Err(WriteNo::ReadOnly { at });
     }
     let (written, revision) = prepare(alloc, kept, ask, shared, at)?;
-    let _ = commit(pen, kept, history, revision);
+    let _ = commit(pen, author, kept, history, revision);
     Ok(written)
 }
 

@@ -144,17 +144,23 @@ where
     }
 }
 
+/// How many clients of a mirror's log there can be at once.
+const CLIENTS: u64 = 1 << 61;
+
 // The caches of a mirror's log, behind their locks.
-fn mirror_cacher<F, R>(setup: Setup<R>, mirror: &Mirror<F, R>) -> Result<Cacher<F, R>, Memory>
+fn mirror_cacher<F, R>(setup: Setup<R>, mirror: &mut Mirror<F, R>) -> Result<Cacher<F, R>, Memory>
 where
     F: LogFacts,
     R: Wait + Copy,
     requires window { F.window ≡ setup.options.settings.window }
     requires range { AreServed setup.options }
 {
+    let Some(mut author) = mirror.author(CLIENTS) else {
+        return Err(Memory);
+    };
     let door = mirror.door()?;
-    door.bound_bytes(bytes_of(setup.options.history_mib));
-    Cacher::new(setup.rt, setup.alloc, door, &setup.options.settings)
+    door.bound_bytes(bytes_of(setup.options.history_mib), &mut author);
+    Cacher::new(setup.rt, setup.alloc, door, author, &setup.options.settings)
 }
 
 // Over these.

@@ -97,10 +97,10 @@ where
     requires range { AreServed setup.options }
 {
     let Setup { rt, alloc, options } = setup;
-    let store = Store::new(alloc, made, options.settings.history)?;
+    let (store, mut author) = Store::new(alloc, made, options.settings.history)?;
     let door = StoreDoor::new(rt, store)?;
-    door.bound_bytes(bytes_of(options.history_mib));
-    Cacher::new(rt, alloc, door, &options.settings)
+    door.bound_bytes(bytes_of(options.history_mib), &mut author);
+    Cacher::new(rt, alloc, door, author, &options.settings)
 }
 
 // Over these.

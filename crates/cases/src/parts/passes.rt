@@ -4,7 +4,7 @@ ghost use Rattle.std.specs.Prelude.{◌≡◌};
 
 use crate::rows::{NO_STEP, Steps, Wording};
 use kube_meta::Memory;
-use rev_front::{Blank, Entry, Front, LogName, Pen, blank, start};
+use rev_front::{Author, Blank, Entry, Front, LogName, Pen, blank, start};
 use std::alloc::Global;
 use std::marker::Brand;
 
@@ -46,13 +46,18 @@ fn run(alloc: Global, step: &str, told: &mut Wording) -> Result<(), Memory> {
 fn run_log<N: LogName>(made: Blank<Note>, step: String, told: &mut Wording) -> Result<(), Memory>
     requires { made ≡ N.log }
 {
-    let mut pen: Pen<Note, N> = start(made);
+    let (mut pen, mut author): (Pen<Note, N>, Author<N>) = start(made);
     let first = pen.front()?;
-    commit_to(&mut pen, 2);
+    commit_to(&mut pen, &mut author, 2);
     match step.as_str() {
-        "one that looked at 2 meets one that has seen up to 6" => meet(&mut pen, first, told),
+        "one that looked at 2 meets one that has seen up to 6" => meet(
+            &mut pen,
+            &mut author,
+            first,
+            told,
+        ),
         "one splits, and the pen learns the other" => learn(&mut pen, first, told),
-        "the pen cuts and compacts" => cut(&mut pen, first, told),
+        "the pen cuts and compacts" => cut(&mut pen, &mut author, first, told),
         _ => {
             told.add(NO_STEP);
             Ok(())
@@ -61,25 +66,26 @@ fn run_log<N: LogName>(made: Blank<Note>, step: String, told: &mut Wording) -> R
 }
 
 // Commits the next entries, up to a revision.
-fn commit_to<N: LogName>(pen: &mut Pen<Note, N>, end: u64) {
+fn commit_to<N: LogName>(pen: &mut Pen<Note, N>, author: &mut Author<N>, end: u64) {
     for _ in 0..6 {
         let next = pen.revision() + 1;
         if next > end || next > LAST {
             return;
         }
-        pen.commit(&Note { number: next });
+        pen.commit(author, &Note { number: next });
     }
 }
 
 fn meet<N: LogName>(
     pen: &mut Pen<Note, N>,
+    author: &mut Author<N>,
     first: Front<Note, N>,
     told: &mut Wording,
 ) -> Result<(), Memory> {
     let mut first = first;
     let mut second = pen.front()?;
     first.look();
-    commit_to(pen, 6);
+    commit_to(pen, author, 6);
     pen.meet(&mut second);
     let _ = first.meet(second);
     tell_pass(&first, told);
@@ -103,12 +109,13 @@ fn learn<N: LogName>(
 
 fn cut<N: LogName>(
     pen: &mut Pen<Note, N>,
+    author: &mut Author<N>,
     first: Front<Note, N>,
     told: &mut Wording,
 ) -> Result<(), Memory> {
     let mut first = first;
     if pen.generation() < LAST {
-        pen.cut();
+        pen.cut(author);
     }
     if pen.floor() <= 2 && pen.revision() >= 2 {
         pen.compact(2);

@@ -7,7 +7,7 @@ use crate::settings::{compactions_of, cuts_of, settings_of};
 use cache_hub::{CatchNo, Caught, Hub};
 use kube_meta::{Memory, Resource, Row};
 use reflect_core::{Pumped, Reflector};
-use rev_front::Blank;
+use rev_front::{Author, Blank};
 use rev_log::Revision;
 use select_all::Selection;
 use std::alloc::Global;
@@ -23,6 +23,7 @@ use watch_lane::LaneOut;
 pub struct Scene<N: LogFacts> {
     store: ScriptedStore<N>,
     pub told: Pass<N>,
+    author: Author<N>,
     pub hub: Hub<N>,
     reflector: Reflector,
 }
@@ -48,7 +49,11 @@ impl<N: LogFacts> Scene<N> {
     {
         let settings = settings_of(line);
         let (cuts, compactions) = (cuts_of(alloc, line)?, compactions_of(alloc, line)?);
-        let mut store = ScriptedStore::new(Store::new(alloc, made, settings.history)?, cuts);
+        let (store, mut author) = Store::new(alloc, made, settings.history)?;
+        let Some(script) = author.split(1) else {
+            return Err(Memory);
+        };
+        let mut store = ScriptedStore::new(store, script, cuts);
         store.also_compact(compactions);
         let mut told = store.store().pass()?;
         let history = store.history(Resource::Pods, &mut told)?;
@@ -56,6 +61,7 @@ impl<N: LogFacts> Scene<N> {
         Ok(Scene {
             store,
             told,
+            author,
             hub,
             reflector: Reflector::with_batch(Resource::Pods, settings.batch),
         })
@@ -63,22 +69,30 @@ impl<N: LogFacts> Scene<N> {
 
     /// A write.
     pub fn write(&mut self, ask: &WriteAsk) -> Result<Written, WriteNo> {
-        self.store.store().write(ask, &mut self.told)
+        self.store
+            .store()
+            .write(ask, &mut self.told, &mut self.author)
     }
 
     /// A transaction.
     pub fn transact(&mut self, transaction: &Transaction) -> Result<Vec<Written>, TxWriteNo> {
-        self.store.store().transact(transaction, &mut self.told)
+        self.store
+            .store()
+            .transact(transaction, &mut self.told, &mut self.author)
     }
 
     /// Cuts all feeds.
     pub fn cut(&mut self) -> Result<u64, OpNo> {
-        self.store.store().drop_feeds(&mut self.told)
+        self.store
+            .store()
+            .drop_feeds(&mut self.told, &mut self.author)
     }
 
     /// Compacts the log.
     pub fn compact(&mut self, at: u64) -> Result<u64, OpNo> {
-        self.store.store().compact(at, &mut self.told)
+        self.store
+            .store()
+            .compact(at, &mut self.told, &mut self.author)
     }
 
     /// The store's pods at a revision.

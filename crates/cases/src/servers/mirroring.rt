@@ -195,6 +195,9 @@ fn serve_opening<'a, R: Host>(
     serve_log::<Brand, R>(made, server, opening, source, redial, told)
 }
 
+/// How many clients of the log there can be at once.
+const CLIENTS: u64 = 1 << 32;
+
 fn serve_log<'a, N: LogFacts + Send + Sync, R: Host>(
     made: Blank<Revision>,
     server: String,
@@ -229,7 +232,10 @@ fn serve_by<'a, N: LogFacts + Send + Sync, R: Host>(
     requires window { N.window ≡ 100 }
 {
     let (alloc, rt) = (redial.alloc, redial.board.rt);
-    let cacher = Cacher::new(rt, alloc, mirror.door()?, &Settings::usual())?;
+    let Some(author) = mirror.author(CLIENTS) else {
+        return Err(Memory);
+    };
+    let cacher = Cacher::new(rt, alloc, mirror.door()?, author, &Settings::usual())?;
     let served = serve_over(server, &cacher, mirror, source, redial, told);
     cacher.close();
     served

@@ -11,7 +11,7 @@ use crate::servers::ends::{CaseListener, StillClock};
 use crate::servers::mirroring::serve_mirrored;
 use kube_meta::Memory;
 use net_front::{Served, serve_open};
-use rev_front::{Blank, blank};
+use rev_front::{Author, Blank, blank};
 use rev_log::Revision;
 use shared_client::Cacher;
 use std::alloc::Global;
@@ -119,6 +119,9 @@ fn serve_new<R: Host>(
     serve_log::<Brand, R>(alloc, board, made, servers, told)
 }
 
+/// How many clients of the log there can be at once.
+const CLIENTS: u64 = 1 << 32;
+
 fn serve_log<N: LogFacts + Send + Sync, R: Host>(
     alloc: Global,
     board: &Board<R>,
@@ -131,9 +134,13 @@ fn serve_log<N: LogFacts + Send + Sync, R: Host>(
     requires own { N.mirror ≡ false }
     requires window { N.window ≡ 100 }
 {
-    let store: Store<N> = Store::new(alloc, made, Settings::usual().history)?;
+    let (store, mut author): (Store<N>, Author<N>) = Store::new(
+        alloc,
+        made,
+        Settings::usual().history,
+    )?;
     let door = StoreDoor::new(board.rt, store)?;
-    let served = serve_again(alloc, board, &door, servers.as_str(), told);
+    let served = serve_again(alloc, board, &door, &mut author, servers.as_str(), told);
     drop(door);
     served
 }
@@ -143,13 +150,14 @@ fn serve_again<N: LogFacts + Send + Sync, R: Host>(
     alloc: Global,
     board: &Board<R>,
     door: &StoreDoor<N, R>,
+    author: &mut Author<N>,
     servers: &str,
     told: &mut Wording,
 ) -> Result<(), Memory>
     requires window { N.window ≡ 100 }
 {
     for server in servers.split("\nserver again") {
-        serve_over(alloc, board, door, server, told)?;
+        serve_over(alloc, board, door, author, server, told)?;
     }
     Ok(())
 }
@@ -159,15 +167,19 @@ fn serve_over<N: LogFacts + Send + Sync, R: Host>(
     alloc: Global,
     board: &Board<R>,
     door: &StoreDoor<N, R>,
+    author: &mut Author<N>,
     server: &str,
     told: &mut Wording,
 ) -> Result<(), Memory>
     requires window { N.window ≡ 100 }
 {
     let settings = Settings::usual();
-    let cacher = Cacher::new(board.rt, alloc, door.again()?, &settings)?;
+    let Some(clients) = author.split(CLIENTS) else {
+        return Err(Memory);
+    };
+    let cacher = Cacher::new(board.rt, alloc, door.again()?, clients, &settings)?;
     let served = serve(alloc, board, server, &cacher, &settings, told);
-    cacher.close();
+    author.merge(cacher.close());
     served
 }
 

@@ -9,7 +9,7 @@ use client_api::Client;
 use edge_io::{MemSink, MemSource};
 use kube_meta::Memory;
 use local_client::LocalClient;
-use rev_front::{Blank, blank};
+use rev_front::{Author, Blank, blank};
 use rev_log::Revision;
 use sess_serve::{SessionEnd, serve_session};
 use shared_client::Cacher;
@@ -172,8 +172,8 @@ fn serve_shared<N: LogFacts, R: Wait + Copy + Drop>(
     requires window { N.window ≡ settings.now.window }
     requires settings { AreInRange settings.now }
 {
-    let store: Store<N> = Store::new(alloc, made, settings.history)?;
-    let cacher = Cacher::new(rt, alloc, StoreDoor::new(rt, store)?, settings)?;
+    let (store, author): (Store<N>, Author<N>) = Store::new(alloc, made, settings.history)?;
+    let cacher = Cacher::new(rt, alloc, StoreDoor::new(rt, store)?, author, settings)?;
     let end = serve_one_of(alloc, &cacher, settings, ends);
     cacher.close();
     end

@@ -1,5 +1,5 @@
 use Rattle.std.proofs.Common.{◌≤◌, ap, length, subst, sym, ◌∙◌, arith}
-use Rattle.rev_front.specs.Passes.{Pass, end_from}
+use Rattle.rev_front.specs.Passes.{Pass, end_from, last_or}
 use Rattle.rev_log.specs.Changes.{RevisionData}
 use Rattle.up_api.specs.Sections.{Learns}
 use Rattle.rev_front.proofs.Passing.{extends_trans}
@@ -21,8 +21,8 @@ returns-clause-answer g c =
     let learns : Learns c.load-reached.new.told q = subst (Learns c.load-reached.new.told) same c.see-seen.ensures.learns in
     metrics_are g.N.LogFacts.base c.args.told.now c.metrics-pods.new.told c.metrics-config_maps.new.told three q c.end.result c.floor.result c.in_ok-generation.generation c.metrics-pods.result c.metrics-config_maps.result c.metrics-deployments.result
     c.metrics-pods.ensures.learns c.metrics-config_maps.ensures.learns c.metrics-deployments.ensures.learns (extends_trans three c.load-reached.new.told q c.load-reached.ensures.onward.extends learns.extends)
-    (omega (arith, c.load-reached.ensures.loaded.0, ap length learns.loads_stay), omega (arith, c.load-reached.ensures.loaded.1, learns.last_stays))
-    (omega (arith, c.load-reached.ensures.last, learns.last_stays, subst (λ (x : Pass RevisionData). c.load-reached.result ≤ end_from x.first x.seen) same c.in_ok-generation.ensures.fresh)) c.end.ensures c.floor.ensures
+    (omega (arith, c.load-reached.ensures.loaded.0, ap length learns.loads_stay), omega (arith, c.load-reached.ensures.loaded.1, ap (last_or 0) learns.loads_stay))
+    (omega (arith, c.load-reached.ensures.last, ap (last_or 0) learns.loads_stay, subst (λ (x : Pass RevisionData). c.load-reached.result ≤ end_from x.first x.seen) same c.in_ok-generation.ensures.fresh)) c.end.ensures c.floor.ensures
     (c.in_ok-generation.ensures.generation ∙ ap (λ (x : Pass RevisionData). x.gen) same)
     c.metrics-pods.ensures.metrics c.metrics-config_maps.ensures.metrics c.metrics-deployments.ensures.metrics
 

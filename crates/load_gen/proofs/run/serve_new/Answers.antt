@@ -12,7 +12,7 @@ returns-clause-figures g c =
     let client = c.in_ok-client.client in
     let after = c.play-played.new.client in
     let end = c.list_all-listed.new.client in
-    figures_told _ _ _ (record { watching = client.watch; heard = client.heard; window = window_of (known_log client.caches client.told); sole_history = Some client.caches.store.history; resources = all_served; operable = true }) c.usual-settings.result (known_log client.caches client.told) (known_log after.caches after.told) c.args.session.items
+    figures_told _ _ _ (record { watching = client.watch; heard = client.heard; did = client.author; window = window_of (known_log client.caches client.told); sole_history = Some client.caches.store.history; resources = all_served; operable = true }) c.usual-settings.result (known_log client.caches client.told) (known_log after.caches after.told) c.args.session.items
     c.args.requests end.told c.play-played.result c.list_all-listed.result c.figures.result
     (record {
       first_is = c.requires.first;

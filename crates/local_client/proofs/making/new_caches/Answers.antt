@@ -33,11 +33,12 @@ returns g c =
     let last = made_is (λ (z : StoreData × Pass RevisionData). (Ok c.pass-told.new.self ≡ Ok z.0) × (c.pass-told.result ≡ Ok z.1)) c.both-2.result (i.store, i.told) rest.1 c.both-2.ensures.made in
     let store : i.store ≡ c.cache-deployments.new.store = sym (made_is (λ (s : StoreData). c.pass-told.new.self ≡ s) (Ok c.pass-told.new.self) i.store last.0 refl) ∙ c.pass-told.ensures.same in
     let whole : c.cache-deployments.new.store.whole ≡ empty_log {E = RevisionData} first =
-    c.cache-deployments.ensures.whole ∙ c.cache-config_maps.ensures.whole ∙ c.cache-pods.ensures.whole ∙ ap (λ (s : StoreData). s.whole) c.in_ok-store.ensures in
+    c.cache-deployments.ensures.whole ∙ c.cache-config_maps.ensures.whole ∙ c.cache-pods.ensures.whole ∙ ap (λ (s : StoreData). s.whole) c.in_ok-store.ensures.store in
     let pass = made_is (λ (p : Pass RevisionData). p ≡ pass_from c.cache-deployments.new.store.whole p.seat) c.pass-told.result i.told last.1 c.pass-told.ensures.pass in
     record {
       log = ap (λ (s : StoreData). s.whole) store ∙ whole;
-      history = ap (λ (s : StoreData). s.history) store ∙ c.cache-deployments.ensures.history ∙ c.cache-config_maps.ensures.history ∙ c.cache-pods.ensures.history ∙ ap (λ (s : StoreData). s.history) c.in_ok-store.ensures;
+      history = ap (λ (s : StoreData). s.history) store ∙ c.cache-deployments.ensures.history ∙ c.cache-config_maps.ensures.history ∙ c.cache-pods.ensures.history ∙ ap (λ (s : StoreData). s.history) c.in_ok-store.ensures.store;
       window = made_is (λ (z : CacheStateData). z.hub.cache.ring.window ≡ c.args.settings.now.window) c.cache-pods.result i.pods two.0 c.cache-pods.ensures.window;
       pass = subst (λ (w : Whole RevisionData). i.told ≡ pass_from w i.told.seat) whole pass;
+      author = c.in_ok-store.ensures.author;
     }

@@ -1,9 +1,9 @@
 -- Quiet revisions are passed over, one more revision is added, and what is left may follow it.
-use Rattle.std.proofs.Common.{◌≡◌, ◌+◌, ◌-◌, ◌∷◌, ◌++◌, ◌∙◌, ap, sym, subst, arith, length}
-use Rattle.rev_front.specs.Passes.{quiets, revision}
+use Rattle.std.proofs.Common.{◌≡◌, ◌+◌, ◌-◌, ◌∷◌, ◌++◌, ◌∙◌, refl, ap, sym, subst, arith, length}
+use Rattle.rev_front.specs.Passes.{credited, quiets, revision}
 use Rattle.rev_log.specs.Logs.{quiet_at}
 use Rattle.up_store.specs.Hearing.{AreAscending, filled}
-use Rattle.up_store.proofs.HearLemmas.{ascending-end, reached-quiet, reached-more, log-more}
+use Rattle.up_store.proofs.HearLemmas.{ascending-end, credited-thrice, reached-quiet, reached-more, log-more}
 use Rattle.up_store.proofs.committing.put_all.Goals as goal
 
 pub loop-revision-init : goal.loop-revision-init
@@ -13,6 +13,7 @@ loop-revision-init g c =
       rising = subst (λ xs. AreAscending (revision c.args.pen.now) xs c.args.to) (sym same) c.requires.rising;
       room = omega (arith, c.requires.room, ap length same);
       log = ap (λ xs. record c.args.pen.now { log = c.args.pen.now.log ++ filled (revision c.args.pen.now) xs c.args.to }) same;
+      author = refl;
       keeps = c.requires.keeps;
     }
 
@@ -52,5 +53,9 @@ loop-revision-preserved g c =
       room = c.put.ensures.room (length c.next.new.self.rest.items) (c.pass_over.ensures.room (length c.next.new.self.rest.items + 1) (omega (arith, c.loop-revision.invariant.room, ap length first)));
       log = log-more c.loop-revision.pen c.pass_over.new.pen c.put.new.pen (record c.args.pen.now { log = c.args.pen.now.log ++ filled (revision c.args.pen.now) c.args.revisions.items c.args.to })
           c.in-Some.revision c.next.new.self.rest.items c.loop-revision.revision-iterator.rest.items c.args.to passed c.put.ensures.log next first c.loop-revision.invariant.log;
+      author = ap (λ a. credited a (c.args.to - revision c.put.new.pen)) (c.put.ensures.author ∙ ap (λ a. credited a 1) c.pass_over.ensures.author)
+          ∙ credited-thrice c.loop-revision.author (c.behind-revision.inside.rev - 1 - revision c.loop-revision.pen) 1 (c.args.to - revision c.put.new.pen) (c.args.to - revision c.loop-revision.pen)
+          (omega (arith, next, number, rising.0, ascending-end c.in-Some.revision.rev c.next.new.self.rest.items c.args.to rising.2))
+          ∙ c.loop-revision.invariant.author;
       keeps = c.put.ensures.keeps;
     }

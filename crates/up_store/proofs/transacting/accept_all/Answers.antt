@@ -3,6 +3,7 @@ use Rattle.std.proofs.Common.{refl}
 use Rattle.std.proofs.lemmas.Result.{err_from_is_err_and}
 use Rattle.rev_front.specs.Passes.{revision}
 use Rattle.up_store.specs.Stores.{log_in}
+use Rattle.up_store.proofs.WriteLemmas.{unpaid}
 use Rattle.up_store.proofs.TransactLemmas.{tx-unprepared, tx-committed, tx-fits}
 use Rattle.up_store.proofs.transacting.accept_all.Goals as goal
 
@@ -30,3 +31,6 @@ returns-clause-answer g c =
     tx-committed g.N.LogFacts.base c.args.mirror c.args.history c.revision-at.result c.args.asks.now c.args.pen.now c.commit.new.pen c.args.kept.now
     c.in_ok-answers.answers.items c.in_ok-answers.revision
     c.if-mirror.false c.commit.ensures.log c.revision-at.ensures.answer c.requires.keeps c.in_ok-answers.ensures.prepared
+
+pub returns-in_err-answers-clause-author : goal.returns-in_err-answers-clause-author
+returns-in_err-answers-clause-author g c = unpaid _ _ _ c.from_residual.ensures.1

@@ -3,7 +3,7 @@ use Rattle.std.proofs.Common.{refl}
 use Rattle.std.proofs.lemmas.Result.{err_from_is_err_and}
 use Rattle.rev_front.specs.Passes.{revision}
 use Rattle.up_store.specs.Stores.{log_in}
-use Rattle.up_store.proofs.WriteLemmas.{unprepared, committed-answer, write-fits}
+use Rattle.up_store.proofs.WriteLemmas.{unpaid, unprepared, committed-answer, write-fits}
 use Rattle.up_store.proofs.writing.accept.Goals as goal
 
 pub returns-in_err-written-clause-answer : goal.returns-in_err-written-clause-answer
@@ -30,3 +30,6 @@ returns-clause-answer g c =
     committed-answer g.N.LogFacts.base c.args.mirror c.args.history c.revision-at.result c.args.ask.now c.args.pen.now c.commit.new.pen c.args.kept.now
     c.in_ok-written.written c.in_ok-written.revision
     c.if-mirror.false c.commit.ensures.log c.revision-at.ensures.answer c.requires.keeps c.in_ok-written.ensures.prepared
+
+pub returns-in_err-written-clause-author : goal.returns-in_err-written-clause-author
+returns-in_err-written-clause-author g c = unpaid _ _ _ c.from_residual.ensures.1

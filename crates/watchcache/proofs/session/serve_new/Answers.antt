@@ -19,7 +19,7 @@ returns-in-Ok g c =
         source = s.3;
         sink = s.4;
         clock = s.5;
-        session = of_new_log _ _ _ (record { watching = client.watch; heard = client.heard; window = window_of (known_log client.caches client.told); sole_history = Some client.caches.store.history; resources = all_served; operable = true }) (known_log client.caches client.told) c.args.settings.now _ _ _ c.requires.first c.requires.base c.requires.own refl refl refl refl c.in-Ok.ensures.log s.6;
+        session = of_new_log _ _ _ (record { watching = client.watch; heard = client.heard; did = client.author; window = window_of (known_log client.caches client.told); sole_history = Some client.caches.store.history; resources = all_served; operable = true }) (known_log client.caches client.told) c.args.settings.now _ _ _ c.requires.first c.requires.base c.requires.own refl refl refl refl c.in-Ok.ensures.log s.6;
         settled = c.serve_session-end.ensures.settled;
         status_is = search rules;
       });

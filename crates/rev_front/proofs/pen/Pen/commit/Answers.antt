@@ -1,4 +1,5 @@
 use Rattle.std.proofs.Common.{◌≡◌, ◌+◌, ℕ, ap, sym, subst, ◌∙◌, arith, refl}
+use Rattle.rev_front.specs.Kept.{Writes}
 use Rattle.rev_front.specs.Passes.{revision}
 use Rattle.rev_front.proofs.Moves.{commit_allowed}
 use Rattle.rev_front.proofs.Handles.{seated, sits_on, commit_writes}
@@ -23,5 +24,6 @@ invariant_of-self g c =
     let e = c.compare_exchange_with.ensures in
     let is = e.2.1 c.args.entry.now refl in (
       sits_on _ _ _ _ _ _ _ c.self.invariant.0 e.0 (ap (λ m. m.1) is),
-      commit_writes _ _ _ _ c.self.inside.seat.me c.compare_exchange_with.new.seat.me c.args.entry.now _ _ _ e.1 is (omega arith) (subst (λ (n : ℕ). g.E.Entry.fits (n + 1) c.args.entry.now) reached c.requires.fits) w,
+      subst (λ (n : ℕ). Writes g.E.Entry.fits g.N.LogName.log.first c.compare_exchange_with.new.seat.id c.compare_exchange_with.new.seat.me.0 (c.self.inside.revision + 1) c.self.inside.generation c.self.inside.floor n) (sym c.add.ensures.total)
+          (commit_writes _ _ _ _ c.self.inside.seat.me c.compare_exchange_with.new.seat.me c.args.entry.now _ _ _ _ e.1 is (omega arith) (subst (λ (n : ℕ). g.E.Entry.fits (n + 1) c.args.entry.now) reached c.requires.fits) w),
     )
