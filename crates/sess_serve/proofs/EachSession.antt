@@ -23,7 +23,7 @@ use Rattle.sess_serve.specs.Answers.{Answer, replied, streamed, gone, begun}
 use Rattle.sess_serve.specs.Each.{Strand, strands, IsStrand, IsEachSession, resource_of, exchanges_of}
 use Rattle.sess_serve.specs.EachServing.{OnlyOf, IsEachRound}
 use Rattle.sess_serve.specs.Ends.{Knows, KnowsAlone}
-use Rattle.sess_serve.specs.Serving.{BeginsWith, Exchanged, exchange_of, RoundIs, Ends}
+use Rattle.sess_serve.specs.Serving.{Account, BeginsWith, Exchanged, account_of, exchange_of, RoundIs, Ends}
 use Rattle.sess_serve.specs.Steps.{Exchange, Step, Run, AreAlone, IsAlone}
 use Rattle.sess_serve.specs.Http.{view_of}
 use Rattle.sess_serve.specs.Texts.{answer_bytes, answer_text}
@@ -253,6 +253,12 @@ module _ (a b c a' b' c' : Strand) (fits_a : Fits a a') (fits_b : Fits b b') (fi
   abbrev own : Strand
   own = now x.resource
 
+  abbrev before : Account
+  before = account_of own.before x.did
+
+  abbrev later : Account
+  later = account_of own.after x.did_then
+
   abbrev Of : Req → Type 0
   Of req = resource_of req ≡ x.resource
 
@@ -265,11 +271,11 @@ module _ (a b c a' b' c' : Strand) (fits_a : Fits a a') (fits_b : Fits b b') (fi
   alike e = text-alike own.terms a.terms (set x.resource) e.request e.answer
 
   abbrev all-passed : Passed first last
-  all-passed = more-passed first mid last loop.passed (round-passed Of own.terms own.whole own.before own.after kept after mid last v w came x.round)
+  all-passed = more-passed first mid last loop.passed (round-passed Of own.terms own.whole before later kept after mid last v w came x.round)
 
-  module _ (y : Exchanged Of own.terms own.whole own.before (kept ++ x.round.taken) after x.round.readings own.after) where
+  module _ (y : Exchanged Of own.terms own.whole before (kept ++ x.round.taken) after x.round.readings later) where
     abbrev e : Exchange
-    e = exchange_of y.request y.given.answer own.after
+    e = exchange_of y.request y.given.answer later
 
     stepped : Stepped own e
     stepped = record {
@@ -289,13 +295,13 @@ module _ (a b c a' b' c' : Strand) (fits_a : Fits a a') (fits_b : Fits b b') (fi
   out-all rest how stopped Deployments = went-out now x.resource x.only c Deployments fits_c loop.sofar.exchanges (loop.went Deployments) rest how stopped
 
   abbrev RoundOf : Option SessionEnd → Type 0
-  RoundOf o = RoundIs Of own.terms own.whole own.before (kept ++ x.round.taken) after x.round.written x.round.readings own.after v w last.left o
+  RoundOf o = RoundIs Of own.terms own.whole before (kept ++ x.round.taken) after x.round.written x.round.readings later v w last.left o
 
   next-by : RoundOf None → EachLoop both first last after (n + 1)
   next-by (y, stays, text) = record {
     passed = all-passed;
     sofar = next a.terms own.terms alike Of own.whole loop.passed.taken loop.passed.written loop.passed.readings kept n loop.sofar x.round.taken x.round.written x.round.readings
-        after own.before own.after y stays text;
+        after before later y stays text;
     went = went-all y;
   }
 
@@ -308,16 +314,16 @@ module _ (a b c a' b' c' : Strand) (fits_a : Fits a a') (fits_b : Fits b b') (fi
       λ how'. IsEachSession both (record { taken = all-passed.taken; written = all-passed.written; readings = all-passed.readings; read_fault = v; write_fault = w; left = last.left }) how' in
       between first last v w (λ traffic. IsEachSession both traffic how) all-passed
       (ends a.terms own.terms alike Of own.whole loop.passed.taken loop.passed.written loop.passed.readings kept n loop.sofar x.round.taken x.round.written x.round.readings
-      after own.before own.after v w last.left Out room
+      after before later v w last.left Out room
       (λ how' y knows alone done. record {
-        exchanges = loop.sofar.exchanges ++ exchange_of y.request y.given.answer own.after ∷ [];
+        exchanges = loop.sofar.exchanges ++ exchange_of y.request y.given.answer later ∷ [];
         rest = after;
         reads = done.reads;
         strand = λ r. went-ends (both r) r (loop.sofar.exchanges ++ e y ∷ []) after how' (went-all y r);
         readings = done.readings;
         ended = done.ended;
       })
-      (λ how' knows asked alone done. record {
+      (λ how' knows asked alone idle done. record {
         exchanges = loop.sofar.exchanges;
         rest = kept ++ x.round.taken;
         reads = done.reads;

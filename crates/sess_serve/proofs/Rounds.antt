@@ -6,8 +6,6 @@ use Rattle.edge_io.specs.Told.{Noted}
 use Rattle.edge_io.specs.declared.clock.Reading.{Reading}
 use Rattle.edge_io.proofs.ToldLemmas.{appended-nil, Noted-nil}
 use Rattle.edge_io.proofs.SentLemmas.{sent_of}
-use Rattle.rev_front.specs.Passes.{Pass}
-use Rattle.rev_log.specs.Changes.{RevisionData}
 use Rattle.http_read.specs.Answers.{AnswersNext, ReadsNext}
 use Rattle.http_read.specs.Readers.{ReaderState}
 use Rattle.http_read.specs.Requests.{ReadsOne, IsRefused}
@@ -23,16 +21,16 @@ use Rattle.sess_reply.specs.declared.broken.Broken.TheVariants as broken
 use Rattle.sess_turns.specs.Terms.{Terms}
 use Rattle.sess_turns.specs.declared.ends.WatchEnd.{WatchEnd}
 use Rattle.sess_serve.specs.Ends.{Begins, SoleMemory}
-use Rattle.sess_serve.specs.Serving.{Given, Exchanged, AnsweredAs, Answered, Ends, IsRound, RoundIs, end_after, IsStopped, StopsAs, RefusalEnds, CountsAt}
+use Rattle.sess_serve.specs.Serving.{Account, Given, Exchanged, AnsweredAs, Answered, Ends, IsRound, RoundIs, end_after, IsStopped, StopsAs, RefusalEnds, CountsAt}
 use Rattle.sess_serve.specs.declared.ends.SessionEnd.{SessionEnd}
 use Rattle.sess_serve.specs.declared.ends.SessionEnd.TheVariants.{Done, Watched, ReadFault, WriteFault, CutShort, Refused, TooMany, Memory}
 
-module _ (Of : Req → Type 0) (terms : Terms) (whole : Type 0) (p q : Pass RevisionData) (old_reader new_reader : ReaderState) (old new : Ends) (f f' : ℕ) (g g' : ℕ) where
+module _ (Of : Req → Type 0) (terms : Terms) (whole : Type 0) (p q : Account) (old_reader new_reader : ReaderState) (old new : Ends) (f f' : ℕ) (g g' : ℕ) where
   -- ---- a request was read and answered
 
   module _ (bytes after written : List ℕ) (readings : List Reading) (req : Req) (is_of : Of req) (reads : ReadsOne bytes req after) where
     -- what was begun for the request is what was begun for the bytes
-    lacking : (q.seen ≡ p.seen) ⊎ IsSomeAnd terms.sole_history (λ history. Begins terms history p req q) → SoleMemory terms p bytes q
+    lacking : (q.pass.seen ≡ p.pass.seen) ⊎ IsSomeAnd terms.sole_history (λ history. Begins terms history p.pass req q.pass) → SoleMemory terms p.pass bytes q.pass
     lacking (inl same) = inl same
     lacking (inr done) = inr (req, after, reads, done)
 
@@ -48,7 +46,7 @@ module _ (Of : Req → Type 0) (terms : Terms) (whole : Type 0) (p q : Pass Revi
     goes s t (Err broken.Fault) close closes (given, begun) counts = (counts, inl (one given, begun))
     goes s t (Err broken.Memory) close closes (inl (given, begun)) counts = inl (one given, begun)
     goes s t (Err broken.Memory) close closes (inr un) counts =
-        inr (inr (record { nothing = un.nothing; unread = un.unread; onward = un.onward; asked = inr (req, after, reads, is_of); sole = λ w. lacking (un.sole w) }))
+        inr (inr (record { nothing = un.nothing; unread = un.unread; onward = un.onward; asked = inr (req, after, reads, is_of); sole = λ w. lacking (un.sole w); did = un.did }))
 
   pub round-answered : (s t : Type 0) (req : Req) (is_of : Of req) (came : Result (Option WatchEnd) Broken) (result : Option SessionEnd)
       → AnswersNext old_reader new_reader old.left new.left f f' (Ok (Some req))
@@ -104,9 +102,10 @@ module _ (Of : Req → Type 0) (terms : Terms) (whole : Type 0) (p q : Pass Revi
         rw is (inr (inr (record {
           nothing = none;
           unread = refl;
-          onward = subst (IsOnward p) same (onwards_do_join.0 p);
-          asked = inl same;
-          sole = λ w. inl (ap (λ (a : Pass RevisionData). a.seen) (sym same));
+          onward = subst (λ (a : Account). IsOnward p.pass a.pass) same (onwards_do_join.0 p.pass);
+          asked = inl (ap (λ (a : Account). a.pass) same);
+          sole = λ w. inl (ap (λ (a : Account). a.pass.seen) (sym same));
+          did = ap (λ (a : Account). a.did) (sym same);
         })))
     stops s t bytes after written req_no.Malformed how reads ends counts = refuses s t bytes after written req_no.Malformed how reads ends counts
     stops s t bytes after written req_no.HeadTooLong how reads ends counts = refuses s t bytes after written req_no.HeadTooLong how reads ends counts

@@ -1,11 +1,12 @@
 -- The answers to requests, as plain data: each has what was asked, and what the client answered.
-use Rattle.std.specs.Prelude.{ℕ, List, [], Bool, true, false}
+use Rattle.std.specs.Prelude.{ℕ, ◌+◌, List, [], Bool, true, false, Ok}
 use Rattle.route_req.specs.declared.documents.Document.TheVariants as document
 use Rattle.edge_io.specs.declared.clock.Reading.{Reading}
-use Rattle.rev_front.specs.Passes.{Pass}
+use Rattle.rev_front.specs.Passes.{Authored, Pass}
 use Rattle.rev_log.specs.Changes.{RevisionData}
 use Rattle.http_read.specs.declared.request.Req.{Req}
 use Rattle.watch_rules.specs.declared.ask.WatchAsk.{WatchAsk}
+use Rattle.up_store.specs.declared.operations.Operate.TheVariants.{Cut, Compact}
 use Rattle.route_req.specs.declared.routing.Routed.TheVariants as routed
 use Rattle.route_req.specs.declared.routing.RouteNo.{RouteNo}
 use Rattle.route_req.specs.declared.routing.RouteNo.TheVariants as route_no
@@ -78,3 +79,14 @@ stream_readings (begun pass turns) = readings_of turns
 abbrev pub answer_readings : Answer → List Reading
 answer_readings (replied reply) = []
 answer_readings (streamed ask stream) = stream_readings stream
+
+-- ---- what the client did
+
+-- what of the log is the client's own doing after an answer, by what was before: an accepted write or transaction is one
+-- revision more, a cut or a compaction that was done one order, and all else nothing
+abbrev pub acted : Answer → Authored → Authored
+acted (replied (wrote ask (Ok written))) did = record did { own = did.own + 1 }
+acted (replied (transacted asks (Ok answers))) did = record did { own = did.own + 1 }
+acted (replied (operated Cut (Ok generation))) did = record did { orders = did.orders + 1 }
+acted (replied (operated (Compact at) (Ok floor))) did = record did { orders = did.orders + 1 }
+acted other did = did

@@ -9,7 +9,7 @@ use Rattle.http_read.specs.Requests.{ReadsOne, IsRefused, IsCutShort, IsUnfinish
 use Rattle.http_read.specs.declared.refusal.ReqNo.{ReqNo}
 use Rattle.http_read.specs.declared.refusal.ReqNo.TheVariants as req_no
 use Rattle.http_read.specs.declared.request.Req.{Req}
-use Rattle.rev_front.specs.Passes.{Pass}
+use Rattle.rev_front.specs.Passes.{Authored, Pass}
 use Rattle.rev_log.specs.Changes.{RevisionData}
 use Rattle.client_api.specs.Facts.{IsOnward}
 use Rattle.sess_reply.specs.Replies.{request_refusal_text}
@@ -21,7 +21,7 @@ use Rattle.sess_turns.specs.Terms.{Terms}
 use Rattle.sess_turns.specs.declared.ends.WatchEnd.{WatchEnd}
 use Rattle.sess_serve.specs.Wire.{Wire}
 use Rattle.sess_serve.specs.Http.{http}
-use Rattle.sess_serve.specs.Answers.{Answer, IsAnswerTo, is_stream, answer_readings}
+use Rattle.sess_serve.specs.Answers.{Answer, IsAnswerTo, acted, is_stream, answer_readings}
 use Rattle.sess_serve.specs.Ends.{Stays, IsClosed, IsWatchEnd, Begins, SoleMemory, UnlessBroken}
 use Rattle.sess_serve.specs.Steps.{Exchange, Says, IsAlone}
 use Rattle.sess_serve.specs.Texts.{answer_bytes}
@@ -30,21 +30,31 @@ use Rattle.sess_serve.specs.declared.ends.SessionEnd.TheVariants.{Done, Watched,
 
 -- ---- one request
 
--- a request has an answer, and q is what is known then
-pub record Given (terms : Terms) (whole : Type 0) (p : Pass RevisionData) (req : Req) (readings : List Reading) (q : Pass RevisionData) : Type 0 where
+-- what is known of the log, and what of it is the client's own doing
+pub record Account : Type 0 where
+  pub pass : Pass RevisionData
+  pub did : Authored
+
+abbrev pub account_of : Pass RevisionData → Authored → Account
+account_of pass did = record { pass = pass; did = did }
+
+-- a request has an answer; then q is known, and the answer tells all that the client did
+pub record Given (terms : Terms) (whole : Type 0) (p : Account) (req : Req) (readings : List Reading) (q : Account) : Type 0 where
   pub answer : Answer
   pub answers : IsAnswerTo req answer
-  pub says : Says terms p answer q
-  pub onward : IsOnward p q
-  pub sole : whole → IsAlone terms p answer q
+  pub says : Says terms p.pass answer q.pass
+  pub onward : IsOnward p.pass q.pass
+  pub sole : whole → IsAlone terms p.pass answer q.pass
+  pub did : q.did ≡ acted answer p.did
   pub readings_are : readings ≡ answer_readings answer
 
--- it has none, since there was no memory; nothing was written
-pub record Unanswered (terms : Terms) (whole : Type 0) (p : Pass RevisionData) (req : Req) (written : List ℕ) (readings : List Reading) (q : Pass RevisionData) : Type 0 where
+-- it has none, since there was no memory; nothing was written, and the client did nothing
+pub record Unanswered (terms : Terms) (whole : Type 0) (p : Account) (req : Req) (written : List ℕ) (readings : List Reading) (q : Account) : Type 0 where
   pub nothing : written ≡ []
   pub unread : readings ≡ []
-  pub onward : IsOnward p q
-  pub sole : whole → (q.seen ≡ p.seen) ⊎ IsSomeAnd terms.sole_history (λ history. Begins terms history p req q)
+  pub onward : IsOnward p.pass q.pass
+  pub sole : whole → (q.pass.seen ≡ p.pass.seen) ⊎ IsSomeAnd terms.sole_history (λ history. Begins terms history p.pass req q.pass)
+  pub did : q.did ≡ p.did
 
 -- a reply is no end of a watch, and a stream came to this one
 abbrev pub ComesTo : Answer → Option WatchEnd → Type 0
@@ -52,7 +62,7 @@ ComesTo answer None = is_stream answer ≡ false
 ComesTo answer (Some how) = IsWatchEnd answer how
 
 -- the answer was written: a reply, or a stream to its end; or a beginning of it was; or there was no memory for it
-abbrev pub AnsweredAs : Terms → Type 0 → Pass RevisionData → Req → List ℕ → List Reading → Pass RevisionData → Result (Option WatchEnd) Broken → Type 0
+abbrev pub AnsweredAs : Terms → Type 0 → Account → Req → List ℕ → List Reading → Account → Result (Option WatchEnd) Broken → Type 0
 AnsweredAs terms whole p req written readings q (Ok end) =
     (given : Given terms whole p req readings q) × ComesTo given.answer end × (written ≡ answer_bytes terms req given.answer)
 AnsweredAs terms whole p req written readings q (Err broken.Fault) =
@@ -63,7 +73,7 @@ AnsweredAs terms whole p req written readings q (Err broken.Memory) =
 
 -- an answer to a request: what was written for it, and the readings of the clock; what is said of the sink where it was
 -- broken off, and that nothing is held back where it wasn't
-pub record Answered (terms : Terms) (whole : Type 0) (p : Pass RevisionData) (req : Req) (outside : Outside) (q : Pass RevisionData) (came : Result (Option WatchEnd) Broken) : Type 0 where
+pub record Answered (terms : Terms) (whole : Type 0) (p : Account) (req : Req) (outside : Outside) (q : Account) (came : Result (Option WatchEnd) Broken) : Type 0 where
   pub written : List ℕ
   pub readings : List Reading
   pub sink : outside.sent.written_new ≡ appended outside.sent.written_old written
@@ -80,7 +90,7 @@ sent_with end (Ok done) = Ok (end done)
 sent_with end (Err why) = Err why
 
 -- a request is answered by a reply, with no reading of the clock
-abbrev pub Replied : Terms → Type 0 → Pass RevisionData → Req → Sent → Pass RevisionData → Result (Option WatchEnd) Broken → Type 0
+abbrev pub Replied : Terms → Type 0 → Account → Req → Sent → Account → Result (Option WatchEnd) Broken → Type 0
 Replied terms whole p req sent q came =
     (readings : Option (List Reading)) → Answered terms whole p req (record { readings_old = readings; readings_new = readings; sent = sent }) q came
 
@@ -111,26 +121,26 @@ end_of_refusal fault (Err broken.Memory) = Memory
 -- ---- one round of the loop, over the bytes that were kept and taken
 
 -- the bytes begin with such a request, which was answered
-pub record Exchanged (Of : Req → Type 0) (terms : Terms) (whole : Type 0) (p : Pass RevisionData) (bytes after : List ℕ) (readings : List Reading) (q : Pass RevisionData) : Type 0 where
+pub record Exchanged (Of : Req → Type 0) (terms : Terms) (whole : Type 0) (p : Account) (bytes after : List ℕ) (readings : List Reading) (q : Account) : Type 0 where
   pub request : Req
   pub is : Of request
   pub reads : ReadsOne bytes request after
   pub given : Given terms whole p request readings q
 
-abbrev pub exchange_of : Req → Answer → Pass RevisionData → Exchange
-exchange_of req answer q = record { request = req; answer = answer; pass = q }
+abbrev pub exchange_of : Req → Answer → Account → Exchange
+exchange_of req answer q = record { request = req; answer = answer; pass = q.pass }
 
 -- nothing was done
-abbrev pub IsSilent : List ℕ → List Reading → Pass RevisionData → Pass RevisionData → Type 0
+abbrev pub IsSilent : List ℕ → List Reading → Account → Account → Type 0
 IsSilent written readings p q = (written ≡ []) × (readings ≡ []) × (p ≡ q)
 
 -- the bytes are no request, and a beginning of the reply that says so was written
-abbrev pub RefusalBegun : List ℕ → List ℕ → List Reading → Pass RevisionData → Pass RevisionData → Type 0
+abbrev pub RefusalBegun : List ℕ → List ℕ → List Reading → Account → Account → Type 0
 RefusalBegun bytes written readings p q =
     (fault : ReqNo) × IsRefused bytes fault × IsPrefix written (request_refusal_text fault) × (readings ≡ []) × (p ≡ q)
 
 -- a request was answered, and a beginning of the answer was written
-abbrev pub AnswerBegun : (Req → Type 0) → Terms → Type 0 → Pass RevisionData → List ℕ → List ℕ → List ℕ → List Reading → Pass RevisionData → Type 0
+abbrev pub AnswerBegun : (Req → Type 0) → Terms → Type 0 → Account → List ℕ → List ℕ → List ℕ → List Reading → Account → Type 0
 AnswerBegun Of terms whole p bytes after written readings q =
     (x : Exchanged Of terms whole p bytes after readings q) × IsPrefix written (answer_bytes terms x.request x.given.answer)
 
@@ -143,14 +153,15 @@ abbrev pub BeginsWith : (Req → Type 0) → List ℕ → Type 0
 BeginsWith = BeginsWithBy http
 
 -- there was no memory before an answer
-pub record Unfinished (Of : Req → Type 0) (terms : Terms) (whole : Type 0) (p : Pass RevisionData) (bytes written : List ℕ) (readings : List Reading) (q : Pass RevisionData) : Type 0 where
+pub record Unfinished (Of : Req → Type 0) (terms : Terms) (whole : Type 0) (p : Account) (bytes written : List ℕ) (readings : List Reading) (q : Account) : Type 0 where
   pub nothing : written ≡ []
   pub unread : readings ≡ []
-  pub onward : IsOnward p q
-  pub asked : (p ≡ q) ⊎ BeginsWith Of bytes
-  pub sole : whole → SoleMemory terms p bytes q
+  pub onward : IsOnward p.pass q.pass
+  pub asked : (p.pass ≡ q.pass) ⊎ BeginsWith Of bytes
+  pub sole : whole → SoleMemory terms p.pass bytes q.pass
+  pub did : q.did ≡ p.did
 
-abbrev pub RoundIs : (Req → Type 0) → Terms → Type 0 → Pass RevisionData → List ℕ → List ℕ → List ℕ → List Reading → Pass RevisionData → Type 0 → Type 0 → Option (List ℕ) → Option SessionEnd → Type 0
+abbrev pub RoundIs : (Req → Type 0) → Terms → Type 0 → Account → List ℕ → List ℕ → List ℕ → List Reading → Account → Type 0 → Type 0 → Option (List ℕ) → Option SessionEnd → Type 0
 RoundIs Of terms whole p bytes after written readings q read_fault write_fault left None =
     (x : Exchanged Of terms whole p bytes after readings q) × Stays (exchange_of x.request x.given.answer q)
     × (written ≡ answer_bytes terms x.request x.given.answer)
@@ -181,7 +192,7 @@ pub record Ends : Type 0 where
   pub readings : Option (List Reading)
 
 -- one round, from the bytes that were kept before it to those that are kept then; a request that was read is such a one
-pub record IsRound (Of : Req → Type 0) (terms : Terms) (whole : Type 0) (p : Pass RevisionData) (kept kept_then : List ℕ) (old new : Ends) (read_fault write_fault : Type 0) (q : Pass RevisionData) (came : Option SessionEnd) : Type 0 where
+pub record IsRound (Of : Req → Type 0) (terms : Terms) (whole : Type 0) (p : Account) (kept kept_then : List ℕ) (old new : Ends) (read_fault write_fault : Type 0) (q : Account) (came : Option SessionEnd) : Type 0 where
   pub taken : List ℕ
   pub written : List ℕ
   pub readings : List Reading

@@ -4,9 +4,10 @@ ghost use Rattle.std.specs.Prelude.{◌≡◌, ◌≤◌, None};
 ghost use Rattle.edge_io.specs.Sent.{sent_through};
 ghost use Rattle.up_api.specs.Settings.{AreInRange};
 ghost use Rattle.route_req.specs.Asks.{IsRoute};
+ghost use Rattle.client_api.specs.Facts.{Rests};
 ghost use Rattle.sess_turns.specs.Streams.{outside_of};
 ghost use Rattle.sess_turns.specs.Terms.{terms_of};
-ghost use Rattle.sess_serve.specs.Serving.{Answered, UnlessMemory};
+ghost use Rattle.sess_serve.specs.Serving.{Answered, UnlessMemory, account_of};
 
 use crate::refused::tell_refused;
 use crate::steps::{
@@ -35,9 +36,11 @@ pub fn answer<C: Client, K: Sink, T: Clock>(
 ) -> Result<Option<WatchEnd>, Broken>
     requires idle { (C.facts client.old).watching ≡ None }
     requires settings { AreInRange settings.now }
-    ensures answered { Answered (terms_of C.base C.mirror (C.facts client.old) settings.now) (C.whole client.old) (C.pass client.old) req.now
-        (outside_of T.readings clock.old clock.new (sent_through K.written K.settled K.faults sink.old sink.new)) (C.pass client.new) result }
-    ensures facts { C.facts client.new ≡ record (C.facts client.old) { heard = (C.facts client.new).heard } }
+    ensures answered { Answered (terms_of C.base C.mirror (C.facts client.old) settings.now) (C.whole client.old)
+        (account_of (C.pass client.old) (C.facts client.old).did) req.now
+        (outside_of T.readings clock.old clock.new (sent_through K.written K.settled K.faults sink.old sink.new))
+        (account_of (C.pass client.new) (C.facts client.new).did) result }
+    ensures facts { Rests (C.facts client.old) (C.facts client.new) }
     ensures heard { T.last clock.old ≤ (C.facts client.old).heard → T.last clock.new ≤ (C.facts client.new).heard }
     ensures kept { C.whole client.old → UnlessMemory result (C.whole client.new) }
 {
@@ -66,9 +69,11 @@ fn act<C: Client, K: Sink, T: Clock>(
     requires route { IsRoute req.now routed.now }
     requires idle { (C.facts client.old).watching ≡ None }
     requires settings { AreInRange settings.now }
-    ensures answered { Answered (terms_of C.base C.mirror (C.facts client.old) settings.now) (C.whole client.old) (C.pass client.old) req.now
-        (outside_of T.readings clock.old clock.new (sent_through K.written K.settled K.faults sink.old sink.new)) (C.pass client.new) result }
-    ensures facts { C.facts client.new ≡ record (C.facts client.old) { heard = (C.facts client.new).heard } }
+    ensures answered { Answered (terms_of C.base C.mirror (C.facts client.old) settings.now) (C.whole client.old)
+        (account_of (C.pass client.old) (C.facts client.old).did) req.now
+        (outside_of T.readings clock.old clock.new (sent_through K.written K.settled K.faults sink.old sink.new))
+        (account_of (C.pass client.new) (C.facts client.new).did) result }
+    ensures facts { Rests (C.facts client.old) (C.facts client.new) }
     ensures heard { T.last clock.old ≤ (C.facts client.old).heard → T.last clock.new ≤ (C.facts client.new).heard }
     ensures kept { C.whole client.old → UnlessMemory result (C.whole client.new) }
 {

@@ -5,6 +5,7 @@ ghost use Rattle.edge_io.specs.Counts.{Rose};
 ghost use Rattle.edge_io.specs.Told.{prepended, appended, Noted};
 ghost use Rattle.edge_io.specs.declared.clock.Reading.{Reading as ReadingData};
 ghost use Rattle.edge_io.specs.Sent.{sent_through};
+ghost use Rattle.client_api.specs.Facts.{Rests};
 ghost use Rattle.sess_turns.specs.Streams.{outside_of};
 ghost use Rattle.up_api.specs.Settings.{AreInRange};
 ghost use Rattle.sess_serve.specs.Each.{IsEachSessionBy, strand_of, strands};
@@ -79,9 +80,9 @@ pub fn serve_each<P: Client, M: Client, D: Client, S: Source, K: Sink, T: Clock>
         }) result }
 
     // No client watches anything. Each may have been told of times.
-    ensures facts_pods { P.facts clients.new.pods ≡ record (P.facts clients.old.pods) { heard = (P.facts clients.new.pods).heard } }
-    ensures facts_config_maps { M.facts clients.new.config_maps ≡ record (M.facts clients.old.config_maps) { heard = (M.facts clients.new.config_maps).heard } }
-    ensures facts_deployments { D.facts clients.new.deployments ≡ record (D.facts clients.old.deployments) { heard = (D.facts clients.new.deployments).heard } }
+    ensures facts_pods { Rests (P.facts clients.old.pods) (P.facts clients.new.pods) }
+    ensures facts_config_maps { Rests (M.facts clients.old.config_maps) (M.facts clients.new.config_maps) }
+    ensures facts_deployments { Rests (D.facts clients.old.deployments) (D.facts clients.new.deployments) }
     ensures kept_pods { P.whole clients.old.pods → UnlessMemory result (P.whole clients.new.pods) }
     ensures kept_config_maps { M.whole clients.old.config_maps → UnlessMemory result (M.whole clients.new.config_maps) }
     ensures kept_deployments { D.whole clients.old.deployments → UnlessMemory result (D.whole clients.new.deployments) }
@@ -141,9 +142,9 @@ fn round_each<P: Client, M: Client, D: Client, S: Source, K: Sink, T: Clock>(
         (record { left = S.left source.old; written = K.written sink.old; readings = T.readings clock.old })
         (record { left = S.left source.new; written = K.written sink.new; readings = T.readings clock.new })
         (Rose (S.faults source.old) (S.faults source.new)) (Rose (K.faults sink.old) (K.faults sink.new)) result }
-    ensures facts_pods { P.facts clients.new.pods ≡ record (P.facts clients.old.pods) { heard = (P.facts clients.new.pods).heard } }
-    ensures facts_config_maps { M.facts clients.new.config_maps ≡ record (M.facts clients.old.config_maps) { heard = (M.facts clients.new.config_maps).heard } }
-    ensures facts_deployments { D.facts clients.new.deployments ≡ record (D.facts clients.old.deployments) { heard = (D.facts clients.new.deployments).heard } }
+    ensures facts_pods { Rests (P.facts clients.old.pods) (P.facts clients.new.pods) }
+    ensures facts_config_maps { Rests (M.facts clients.old.config_maps) (M.facts clients.new.config_maps) }
+    ensures facts_deployments { Rests (D.facts clients.old.deployments) (D.facts clients.new.deployments) }
     ensures kept_pods { P.whole clients.old.pods → OrEnd UnlessMemory result (P.whole clients.new.pods) }
     ensures kept_config_maps { M.whole clients.old.config_maps → OrEnd UnlessMemory result (M.whole clients.new.config_maps) }
     ensures kept_deployments { D.whole clients.old.deployments → OrEnd UnlessMemory result (D.whole clients.new.deployments) }
@@ -188,9 +189,9 @@ fn answer_each<P: Client, M: Client, D: Client, K: Sink, T: Clock>(
         (strand_of settings.now D.base D.mirror (D.facts clients.old.deployments) (D.whole clients.old.deployments)
         (D.pass clients.old.deployments) (D.pass clients.new.deployments)))
         req.now (outside_of T.readings clock.old clock.new (sent_through K.written K.settled K.faults sink.old sink.new)) result }
-    ensures facts_pods { P.facts clients.new.pods ≡ record (P.facts clients.old.pods) { heard = (P.facts clients.new.pods).heard } }
-    ensures facts_config_maps { M.facts clients.new.config_maps ≡ record (M.facts clients.old.config_maps) { heard = (M.facts clients.new.config_maps).heard } }
-    ensures facts_deployments { D.facts clients.new.deployments ≡ record (D.facts clients.old.deployments) { heard = (D.facts clients.new.deployments).heard } }
+    ensures facts_pods { Rests (P.facts clients.old.pods) (P.facts clients.new.pods) }
+    ensures facts_config_maps { Rests (M.facts clients.old.config_maps) (M.facts clients.new.config_maps) }
+    ensures facts_deployments { Rests (D.facts clients.old.deployments) (D.facts clients.new.deployments) }
     ensures kept_pods { P.whole clients.old.pods → serving.UnlessMemory result (P.whole clients.new.pods) }
     ensures kept_config_maps { M.whole clients.old.config_maps → serving.UnlessMemory result (M.whole clients.new.config_maps) }
     ensures kept_deployments { D.whole clients.old.deployments → serving.UnlessMemory result (D.whole clients.new.deployments) }

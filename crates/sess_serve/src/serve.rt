@@ -7,13 +7,14 @@ ghost use Rattle.edge_io.specs.declared.clock.Reading.{Reading as ReadingData};
 ghost use Rattle.http_read.specs.Answers.{AnswersNext, UnlessFault};
 ghost use Rattle.http_read.specs.Requests.{IsUnfinished};
 ghost use Rattle.edge_io.specs.Sent.{sent_through};
+ghost use Rattle.client_api.specs.Facts.{Rests};
 ghost use Rattle.sess_turns.specs.Terms.{terms_of};
 ghost use Rattle.up_api.specs.Settings.{AreInRange};
 ghost use Rattle.sess_serve.specs.Ends.{UnlessReadFault, UnlessWriteFault, UnlessMemory, UnlessBroken};
 ghost use Rattle.sess_serve.specs.Serving as serving;
-ghost use Rattle.sess_serve.specs.Serving.{IsRound, IsStopped, OnNone, OrEnd};
+ghost use Rattle.sess_serve.specs.Serving.{IsRound, IsStopped, OnNone, OrEnd, account_of};
 ghost use Rattle.sess_serve.specs.Http.{http};
-ghost use Rattle.sess_serve.specs.Session.{IsSessionBy};
+ghost use Rattle.sess_serve.specs.Session.{IsSessionBy, acted_by};
 
 use crate::answer::answer;
 use crate::ends::SessionEnd;
@@ -42,12 +43,12 @@ pub fn serve_session<C: Client, S: Source, K: Sink, T: Clock>(
     requires settings { AreInRange settings.now }
 
     // From bytes to bytes: some bytes went from the source, some went to the sink, the clock was read so often, and
-    // between them stands a session.
+    // between them stands a session. Of the log the client did what its answers tell, however it ended, and no more.
     ensures session { (taken : List ℕ) × (written : List ℕ) × (readings : List ReadingData)
         × (S.left source.old ≡ prepended taken (S.left source.new))
         × (K.written sink.new ≡ appended (K.written sink.old) written)
         × Noted (T.readings clock.old) (T.readings clock.new) readings
-        × IsSessionBy http (terms_of C.base C.mirror (C.facts client.old) settings.now) (C.whole client.old) (C.pass client.old)
+        × (session : IsSessionBy http (terms_of C.base C.mirror (C.facts client.old) settings.now) (C.whole client.old) (C.pass client.old)
         (record {
           taken = taken;
           written = written;
@@ -55,12 +56,11 @@ pub fn serve_session<C: Client, S: Source, K: Sink, T: Clock>(
           read_fault = Rose (S.faults source.old) (S.faults source.new);
           write_fault = Rose (K.faults sink.old) (K.faults sink.new);
           left = S.left source.new;
-        })
-        (C.pass client.new) result }
+        }) (C.pass client.new) result) × ((C.facts client.new).did ≡ acted_by session.exchanges (C.facts client.old).did) }
 
     // The client watches nothing. It may have been told of times: one that was told of all that the clock showed before
     // is told of all that it shows.
-    ensures facts { C.facts client.new ≡ record (C.facts client.old) { heard = (C.facts client.new).heard } }
+    ensures facts { Rests (C.facts client.old) (C.facts client.new) }
     ensures heard { T.last clock.old ≤ (C.facts client.old).heard → T.last clock.new ≤ (C.facts client.new).heard }
     ensures kept { C.whole client.old → UnlessMemory result (C.whole client.new) }
 
@@ -105,12 +105,13 @@ fn round<C: Client, S: Source, K: Sink, T: Clock>(
     requires settings { AreInRange settings.now }
     requires reading { reader.old.refusal ≡ None }
     requires settled { 0 < answered → K.settled sink.old }
-    ensures round { IsRound (λ req. Unit {0}) (terms_of C.base C.mirror (C.facts client.old) settings.now) (C.whole client.old) (C.pass client.old)
-        reader.old.kept reader.new.kept
+    ensures round { IsRound (λ req. Unit {0}) (terms_of C.base C.mirror (C.facts client.old) settings.now) (C.whole client.old)
+        (account_of (C.pass client.old) (C.facts client.old).did) reader.old.kept reader.new.kept
         (record { left = S.left source.old; written = K.written sink.old; readings = T.readings clock.old })
         (record { left = S.left source.new; written = K.written sink.new; readings = T.readings clock.new })
-        (Rose (S.faults source.old) (S.faults source.new)) (Rose (K.faults sink.old) (K.faults sink.new)) (C.pass client.new) result }
-    ensures facts { C.facts client.new ≡ record (C.facts client.old) { heard = (C.facts client.new).heard } }
+        (Rose (S.faults source.old) (S.faults source.new)) (Rose (K.faults sink.old) (K.faults sink.new))
+        (account_of (C.pass client.new) (C.facts client.new).did) result }
+    ensures facts { Rests (C.facts client.old) (C.facts client.new) }
     ensures heard { T.last clock.old ≤ (C.facts client.old).heard → T.last clock.new ≤ (C.facts client.new).heard }
     ensures kept { C.whole client.old → OrEnd UnlessMemory result (C.whole client.new) }
     ensures reading { OnNone result (reader.new.refusal ≡ None) }

@@ -3,12 +3,13 @@
 ghost use Rattle.std.specs.Prelude.{◌≡◌, false, true};
 ghost use Rattle.std.specs.Bool.{MatchBool};
 ghost use Rattle.edge_io.specs.Sent.{sent_through};
+ghost use Rattle.client_api.specs.Facts.{Acts};
 ghost use Rattle.client_api.specs.Told.{IsToldRead, IsToldWrite, IsToldTx, IsToldOperation};
 ghost use Rattle.route_req.specs.Asks.{IsRoute};
 ghost use Rattle.route_req.specs.declared.routing.Routed.TheVariants as routed;
 ghost use Rattle.sess_turns.specs.Terms.{terms_of};
 ghost use Rattle.up_api.specs.declared.settings.Settings.{Settings};
-ghost use Rattle.sess_serve.specs.Serving.{Replied, UnlessMemory};
+ghost use Rattle.sess_serve.specs.Serving.{Replied, UnlessMemory, account_of};
 
 use crate::refused::tell_refused;
 use crate::watching::by_reply;
@@ -62,8 +63,9 @@ pub fn step_write<C: Client, K: Sink>(
 ) -> Result<Option<WatchEnd>, Broken>
     requires { IsRoute req.now (routed.Write ask.now) }
     ensures replied { (s : Settings) → Replied (terms_of C.base C.mirror (C.facts client.old) s) (C.whole client.old)
-        (C.pass client.old) req.now (sent_through K.written K.settled K.faults sink.old sink.new) (C.pass client.new) result }
-    ensures facts { C.facts client.new ≡ C.facts client.old }
+        (account_of (C.pass client.old) (C.facts client.old).did) req.now (sent_through K.written K.settled K.faults sink.old sink.new)
+        (account_of (C.pass client.new) (C.facts client.new).did) result }
+    ensures facts { Acts (C.facts client.old) (C.facts client.new) }
     ensures kept { C.whole client.old → UnlessMemory result (C.whole client.new) }
 {
     let answer = client.write(ask);
@@ -84,8 +86,9 @@ pub fn step_transact<C: Client, K: Sink>(
 ) -> Result<Option<WatchEnd>, Broken>
     requires { IsRoute req.now (routed.Transact ask.now) }
     ensures replied { (s : Settings) → Replied (terms_of C.base C.mirror (C.facts client.old) s) (C.whole client.old)
-        (C.pass client.old) req.now (sent_through K.written K.settled K.faults sink.old sink.new) (C.pass client.new) result }
-    ensures facts { C.facts client.new ≡ C.facts client.old }
+        (account_of (C.pass client.old) (C.facts client.old).did) req.now (sent_through K.written K.settled K.faults sink.old sink.new)
+        (account_of (C.pass client.new) (C.facts client.new).did) result }
+    ensures facts { Acts (C.facts client.old) (C.facts client.new) }
     ensures kept { C.whole client.old → UnlessMemory result (C.whole client.new) }
 {
     let answer = client.transact(ask);
@@ -106,7 +109,8 @@ pub fn step_get<C: Client, K: Sink>(
 ) -> Result<Option<WatchEnd>, Broken>
     requires { IsRoute req.now (routed.Get ask.now) }
     ensures replied { (s : Settings) → Replied (terms_of C.base C.mirror (C.facts client.old) s) (C.whole client.old)
-        (C.pass client.old) req.now (sent_through K.written K.settled K.faults sink.old sink.new) (C.pass client.new) result }
+        (account_of (C.pass client.old) (C.facts client.old).did) req.now (sent_through K.written K.settled K.faults sink.old sink.new)
+        (account_of (C.pass client.new) (C.facts client.new).did) result }
     ensures facts { C.facts client.new ≡ C.facts client.old }
     ensures kept { C.whole client.old → UnlessMemory result (C.whole client.new) }
 {
@@ -128,7 +132,8 @@ pub fn step_list<C: Client, K: Sink>(
 ) -> Result<Option<WatchEnd>, Broken>
     requires { IsRoute req.now (routed.List ask.now) }
     ensures replied { (s : Settings) → Replied (terms_of C.base C.mirror (C.facts client.old) s) (C.whole client.old)
-        (C.pass client.old) req.now (sent_through K.written K.settled K.faults sink.old sink.new) (C.pass client.new) result }
+        (account_of (C.pass client.old) (C.facts client.old).did) req.now (sent_through K.written K.settled K.faults sink.old sink.new)
+        (account_of (C.pass client.new) (C.facts client.new).did) result }
     ensures facts { C.facts client.new ≡ C.facts client.old }
     ensures kept { C.whole client.old → UnlessMemory result (C.whole client.new) }
 {
@@ -150,8 +155,9 @@ pub fn step_operate<C: Client, K: Sink>(
 ) -> Result<Option<WatchEnd>, Broken>
     requires { IsRoute req.now (routed.Operate ask) }
     ensures replied { (s : Settings) → Replied (terms_of C.base C.mirror (C.facts client.old) s) (C.whole client.old)
-        (C.pass client.old) req.now (sent_through K.written K.settled K.faults sink.old sink.new) (C.pass client.new) result }
-    ensures facts { C.facts client.new ≡ C.facts client.old }
+        (account_of (C.pass client.old) (C.facts client.old).did) req.now (sent_through K.written K.settled K.faults sink.old sink.new)
+        (account_of (C.pass client.new) (C.facts client.new).did) result }
+    ensures facts { Acts (C.facts client.old) (C.facts client.new) }
     ensures kept { C.whole client.old → UnlessMemory result (C.whole client.new) }
 {
     if client.is_operable() {
@@ -177,8 +183,9 @@ fn operate<C: Client, K: Sink>(
     requires route { IsRoute req.now (routed.Operate ask) }
     requires operable { (C.facts client.old).operable ≡ true }
     ensures replied { (s : Settings) → Replied (terms_of C.base C.mirror (C.facts client.old) s) (C.whole client.old)
-        (C.pass client.old) req.now (sent_through K.written K.settled K.faults sink.old sink.new) (C.pass client.new) result }
-    ensures facts { C.facts client.new ≡ C.facts client.old }
+        (account_of (C.pass client.old) (C.facts client.old).did) req.now (sent_through K.written K.settled K.faults sink.old sink.new)
+        (account_of (C.pass client.new) (C.facts client.new).did) result }
+    ensures facts { Acts (C.facts client.old) (C.facts client.new) }
     ensures kept { C.whole client.old → UnlessMemory result (C.whole client.new) }
 {
     let answer = client.operate(ask);
@@ -198,7 +205,8 @@ pub fn step_metrics<C: Client, K: Sink>(
 ) -> Result<Option<WatchEnd>, Broken>
     requires { IsRoute req.now routed.Metrics }
     ensures replied { (s : Settings) → Replied (terms_of C.base C.mirror (C.facts client.old) s) (C.whole client.old)
-        (C.pass client.old) req.now (sent_through K.written K.settled K.faults sink.old sink.new) (C.pass client.new) result }
+        (account_of (C.pass client.old) (C.facts client.old).did) req.now (sent_through K.written K.settled K.faults sink.old sink.new)
+        (account_of (C.pass client.new) (C.facts client.new).did) result }
     ensures facts { C.facts client.new ≡ C.facts client.old }
     ensures kept { C.whole client.old → UnlessMemory result (C.whole client.new) }
 {
@@ -228,7 +236,8 @@ pub fn step_describe<C: Client, K: Sink>(
 ) -> Result<Option<WatchEnd>, Broken>
     requires { IsRoute req.now (routed.Describe document.now) }
     ensures { (s : Settings) → Replied (terms_of C.base C.mirror (C.facts client.now) s) (C.whole client.now)
-        (C.pass client.now) req.now (sent_through K.written K.settled K.faults sink.old sink.new) (C.pass client.now) result }
+        (account_of (C.pass client.now) (C.facts client.now).did) req.now (sent_through K.written K.settled K.faults sink.old sink.new)
+        (account_of (C.pass client.now) (C.facts client.now).did) result }
 {
     match document {
         Document::Probe(probe) if !passes(client, *probe) => {

@@ -9,7 +9,7 @@ ghost use Rattle.sess_turns.specs.Streams.{outside_of};
 ghost use Rattle.sess_turns.specs.Terms.{terms_of};
 ghost use Rattle.sess_serve.specs.Http as http;
 ghost use Rattle.sess_serve.specs.Http.{IsPlainOrUpgrade};
-ghost use Rattle.sess_serve.specs.Serving.{Answered, UnlessMemory, sent_with};
+ghost use Rattle.sess_serve.specs.Serving.{Answered, UnlessMemory, account_of, sent_with};
 
 use crate::refused::tell_refused;
 use crate::view::{is_plain_or_upgrade, view_of};
@@ -68,8 +68,10 @@ pub fn step_watch<C: Client, K: Sink, T: Clock>(
     requires route { IsRoute req.now (routed.Watch ask.now) }
     requires idle { (C.facts client.old).watching ≡ None }
     requires settings { AreInRange settings.now }
-    ensures answered { Answered (terms_of C.base C.mirror (C.facts client.old) settings.now) (C.whole client.old) (C.pass client.old) req.now
-        (outside_of T.readings clock.old clock.new (sent_through K.written K.settled K.faults sink.old sink.new)) (C.pass client.new) result }
+    ensures answered { Answered (terms_of C.base C.mirror (C.facts client.old) settings.now) (C.whole client.old)
+        (account_of (C.pass client.old) (C.facts client.old).did) req.now
+        (outside_of T.readings clock.old clock.new (sent_through K.written K.settled K.faults sink.old sink.new))
+        (account_of (C.pass client.new) (C.facts client.new).did) result }
     ensures facts { C.facts client.new ≡ record (C.facts client.old) { heard = (C.facts client.new).heard } }
     ensures heard { T.last clock.old ≤ (C.facts client.old).heard → T.last clock.new ≤ (C.facts client.new).heard }
     ensures kept { C.whole client.old → UnlessMemory result (C.whole client.new) }
@@ -101,8 +103,10 @@ fn watch<C: Client, K: Sink, T: Clock>(
     requires view { view.now ≡ http.view_of req.now }
     requires idle { (C.facts client.old).watching ≡ None }
     requires settings { AreInRange settings.now }
-    ensures answered { Answered (terms_of C.base C.mirror (C.facts client.old) settings.now) (C.whole client.old) (C.pass client.old) req.now
-        (outside_of T.readings clock.old clock.new (sent_through K.written K.settled K.faults sink.old sink.new)) (C.pass client.new) result }
+    ensures answered { Answered (terms_of C.base C.mirror (C.facts client.old) settings.now) (C.whole client.old)
+        (account_of (C.pass client.old) (C.facts client.old).did) req.now
+        (outside_of T.readings clock.old clock.new (sent_through K.written K.settled K.faults sink.old sink.new))
+        (account_of (C.pass client.new) (C.facts client.new).did) result }
     ensures facts { C.facts client.new ≡ record (C.facts client.old) { heard = (C.facts client.new).heard } }
     ensures heard { T.last clock.old ≤ (C.facts client.old).heard → T.last clock.new ≤ (C.facts client.new).heard }
     ensures kept { C.whole client.old → UnlessMemory result (C.whole client.new) }

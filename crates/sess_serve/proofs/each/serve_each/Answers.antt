@@ -1,7 +1,7 @@
 use Rattle.std.proofs.Common.{◌∙◌, ◌<◌, ◌≡◌, [], None, ap, arith, refl}
 use Rattle.http_read.specs.Readers.{ReaderState}
 use Rattle.sess_serve.proofs.EachSession.{each-start, each-none, each-next, each-ends, each-full}
-use Rattle.sess_serve.proofs.Session.{terms-same, facts-next, facts-idle}
+use Rattle.sess_serve.proofs.Session.{terms-rest, facts-next, facts-idle}
 use Rattle.sess_serve.proofs.Ending.{read-map, write-map}
 use Rattle.sess_serve.proofs.each.serve_each.Goals as goal
 
@@ -34,9 +34,9 @@ loop-answered-preserved g c =
     let e = c.in-None.ensures in
     record {
       turns = each-next _ _ _ _ _ _
-          (record { terms = terms-same _ _ _ (g.P.Client.facts c.args.clients.now.pods) _ _ _ i.facts_pods; still = i.kept_pods; meets = refl })
-          (record { terms = terms-same _ _ _ (g.M.Client.facts c.args.clients.now.config_maps) _ _ _ i.facts_config_maps; still = i.kept_config_maps; meets = refl })
-          (record { terms = terms-same _ _ _ (g.D.Client.facts c.args.clients.now.deployments) _ _ _ i.facts_deployments; still = i.kept_deployments; meets = refl })
+          (record { terms = terms-rest _ _ _ (g.P.Client.facts c.args.clients.now.pods) _ _ _ i.facts_pods; still = i.kept_pods; meets = refl })
+          (record { terms = terms-rest _ _ _ (g.M.Client.facts c.args.clients.now.config_maps) _ _ _ i.facts_config_maps; still = i.kept_config_maps; meets = refl })
+          (record { terms = terms-rest _ _ _ (g.D.Client.facts c.args.clients.now.deployments) _ _ _ i.facts_deployments; still = i.kept_deployments; meets = refl })
           refl refl _ _ _ _ _ c.loop-answered.answered _ _ i.turns None e.round refl;
       facts_pods = facts-next (g.P.Client.facts c.args.clients.now.pods) _ _ i.facts_pods e.facts_pods;
       facts_config_maps = facts-next (g.M.Client.facts c.args.clients.now.config_maps) _ _ i.facts_config_maps e.facts_config_maps;
@@ -56,9 +56,9 @@ returns-in-Some-clause-session g c =
     let i = c.loop-answered.invariant in
     let room : c.loop-answered.answered < c.args.settings.now.requests = omega arith in
     each-ends _ _ _ _ _ _
-    (record { terms = terms-same _ _ _ (g.P.Client.facts c.args.clients.now.pods) _ _ _ i.facts_pods; still = i.kept_pods; meets = refl })
-    (record { terms = terms-same _ _ _ (g.M.Client.facts c.args.clients.now.config_maps) _ _ _ i.facts_config_maps; still = i.kept_config_maps; meets = refl })
-    (record { terms = terms-same _ _ _ (g.D.Client.facts c.args.clients.now.deployments) _ _ _ i.facts_deployments; still = i.kept_deployments; meets = refl })
+    (record { terms = terms-rest _ _ _ (g.P.Client.facts c.args.clients.now.pods) _ _ _ i.facts_pods; still = i.kept_pods; meets = refl })
+    (record { terms = terms-rest _ _ _ (g.M.Client.facts c.args.clients.now.config_maps) _ _ _ i.facts_config_maps; still = i.kept_config_maps; meets = refl })
+    (record { terms = terms-rest _ _ _ (g.D.Client.facts c.args.clients.now.deployments) _ _ _ i.facts_deployments; still = i.kept_deployments; meets = refl })
     refl refl _ _ _ _ _ c.loop-answered.answered _ _ i.turns _
     (rw (i.quiet_source, i.quiet_sink) at c.in-Some.ensures.round) c.in-Some.end refl room
 

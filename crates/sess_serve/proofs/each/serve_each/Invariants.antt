@@ -1,4 +1,5 @@
 use Rattle.std.proofs.Common.{◌≡◌, ◌<◌, None}
+use Rattle.client_api.specs.Facts.{Rests}
 use Rattle.sess_serve.specs.Each.{strand_of, strands}
 use Rattle.sess_serve.proofs.EachSession.{EachLoop}
 use Rattle.sess_serve.proofs.each.serve_each.Given as goal
@@ -17,9 +18,9 @@ invariant-loop-answered g l = record {
       (record { left = g.S.Source.left l.initial.source; written = g.K.Sink.written l.initial.sink; readings = g.T.Clock.readings l.initial.clock })
       (record { left = g.S.Source.left l.source; written = g.K.Sink.written l.sink; readings = g.T.Clock.readings l.clock })
       l.reader.kept l.answered;
-  facts_pods : g.P.Client.facts l.clients.pods ≡ record (g.P.Client.facts l.initial.clients.pods) { heard = (g.P.Client.facts l.clients.pods).heard };
-  facts_config_maps : g.M.Client.facts l.clients.config_maps ≡ record (g.M.Client.facts l.initial.clients.config_maps) { heard = (g.M.Client.facts l.clients.config_maps).heard };
-  facts_deployments : g.D.Client.facts l.clients.deployments ≡ record (g.D.Client.facts l.initial.clients.deployments) { heard = (g.D.Client.facts l.clients.deployments).heard };
+  facts_pods : Rests (g.P.Client.facts l.initial.clients.pods) (g.P.Client.facts l.clients.pods);
+  facts_config_maps : Rests (g.M.Client.facts l.initial.clients.config_maps) (g.M.Client.facts l.clients.config_maps);
+  facts_deployments : Rests (g.D.Client.facts l.initial.clients.deployments) (g.D.Client.facts l.clients.deployments);
   kept_pods : g.P.Client.whole l.initial.clients.pods → g.P.Client.whole l.clients.pods;
   kept_config_maps : g.M.Client.whole l.initial.clients.config_maps → g.M.Client.whole l.clients.config_maps;
   kept_deployments : g.D.Client.whole l.initial.clients.deployments → g.D.Client.whole l.clients.deployments;

@@ -1,8 +1,8 @@
-use Rattle.std.proofs.Common.{refl, sym, Option}
+use Rattle.std.proofs.Common.{refl, ap, Option}
 use Rattle.http_read.specs.declared.request.Req.{Req}
 use Rattle.sess_serve.proofs.Rounds.{round-answered, round-clean, round-stopped}
 use Rattle.sess_serve.proofs.Ending.{after-kept, after-flushed, after-settled, after-sink, after-source, after-reading, memory-anyway, stopped-source, stopped-sink}
-use Rattle.sess_serve.proofs.Replying.{facts-still}
+use Rattle.sess_serve.proofs.Replying.{account_same, did_of, facts-rest, facts-still}
 use Rattle.sess_serve.proofs.serve.round.Goals as goal
 
 pub returns-in-Ok-Some-clause-round : goal.returns-in-Ok-Some-clause-round
@@ -33,13 +33,13 @@ pub returns-in-Ok-None-clause-round : goal.returns-in-Ok-None-clause-round
 returns-in-Ok-None-clause-round g c = round-clean _ _ _ _ _ _ _ _ _ _ _ _ _ refl refl refl (rw c.in-Ok-None.field-0-is at c.in-Ok-None.ensures.reads)
 
 pub returns-in-Err-clause-round : goal.returns-in-Err-clause-round
-returns-in-Err-clause-round g c = round-stopped _ _ _ _ _ _ _ _ _ _ _ _ _ (sym c.tell_refused.ensures.pass) refl _ _ c.in-Err.fault c.stop.result c.in-Err.ensures.reads c.stop.ensures
+returns-in-Err-clause-round g c = round-stopped _ _ _ _ _ _ _ _ _ _ _ _ _ (account_same _ _ _ _ c.tell_refused.ensures.pass (ap did_of c.tell_refused.ensures.facts)) refl _ _ c.in-Err.fault c.stop.result c.in-Err.ensures.reads c.stop.ensures
 
 pub returns-in-Err-clause-kept : goal.returns-in-Err-clause-kept
 returns-in-Err-clause-kept g c = λ w. memory-anyway c.stop.result (c.tell_refused.ensures.kept w)
 
 pub returns-in-Err-clause-facts : goal.returns-in-Err-clause-facts
-returns-in-Err-clause-facts g c = facts-still _ _ c.tell_refused.ensures.facts
+returns-in-Err-clause-facts g c = facts-rest (g.C.Client.facts c.args.client.now) (g.C.Client.facts c.tell_refused.new.client) (facts-still (g.C.Client.facts c.args.client.now) (g.C.Client.facts c.tell_refused.new.client) c.tell_refused.ensures.facts)
 
 pub returns-in-Err-clause-settled : goal.returns-in-Err-clause-settled
 returns-in-Err-clause-settled g c = c.stop.ensures.settled

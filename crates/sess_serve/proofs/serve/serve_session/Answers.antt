@@ -1,19 +1,19 @@
 use Rattle.std.proofs.Common.{◌∙◌, ◌<◌, ◌≡◌, [], None, ap, arith, refl}
 use Rattle.http_read.specs.Readers.{ReaderState}
-use Rattle.sess_serve.proofs.Session.{loop-start, loop-next, loop-ends, loop-full, none-begun, terms-same, facts-next, facts-idle}
+use Rattle.sess_serve.proofs.Session.{loop-start, loop-next, loop-ends, loop-full, none-begun, terms-rest, facts-next, facts-idle}
 use Rattle.sess_serve.proofs.Ending.{read-map, write-map}
 use Rattle.sess_serve.proofs.serve.serve_session.Goals as goal
 
 pub returns-in_default-clause-session : goal.returns-in_default-clause-session
 returns-in_default-clause-session g c =
     let room : 0 < c.args.settings.now.requests = omega (arith, c.requires.settings.requests) in
-    none-begun _ _ _ (record { left = _; written = _; readings = _ }) _ _ room
+    none-begun _ _ _ _ (record { left = _; written = _; readings = _ }) _ _ room
 
 pub loop-answered-init : goal.loop-answered-init
 loop-answered-init g c =
     let e : c.in-Ok.reader ≡ record { kept = []; refusal = None } = c.in-Ok.ensures in
     record {
-      turns = loop-start _ _ _ _ c.in-Ok.reader.kept (ap (λ (x : ReaderState). x.kept) e);
+      turns = loop-start _ _ _ _ _ c.in-Ok.reader.kept (ap (λ (x : ReaderState). x.kept) e);
       facts = refl;
       heard = λ h. h;
       kept = λ w. w;
@@ -29,7 +29,7 @@ loop-answered-preserved g c =
     let i = c.loop-answered.invariant in
     let e = c.in-None.ensures in
     record {
-      turns = loop-next _ _ (terms-same _ _ _ (g.C.Client.facts c.args.client.now) _ _ _ i.facts) _ _ i.kept _ _ _ _ _ _ _ _ c.loop-answered.answered _ _
+      turns = loop-next _ _ (terms-rest _ _ _ (g.C.Client.facts c.args.client.now) _ _ _ i.facts) _ _ i.kept _ _ _ _ _ _ _ _ _ _ _ c.loop-answered.answered _ _
           i.turns e.round;
       facts = facts-next (g.C.Client.facts c.args.client.now) _ _ i.facts e.facts;
       heard = λ h. e.heard (i.heard h);
@@ -45,7 +45,7 @@ pub returns-in-Some-clause-session : goal.returns-in-Some-clause-session
 returns-in-Some-clause-session g c =
     let i = c.loop-answered.invariant in
     let room : c.loop-answered.answered < c.args.settings.now.requests = omega arith in
-    loop-ends _ _ (terms-same _ _ _ (g.C.Client.facts c.args.client.now) _ _ _ i.facts) _ _ i.kept _ _ _ _ _ _ _ _ c.loop-answered.answered _ _ i.turns
+    loop-ends _ _ (terms-rest _ _ _ (g.C.Client.facts c.args.client.now) _ _ _ i.facts) _ _ i.kept _ _ _ _ _ _ _ _ _ _ _ c.loop-answered.answered _ _ i.turns
     c.in-Some.end room
     (rw (i.quiet_source, i.quiet_sink) at c.in-Some.ensures.round)
 
@@ -73,4 +73,4 @@ round-requires-clause-idle g c = facts-idle (g.C.Client.facts c.args.client.now)
 pub returns-clause-session : goal.returns-clause-session
 returns-clause-session g c =
     let full : c.loop-answered.answered ≡ c.args.settings.now.requests = omega arith in
-    loop-full _ _ _ _ _ _ _ c.loop-answered.answered _ _ c.loop-answered.invariant.turns full
+    loop-full _ _ _ _ _ _ _ _ _ c.loop-answered.answered _ _ c.loop-answered.invariant.turns full

@@ -1,4 +1,5 @@
 use Rattle.std.proofs.Common.{◌≡◌, ◌<◌, ◌≤◌, None}
+use Rattle.client_api.specs.Facts.{Rests}
 use Rattle.sess_turns.specs.Terms.{terms_of}
 use Rattle.sess_serve.proofs.Session.{Loop}
 use Rattle.sess_serve.proofs.serve.serve_session.Given as goal
@@ -7,10 +8,11 @@ use Rattle.sess_serve.proofs.serve.serve_session.Given as goal
 abbrev pub invariant-loop-answered : goal.invariant-loop-answered
 invariant-loop-answered g l = record {
   turns : Loop (terms_of g.C.Client.base g.C.Client.mirror (g.C.Client.facts l.initial.client) l.settings) (g.C.Client.whole l.initial.client) (g.C.Client.pass l.initial.client)
+      (g.C.Client.facts l.initial.client).did
       (record { left = g.S.Source.left l.initial.source; written = g.K.Sink.written l.initial.sink; readings = g.T.Clock.readings l.initial.clock })
       (record { left = g.S.Source.left l.source; written = g.K.Sink.written l.sink; readings = g.T.Clock.readings l.clock })
-      l.reader.kept (g.C.Client.pass l.client) l.answered;
-  facts : g.C.Client.facts l.client ≡ record (g.C.Client.facts l.initial.client) { heard = (g.C.Client.facts l.client).heard };
+      l.reader.kept (g.C.Client.pass l.client) (g.C.Client.facts l.client).did l.answered;
+  facts : Rests (g.C.Client.facts l.initial.client) (g.C.Client.facts l.client);
   heard : g.T.Clock.last l.initial.clock ≤ (g.C.Client.facts l.initial.client).heard → g.T.Clock.last l.clock ≤ (g.C.Client.facts l.client).heard;
   kept : g.C.Client.whole l.initial.client → g.C.Client.whole l.client;
   reading : l.reader.refusal ≡ None;

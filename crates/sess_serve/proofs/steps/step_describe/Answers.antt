@@ -1,4 +1,4 @@
-use Rattle.std.proofs.Common.{◌≡◌, refl, sym, ap, subst}
+use Rattle.std.proofs.Common.{◌≡◌, refl, subst}
 use Rattle.client_api.proofs.LawLemmas.{onwards_do_join}
 use Rattle.route_req.specs.declared.documents.Document.TheVariants as document
 use Rattle.route_req.specs.Asks.{IsRoute}
@@ -14,12 +14,12 @@ returns-in-Probe g c = λ s.
     let same : c.args.document.now ≡ document.Probe probe = c.in-Probe.is in
     let route = subst (λ d. IsRoute c.args.req.now (routed.Describe d)) same c.requires in
     sends _ _ _ _ _ _ c.by_reply.result c.send_unready.result c.by_reply.ensures (unready probe) route
-    (mirror-unready _ _ c.passes.ensures c.if-not-passes.true, refl) (onwards_do_join.0 _) (λ w. sole-same _ _ refl)
+    (mirror-unready _ _ c.passes.ensures c.if-not-passes.true, refl) (onwards_do_join.0 _) (λ w. sole-same _ _ refl) refl
     c.send_unready.ensures
 
 pub returns-in_default : goal.returns-in_default
 returns-in_default g c = λ s.
     sends _ _ _ _ _ _ c.by_reply-in_default.result c.send_described.result c.by_reply-in_default.ensures (described c.resources.result c.args.document.now) c.requires
     (c.resources.ensures, refl) (onwards_do_join.0 _)
-    (λ w. sole-same _ _ refl)
+    (λ w. sole-same _ _ refl) refl
     c.send_described.ensures
